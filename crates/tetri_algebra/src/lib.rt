@@ -1,0 +1,2 @@
+//! The mathematics that the specifications of all crates share.
+#![tactic(auto)]
