@@ -1,0 +1,88 @@
+// Lists of names and of nodes.
+ghost use Rattle.std.specs.Prelude.{◌≡◌, ◌∷◌, [], ◌++◌, OnOk, OnErr};
+
+use crate::Name;
+use std::alloc::{AllocError, Global};
+use std::marker::Model;
+
+/// Names, in the order in which they were put.
+#[derive(Drop)]
+pub struct NameList {
+    names: Vec<Name>,
+}
+
+impl Model for NameList {
+    ghost use Rattle.std.specs.Prelude.{List, ℕ};
+
+    ghost Value = { List (List ℕ) };
+
+    ghost view = { λ l. l.names.items };
+}
+
+impl NameList {
+    /// The empty list, which takes no memory.
+    pub fn new(alloc: Global) -> Self
+        ensures { result ≡ [] }
+    {
+        NameList {
+            names: Vec::new(alloc),
+        }
+    }
+
+    /// Puts the name last.
+    pub fn push(&mut self, item: Name) -> Result<(), AllocError>
+        ensures ok { OnOk result (self.new ≡ self.old ++ item ∷ []) }
+        ensures err { OnErr result (self.new ≡ self.old) }
+    {
+        self.names.push(item)?;
+        Ok(())
+    }
+
+    /// The names in order.
+    pub fn as_slice(&self) -> &[Name]
+        ensures { result.now ≡ self.now }
+    {
+        self.names.as_slice()
+    }
+}
+
+/// Node numbers, in the order in which they were put.
+#[derive(Drop)]
+pub struct NodeSet {
+    nodes: Vec<u32>,
+}
+
+impl Model for NodeSet {
+    ghost use Rattle.std.specs.Prelude.{List, ℕ};
+
+    ghost Value = { List ℕ };
+
+    ghost view = { λ s. s.nodes.items };
+}
+
+impl NodeSet {
+    /// The empty set, which takes no memory.
+    pub fn new(alloc: Global) -> Self
+        ensures { result ≡ [] }
+    {
+        NodeSet {
+            nodes: Vec::new(alloc),
+        }
+    }
+
+    /// Puts the node last.
+    pub fn push(&mut self, item: u32) -> Result<(), AllocError>
+        ensures ok { OnOk result (self.new ≡ self.old ++ item ∷ []) }
+        ensures err { OnErr result (self.new ≡ self.old) }
+    {
+        self.nodes.push(item)?;
+        Ok(())
+    }
+
+    /// The nodes in order.
+    pub fn as_slice(&self) -> &[u32]
+        ensures { result.now ≡ self.now }
+    {
+        self.nodes.as_slice()
+    }
+}

@@ -1,0 +1,9 @@
+-- When a fault may be answered.
+use Rattle.std.specs.Prelude.{ℕ, ◌≤◌, Result, OnErr}
+use Rattle.tetri_algebra.specs.Counts.{Rose}
+
+
+-- The count has not fallen, and an error comes only where it rose.
+pub record HasCause {T E : Type 0} (before now : ℕ) (result : Result T E) : Type 0 where
+  pub later : before ≤ now
+  pub failed : OnErr result (Rose before now)

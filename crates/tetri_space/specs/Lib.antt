@@ -1,0 +1,5 @@
+pub mod Free
+pub mod Lawful
+pub mod Sound
+pub mod Space
+pub mod Total

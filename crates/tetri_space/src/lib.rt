@@ -1,0 +1,12 @@
+//! The instance of one cycle: what is free, and what the pending jobs ask for.
+#![tactic(auto)]
+
+mod free_nodes;
+mod instance;
+mod laws;
+mod totals;
+
+pub use free_nodes::free;
+pub use instance::{Instance, Offer};
+pub use laws::tops_bound_every_lawful_total;
+pub use totals::{tops, total};

@@ -1,0 +1,74 @@
+// What an allotment is worth to an expression.
+ghost use Rattle.std.specs.Prelude.{◌≡◌, ◌-◌, ◌^◌, min};
+ghost use Rattle.tetri_strl.specs.Tree.{tree};
+ghost use Rattle.tetri_strl.specs.Worth.{granted, leaf_worth, worth_of};
+ghost use Rattle.tetri_strl.specs.WellMade.{IsGoodLeaf, IsSound};
+
+use crate::expr::{Expr, Leaf};
+use crate::grants::Allotment;
+
+// As many as fit the type: a leaf asks for fewer.
+fn count_granted(job: u32, leaf: u32, a: &Allotment) -> u64
+    ensures { result ≡ min (2 ^ 64 - 1) (granted a.now job leaf) }
+{
+    let mut count: u64 = 0;
+    for grant in a.as_slice() {
+        if grant.job == job && grant.leaf == leaf {
+            count = count.saturating_add(grant.nodes.as_slice().len() as u64);
+        }
+    }
+    count
+}
+
+fn worth_of_leaf(leaf: &Leaf, job: u32, a: &Allotment) -> u64
+    requires { IsGoodLeaf leaf.now }
+    ensures { result ≡ leaf_worth a.now job leaf.now }
+{
+    let count = count_granted(job, leaf.num, a);
+    let k = u64::from(leaf.k);
+    if leaf.linear {
+        leaf.v / k * k.min(count)
+    } else if count == k {
+        leaf.v
+    } else {
+        0
+    }
+}
+
+pub fn worth(e: &Expr, job: u32, a: &Allotment) -> u64
+    requires { IsSound (tree e.now) }
+    ensures { result ≡ worth_of a.now job (tree e.now) }
+{
+    match e {
+        Expr::One(leaf) => worth_of_leaf(leaf, job, a),
+        Expr::Max(parts) => {
+            let mut best = 0;
+            for part in parts {
+                best = worth(part, job, a).max(best);
+            }
+            best
+        }
+        Expr::Min(parts) => {
+            let mut low = u64::MAX;
+            for part in parts {
+                low = worth(part, job, a).min(low);
+            }
+            low
+        }
+        Expr::Sum(parts) => {
+            let mut sum = 0;
+            for part in parts {
+                sum += worth(part, job, a);
+            }
+            sum
+        }
+        Expr::Scale(part, by) => worth(part, job, a) * by,
+        Expr::Barrier(part, least) => {
+            if worth(part, job, a) >= *least {
+                *least
+            } else {
+                0
+            }
+        }
+    }
+}
