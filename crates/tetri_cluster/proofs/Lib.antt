@@ -1,1 +1,4 @@
 pub mod Ascii
+pub mod NameTables
+pub mod Repeats
+pub mod SetsAdded

@@ -1,5 +1,5 @@
 -- What a name is, and lists of names.
-use Rattle.std.specs.Prelude.{ℕ, ◌&&◌, ◌||◌, ◌==◌, List, [], ◌∷◌, length, Bool, nat_le, bytes_eq, not, true}
+use Rattle.std.specs.Prelude.{ℕ, ◌&&◌, ◌||◌, ◌==◌, List, [], ◌∷◌, length, Bool, nat_le, bytes_eq, not, true, Option, Some, None, ◌++◌, if◌then◌else◌, position}
 use Rattle.std.specs.List.{list_all, list_any}
 
 -- a letter, a digit or one of _ - . : /
@@ -17,3 +17,16 @@ is_among name names = list_any (bytes_eq name) names
 abbrev pub differ : List (List ℕ) → Bool
 differ [] = true
 differ (x ∷ xs) = not (is_among x xs) && differ xs
+
+-- the place of a name in a list of names
+abbrev pub number_of : List ℕ → List (List ℕ) → Option ℕ
+number_of name names = position (bytes_eq name) names
+
+-- the place of the first name of the second list that came before it, where the first list came before all
+abbrev pub repeated_after : List (List ℕ) → List (List ℕ) → Option ℕ
+repeated_after earlier [] = None
+repeated_after earlier (x ∷ xs) = if is_among x earlier then Some (length earlier) else repeated_after (earlier ++ x ∷ []) xs
+
+-- the place of the first name that came before
+abbrev pub first_repeated : List (List ℕ) → Option ℕ
+first_repeated names = repeated_after [] names

@@ -1,9 +1,12 @@
 // The nodes of a cluster.
-ghost use Rattle.std.specs.Prelude.{◌≡◌, ◌<◌, ◌≤◌, length, true, IfOk};
-ghost use Rattle.tetri_cluster.specs.Names.{differ};
+ghost use Rattle.std.specs.Prelude.{◌≡◌, ◌<◌, ◌≤◌, ℕ, length, true, None, Some, IfOk, IfSome, IsErrOf};
+ghost use Rattle.tetri_cluster.specs.Names.{differ, is_among, number_of, first_repeated};
 
-use crate::{Name, NameList};
+use crate::{Name, NameList, NameTable};
+use std::alloc::{AllocError, Global};
 use std::marker::Model;
+
+const MAX_NODES: usize = 4096;
 
 /// A node's name and its tags.
 #[derive(Drop)]
@@ -12,31 +15,79 @@ pub struct NodeText {
     pub tags: NameList,
 }
 
-/// At most 4,096 nodes whose names differ.
+/// At most 4,096 nodes whose names differ. A node's number is its place, from 0 on.
 #[derive(Drop)]
 pub struct Cluster {
     nodes: Vec<NodeText>,
+    names: NameTable,
 }
 
 impl Model for Cluster {
-    ghost use Rattle.std.specs.Prelude.{List, ◌≤◌, length};
+    ghost use Rattle.std.specs.Prelude.{List, ◌≡◌, ◌≤◌, length, true};
     ghost use Rattle.tetri_cluster.specs.declared.cluster.NodeText.{NodeText};
+    ghost use Rattle.tetri_cluster.specs.Cluster.{names_of};
+    ghost use Rattle.tetri_cluster.specs.Names.{differ};
 
     ghost Value = { List NodeText };
 
     ghost view = { λ c. c.nodes.items };
 
-    ghost invariant = { λ c. length c.nodes.items ≤ 4096 };
+    ghost invariant = { λ c. (c.names ≡ names_of c.nodes.items) × (length c.nodes.items ≤ 4096) × (differ (names_of c.nodes.items) ≡ true) };
+}
+
+/// Why nodes make no cluster.
+#[derive(Clone, Copy, Debug, PartialEq, Eq)]
+pub enum ClusterFault {
+    /// There are this many, and so more than 4,096.
+    TooManyNodes(usize),
+    /// The node at this place has the name of an earlier one.
+    NameTaken(usize),
+    /// There is no memory for the index of the names.
+    NoMemory,
+}
+
+impl From<AllocError> for ClusterFault {
+    ghost use Rattle.std.specs.Prelude.{◌≡◌};
+    ghost use Rattle.tetri_cluster.specs.declared.cluster.ClusterFault.TheVariants as fault;
+
+    ghost from_gives = { λ _ e. e ≡ fault.NoMemory };
+
+    fn from(_: AllocError) -> Self {
+        ClusterFault::NoMemory
+    }
 }
 
 impl Cluster {
-    ghost use Rattle.tetri_cluster.specs.Cluster.{name_at, names_of};
+    ghost use Rattle.tetri_cluster.specs.Cluster.{AnswersBuild, knows_tag, name_at, names_of, tags_at};
 
-    /// How many nodes there are.
+    /// The cluster of these nodes. `TooManyNodes` comes exactly above 4,096 of them, and else `NameTaken` exactly at the first
+    /// repeated name.
+    pub fn build(alloc: Global, nodes: Vec<NodeText>) -> Result<Cluster, ClusterFault>
+        ensures { AnswersBuild nodes.items result }
+    {
+        if nodes.len() > MAX_NODES {
+            return Err(ClusterFault::TooManyNodes(nodes.len()));
+        }
+        let names = Cluster::number_names(alloc, &nodes)?;
+        Ok(Cluster { nodes, names })
+    }
+
+    /// How many nodes there are. Their names differ.
     pub fn count(&self) -> u32
         ensures value { result ≡ length self.now }
+        ensures most { result ≤ 4096 }
+        ensures differ { differ (names_of self.now) ≡ true }
     {
         self.nodes.len() as u32
+    }
+
+    /// The node with a name. `None` exactly where no node has it. It is looked up by an index.
+    pub fn node(&self, name: &[u8]) -> Option<u32>
+        ensures value { result ≡ number_of name.now (names_of self.now) }
+        ensures within { IfSome result (λ node. node < length self.now) }
+    {
+        let number = self.names.number(name)?;
+        Some(number as u32)
     }
 
     /// The name of a node.
@@ -46,4 +97,42 @@ impl Cluster {
     {
         &self.nodes[node as usize].name
     }
+
+    /// Whether a node has a tag.
+    pub fn has_tag(&self, node: u32, tag: &[u8]) -> bool
+        requires { node < length self.now }
+        ensures { result ≡ is_among tag.now (tags_at self.now node) }
+    {
+        holds_name(&self.nodes[node as usize].tags, tag)
+    }
+
+    /// Whether some node has a tag.
+    pub fn knows_tag(&self, tag: &[u8]) -> bool
+        ensures { result ≡ knows_tag self.now tag.now }
+    {
+        self.nodes.iter().any(|node| holds_name(&node.tags, tag))
+    }
+
+    // The names of the nodes, by number.
+    fn number_names(alloc: Global, nodes: &[NodeText]) -> Result<NameTable, ClusterFault>
+        ensures ok { IfOk result (λ names. (names ≡ names_of nodes.now) × (first_repeated (names_of nodes.now) ≡ None)) }
+        ensures taken { (place : ℕ) → IsErrOf result (ClusterFault.NameTaken place)
+            → first_repeated (names_of nodes.now) ≡ Some place }
+        ensures counted { (count : ℕ) → ¬ IsErrOf result (ClusterFault.TooManyNodes count) }
+    {
+        let mut names = NameTable::new(alloc);
+        for (place, node) in nodes.iter().enumerate() {
+            if !names.add(node.name.bytes())? {
+                return Err(ClusterFault::NameTaken(place));
+            }
+        }
+        Ok(names)
+    }
+}
+
+// Whether a name is in a list.
+fn holds_name(names: &NameList, name: &[u8]) -> bool
+    ensures { result ≡ is_among name.now names.now }
+{
+    names.as_slice().iter().any(|n| name == n.bytes())
 }

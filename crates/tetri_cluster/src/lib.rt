@@ -5,8 +5,10 @@ mod cluster;
 mod lists;
 mod name;
 mod sets;
+mod table;
 
-pub use cluster::{Cluster, NodeText};
+pub use cluster::{Cluster, ClusterFault, NodeText};
 pub use lists::{NameList, NodeSet};
-pub use name::{Name, NameFault};
+pub use name::{Name, NameFault, is_name};
 pub use sets::{Sets, SetsFault};
+pub use table::NameTable;

@@ -1,8 +1,14 @@
 // Lists of names and of nodes.
-ghost use Rattle.std.specs.Prelude.{◌≡◌, ◌∷◌, [], ◌++◌, OnOk, OnErr};
+ghost use Rattle.std.specs.Prelude.{◌≡◌, ◌∷◌, [], ◌++◌, nat_eq, OnOk, OnErr};
+ghost use Rattle.std.proofs.Common.{rules};
+ghost use Rattle.std.specs.Cmp.{partial_equiv_from_equiv};
+ghost use Rattle.std.specs.Cmp.Lexicographic.{pointwise, nat_list_eq_equiv};
+ghost use Rattle.std.specs.Cmp.Rules.{hashing};
+ghost use Rattle.std.specs.Hash as fed;
 
 use crate::Name;
 use std::alloc::{AllocError, Global};
+use std::hash::{Hash, Hasher};
 use std::marker::Model;
 
 /// Names, in the order in which they were put.
@@ -84,5 +90,29 @@ impl NodeSet {
         ensures { result.now ≡ self.now }
     {
         self.nodes.as_slice()
+    }
+}
+
+impl PartialEq for NodeSet {
+    ghost eq = { pointwise nat_eq };
+
+    ghost laws = { partial_equiv_from_equiv nat_list_eq_equiv };
+
+    fn eq(&self, other: &NodeSet) -> bool {
+        self.as_slice() == other.as_slice()
+    }
+}
+
+impl Eq for NodeSet {
+    ghost laws = { nat_list_eq_equiv };
+}
+
+impl Hash for NodeSet {
+    ghost hash_input = { fed.slice fed.u32 };
+
+    ghost respects_eq = { Prim.search (hashing, rules) };
+
+    fn hash<H: Hasher>(&self, state: &mut H) {
+        self.as_slice().hash(state);
     }
 }

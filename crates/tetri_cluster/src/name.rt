@@ -5,6 +5,7 @@ ghost use Rattle.tetri_cluster.specs.Names.{is_name, is_name_byte};
 
 use std::alloc::{AllocError, Global};
 use std::marker::Model;
+use thiserror::Error;
 
 /// 1 to 64 letters, digits and `_ - . : /`.
 #[derive(Drop)]
@@ -24,9 +25,13 @@ impl Model for Name {
 }
 
 /// Why bytes are not read as a name.
-#[derive(Clone, Copy, Debug, PartialEq, Eq)]
+#[derive(Clone, Copy, Debug, PartialEq, Eq, Error)]
 pub enum NameFault {
+    /// The bytes are no name.
+    #[error("no name of 1 to 64 letters, digits and _-.:/")]
     NotName,
+    /// There is no memory for the name.
+    #[error("out of memory")]
     NoMemory,
 }
 

@@ -15,6 +15,7 @@ pub record HasRightNodes (s : Space) (l : Leaf) (nodes : List ℕ) : Type 0 wher
   pub in_set : All (Contains (set_of s l)) nodes
   pub free : All (λ n. (slot : ℕ) → Covers l slot → IsFree s n slot) nodes
 
+-- the leaf is live, and the nodes are right for it
 pub record MayBeGranted (s : Space) (l : Leaf) (nodes : List ℕ) : Type 0 where
   pub live : IsLive s l
   pub nodes_right : HasRightNodes s l nodes
@@ -23,6 +24,7 @@ pub record MayBeGranted (s : Space) (l : Leaf) (nodes : List ℕ) : Type 0 where
 abbrev pub IsLawfulGrant : Space → Grant → Type 0
 IsLawfulGrant s g = IsSomeAnd (leaf_in s.bids g.job g.leaf) (λ l. MayBeGranted s l g.nodes)
 
+-- no slot is in both leaves
 abbrev pub NoCommonSlot : Leaf → Leaf → Type 0
 NoCommonSlot l m = (slot : ℕ) → Covers l slot → Covers m slot → ⊥
 
@@ -32,6 +34,7 @@ pub record AreApart (s : Space) (g h : Grant) : Type 0 where
   pub other_slots : (n : ℕ) → Contains g.nodes n → Contains h.nodes n →
       ForSome (leaf_in s.bids g.job g.leaf) (λ l. ForSome (leaf_in s.bids h.job h.leaf) (NoCommonSlot l))
 
+-- each grant is lawful by itself, and each two are apart
 pub record IsLawful (s : Space) (a : List Grant) : Type 0 where
   pub grants : All (IsLawfulGrant s) a
   pub apart : AllPairs (AreApart s) a

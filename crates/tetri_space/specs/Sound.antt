@@ -10,10 +10,12 @@ pub record HasKnownSet (s : Space) (l : Leaf) : Type 0 where
   pub known : l.set < length s.sets
   pub there : All (λ n. n < s.nodes) (set_of s l)
 
+-- the expression is well made, and its sets are known
 pub record IsSoundBid (s : Space) (b : Bid) : Type 0 where
   pub well_made : IsWellMade b.expr
   pub known_sets : All (HasKnownSet s) (leaves b.expr)
 
+-- the limits of an instance: slots, nodes, and jobs that ascend and ask for what is there
 pub record IsSound (s : Space) : Type 0 where
   pub early : s.now ≤ 10000
   pub some_slots : 1 ≤ s.window

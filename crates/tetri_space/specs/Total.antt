@@ -4,9 +4,11 @@ use Rattle.tetri_strl.specs.declared.grants.Grant.{Grant}
 use Rattle.tetri_strl.specs.Worth.{worth_of, top_of}
 use Rattle.tetri_space.specs.Space.{Bid, Space}
 
+-- what an allotment is worth to one job
 abbrev pub bid_worth : List Grant → Bid → ℕ
 bid_worth a b = worth_of a b.job b.expr
 
+-- the top of one job's expression
 abbrev pub bid_top : ℕ → ℕ → Bid → ℕ
 bid_top from to b = top_of from to b.expr
 

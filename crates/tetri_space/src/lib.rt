@@ -4,9 +4,13 @@
 mod free_nodes;
 mod instance;
 mod laws;
+mod runs;
 mod totals;
 
 pub use free_nodes::free;
 pub use instance::{Instance, Offer};
 pub use laws::tops_bound_every_lawful_total;
 pub use totals::{tops, total};
+
+#[cfg(test)]
+mod tests;

@@ -1,25 +1,57 @@
 // Totals over the jobs of an instance.
 ghost use Rattle.std.specs.Prelude.{◌≡◌};
+ghost use Rattle.std.specs.List.Sorted.{IsNonDecreasingBy};
 ghost use Rattle.tetri_space.specs.Sound.{IsSound};
 ghost use Rattle.tetri_space.specs.Space.{space};
 ghost use Rattle.tetri_space.specs.Total.{total_in, tops_in};
 
 use crate::Instance;
-use tetri_strl::{Allotment, top_in, worth};
+use crate::runs::{ascends_by_job, run_len};
+use tetri_strl::{Allotment, Grant, top_in, worth_among};
 
-/// What an allotment is worth to all jobs together.
+/// What the allotment is worth to all jobs together. Takes no memory. Where the grants ascend by job it goes once
+/// through jobs and grants: each leaf is weighed against the grants of its own job alone. Where they do not, each
+/// leaf is weighed against every grant.
 pub fn total(inst: &Instance, a: &Allotment) -> u64
     requires { IsSound (space inst.now) }
     ensures { result ≡ total_in (space inst.entry.now) a.now }
 {
+    let grants = a.as_slice();
+    if ascends_by_job(grants) {
+        total_by_runs(inst, grants)
+    } else {
+        total_by_jobs(inst, grants)
+    }
+}
+
+fn total_by_jobs(inst: &Instance, grants: &[Grant]) -> u64
+    requires { IsSound (space inst.now) }
+    ensures { result ≡ total_in (space inst.entry.now) grants.now }
+{
     let mut total = 0;
     for offer in &inst.jobs {
-        total += worth(&offer.expr, offer.job, a);
+        total += worth_among(&offer.expr, offer.job, grants);
     }
     total
 }
 
-/// The greatest worths of the jobs by structure over the window, together.
+fn total_by_runs(inst: &Instance, grants: &[Grant]) -> u64
+    requires sound { IsSound (space inst.now) }
+    requires ascending { IsNonDecreasingBy (λ g. g.job) grants.now }
+    ensures { result ≡ total_in (space inst.entry.now) grants.now }
+{
+    let mut total = 0;
+    let mut rest = grants;
+    for offer in &inst.jobs {
+        let (run, later) = rest.split_at(run_len(rest, offer.job));
+        total += worth_among(&offer.expr, offer.job, run);
+        rest = later;
+    }
+    total
+}
+
+/// The greatest worths of the jobs by structure, together: each leaf that starts in the window is worth its `v`, and
+/// any other 0. No lawful allotment is worth more.
 pub fn tops(inst: &Instance) -> u64
     requires { IsSound (space inst.now) }
     ensures { result ≡ tops_in (space inst.entry.now) }

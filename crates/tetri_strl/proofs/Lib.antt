@@ -1,2 +1,3 @@
+pub mod GrantLemmas
 pub mod TreeLemmas
 pub mod WorthLemmas

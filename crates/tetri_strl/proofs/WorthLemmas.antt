@@ -177,7 +177,8 @@ module _ (P Q R : Leaf → Type 0) (both : (l : Leaf) → P l → Q l → R l) w
     EachLeafOf-both none p q = tt
     EachLeafOf-both (more t ts) p q = (EachLeaf-both t p.0 q.0, EachLeafOf-both ts p.1 q.1)
 
-eq_from_test : (x y : ℕ) → (x == y) ≡ true → x ≡ y
+-- numbers that test equal are equal
+pub eq_from_test : (x y : ℕ) → (x == y) ≡ true → x ≡ y
 eq_from_test x y e = grind (arith, nat_tests)
 
 -- no nodes are worth nothing

@@ -16,6 +16,7 @@ module _ (P : Leaf → Type 0) where
     EachLeafOf none = Unit {0}
     EachLeafOf (more t ts) = EachLeaf t × EachLeafOf ts
 
+-- the leaf starts in this slot
 abbrev pub StartsAt : ℕ → Leaf → Type 0
 StartsAt s l = l.start ≡ s
 

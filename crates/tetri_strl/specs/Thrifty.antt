@@ -16,6 +16,7 @@ module _ (value : Leaf → ℕ) (held : List ℕ) where
   AtMostOne none = Unit {0}
   AtMostOne (more t ts) = (IsBare (numbers t) × AtMostOne ts) ⊎ IsBare (numbers_of ts)
 
+  -- what a join asks of its parts
   abbrev pub MeetsOne : Operator → Trees → Type 0
   MeetsOne greatest ts = AtMostOne ts
   MeetsOne least ts = Unit {0}

@@ -12,20 +12,24 @@ pub data Operator : Type 0 where
   added : Operator
 
 mutual
+  -- a leaf, a join of parts, a part times a factor, or a part with the worth that it has to reach
   pub data Tree : Type 0 where
     one : Leaf → Tree
     join : Operator → Trees → Tree
     scale : Tree → ℕ → Tree
     barrier : Tree → ℕ → Tree
 
+  -- the parts of a join, in order
   pub data Trees : Type 0 where
     none : Trees
     more : Tree → Trees → Trees
 
+-- trees in a row
 abbrev pub row : List Tree → Trees
 row [] = none
 row (t ∷ ts) = more t (row ts)
 
+-- an expression whose parts are trees already
 abbrev pub node_tree : Expr-F Tree → Tree
 node_tree (Expr-F.One l) = one l
 node_tree (Expr-F.Max es) = join greatest (row es.items)
@@ -38,11 +42,12 @@ node_tree (Expr-F.Barrier e v) = barrier e.value v
 abbrev pub tree : Expr → Tree
 tree = fold-Expr Tree node_tree
 
+-- what a row of expressions says
 abbrev pub trees : List Expr → Trees
 trees es = row (map tree es)
 
 abbrev mutual
-  -- in the order of the text
+  -- the leaves, in the order of the text
   pub leaves : Tree → List Leaf
   leaves (one l) = l ∷ []
   leaves (join op ts) = leaves_of ts
@@ -54,7 +59,7 @@ abbrev mutual
   leaves_of (more t ts) = leaves t ++ leaves_of ts
 
 abbrev mutual
-  -- the numbers of the leaves
+  -- the numbers of the leaves, in the order of the text
   pub numbers : Tree → List ℕ
   numbers (one l) = l.num ∷ []
   numbers (join op ts) = numbers_of ts

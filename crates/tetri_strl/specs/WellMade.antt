@@ -5,6 +5,7 @@ use Rattle.tetri_strl.specs.Tree.{Operator, greatest, least, added, Tree, one, j
 use Rattle.tetri_strl.specs.Worth.{greatest_of, added_of}
 use Rattle.tetri_strl.specs.Aligned.{IsAligned}
 
+-- the peak of a join whose parts have these peaks
 abbrev pub peak_joined : Operator → List ℕ → ℕ
 peak_joined greatest xs = greatest_of xs
 peak_joined least xs = greatest_of xs
@@ -22,9 +23,11 @@ abbrev mutual
   peaks none = []
   peaks (more t ts) = peak t ∷ peaks ts
 
+-- the greatest peak that an expression may have
 abbrev pub PEAK : ℕ
 PEAK = 1000000000000
 
+-- the limits of a leaf by itself
 pub record IsGoodLeaf (l : Leaf) : Type 0 where
   pub some_nodes : 1 ≤ l.k
   pub few_nodes : l.k ≤ 4096
@@ -33,6 +36,7 @@ pub record IsGoodLeaf (l : Leaf) : Type 0 where
   pub few_slots : l.dur ≤ 10000
   pub whole : IsTrue l.linear → l.v % l.k ≡ 0
 
+-- a join has a part
 abbrev pub HasChild : Trees → Type 0
 HasChild none = ⊥
 HasChild (more t ts) = Unit {0}
@@ -50,6 +54,7 @@ abbrev mutual
   AreSound (more t ts) = IsSound t × AreSound ts
 
 abbrev mutual
+  -- how many parts stand one in another at most, a leaf being 1 deep
   pub depth : Tree → ℕ
   depth (one l) = 1
   depth (join op ts) = depth_of ts + 1
@@ -60,6 +65,7 @@ abbrev mutual
   depth_of none = 0
   depth_of (more t ts) = max (depth t) (depth_of ts)
 
+-- the whole expression keeps all limits, and its leaves differ in number and are aligned
 pub record IsWellMade (t : Tree) : Type 0 where
   pub sound : IsSound t
   pub aligned : IsAligned t

@@ -4,6 +4,7 @@ ghost use Rattle.std.specs.Prelude.{◌≡◌, ◌∷◌, [], ◌++◌, OnOk, On
 use std::alloc::{AllocError, Global};
 use std::marker::Model;
 
+/// Node numbers, in the order in which they were put.
 #[derive(Drop)]
 pub struct NodeList {
     items: Vec<u32>,
@@ -18,6 +19,7 @@ impl Model for NodeList {
 }
 
 impl NodeList {
+    /// The empty list, which takes no memory.
     pub fn new(alloc: Global) -> Self
         ensures { result ≡ [] }
     {
@@ -26,6 +28,7 @@ impl NodeList {
         }
     }
 
+    /// Puts the node last.
     pub fn push(&mut self, item: u32) -> Result<(), AllocError>
         ensures ok { OnOk result (self.new ≡ self.old ++ item ∷ []) }
         ensures err { OnErr result (self.new ≡ self.old) }
@@ -34,6 +37,7 @@ impl NodeList {
         Ok(())
     }
 
+    /// The nodes in order.
     pub fn as_slice(&self) -> &[u32]
         ensures { result.now ≡ self.now }
     {
@@ -41,13 +45,18 @@ impl NodeList {
     }
 }
 
+/// Nodes for one leaf of one job.
 #[derive(Drop)]
 pub struct Grant {
+    /// The number of the job.
     pub job: u32,
+    /// The number of the leaf in the job's expression.
     pub leaf: u32,
+    /// The nodes that it grants; a lawful grant has them ascending.
     pub nodes: NodeList,
 }
 
+/// Grants, in the order in which they were put.
 #[derive(Drop)]
 pub struct Allotment {
     grants: Vec<Grant>,
@@ -63,6 +72,7 @@ impl Model for Allotment {
 }
 
 impl Allotment {
+    /// The empty list, which takes no memory.
     pub fn new(alloc: Global) -> Self
         ensures { result ≡ [] }
     {
@@ -71,6 +81,7 @@ impl Allotment {
         }
     }
 
+    /// Puts the grant last.
     pub fn push(&mut self, item: Grant) -> Result<(), AllocError>
         ensures ok { OnOk result (self.new ≡ self.old ++ item ∷ []) }
         ensures err { OnErr result (self.new ≡ self.old) }
@@ -79,6 +90,7 @@ impl Allotment {
         Ok(())
     }
 
+    /// The grants in order.
     pub fn as_slice(&self) -> &[Grant]
         ensures { result.now ≡ self.now }
     {

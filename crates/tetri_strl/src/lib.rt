@@ -11,4 +11,7 @@ pub use copy::copy_expr;
 pub use expr::{Expr, Leaf};
 pub use grants::{Allotment, Grant, NodeList};
 pub use tops::top_in;
-pub use worths::worth;
+pub use worths::{worth, worth_among};
+
+#[cfg(test)]
+mod tests;

@@ -1,0 +1,89 @@
+-- The fit of an expression: greedily, the lowest nodes that are free beside what is held already.
+use Rattle.std.specs.Prelude.{ℕ, ◌+◌, ◌==◌, ◌&&◌, ◌||◌, List, [], ◌∷◌, ◌++◌, map, filter, take, length, slice_index, slice_get, Bool, true, false, not, nat_lt, nat_le, if◌then◌else◌, Option, Some, None}
+use Rattle.std.specs.List.{list_any, list_all}
+use Rattle.tetri_strl.specs.declared.expr.Leaf.{Leaf}
+use Rattle.tetri_strl.specs.declared.grants.Grant.{Grant}
+use Rattle.tetri_strl.specs.Tree.{Operator, greatest, least, added, Tree, one, join, scale, barrier, Trees, none, more}
+use Rattle.tetri_strl.specs.Worth.{worth_of}
+use Rattle.tetri_space.specs.Space.{Space, set_of}
+
+-- a leaf with the nodes that it is to get
+pub record Placement : Type 0 where
+  pub leaf : Leaf
+  pub nodes : List ℕ
+
+abbrev pub grant_of : ℕ → Placement → Grant
+grant_of job p = record { job = job; leaf = p.leaf.num; nodes = p.nodes }
+
+abbrev pub grants_of : ℕ → List Placement → List Grant
+grants_of job ps = map (grant_of job) ps
+
+-- the leaf starts in the window
+abbrev pub is_live : Space → Leaf → Bool
+is_live s l = nat_le s.now l.start && nat_lt l.start (s.now + s.window)
+
+abbrev pub is_open : Option Bool → Bool
+is_open None = false
+is_open (Some drained) = not drained
+
+-- the node is free from this slot on
+abbrev pub is_free_from : Space → ℕ → ℕ → Bool
+is_free_from s slot n = nat_lt n s.nodes && is_open (slice_get s.drained n) && nat_le (slice_index s.busy_until n) slot
+
+-- two leaves have a slot in common
+abbrev pub overlap : Leaf → Leaf → Bool
+overlap l m = nat_lt l.start (m.start + m.dur) && nat_lt m.start (l.start + l.dur)
+
+-- the placement holds the node in some slot of the leaf
+abbrev pub is_held_by : Leaf → ℕ → Placement → Bool
+is_held_by l n p = list_any (λ m. m == n) p.nodes && overlap l p.leaf
+
+-- the node is free, and not held, in every slot of the leaf
+abbrev pub is_available : Space → List Placement → Leaf → ℕ → Bool
+is_available s held l n = is_free_from s l.start n && not (list_any (is_held_by l n) held)
+
+-- the lowest nodes of the leaf's set that are available, at most `k`
+abbrev pub lowest : Space → List Placement → Leaf → List ℕ
+lowest s held l = take l.k (filter (is_available s held l) (set_of s l))
+
+-- an exact leaf needs `k` nodes, a linear one any
+abbrev pub enough : Leaf → ℕ → Bool
+enough l n = if l.linear then nat_le 1 n else n == l.k
+
+abbrev pub fit_of_leaf : Space → List Placement → Leaf → List Placement
+fit_of_leaf s held l =
+    if is_live s l && enough l (length (lowest s held l)) then record { leaf = l; nodes = lowest s held l } ∷ [] else []
+
+-- what a fit is worth to the job
+abbrev pub fit_worth : ℕ → Tree → List Placement → ℕ
+fit_worth job t ps = worth_of (grants_of job ps) job t
+
+-- the better of two fits, the first where they are worth the same
+abbrev pub better : ℕ × List Placement → ℕ × List Placement → ℕ × List Placement
+better best next = if nat_lt best.0 next.0 then next else best
+
+module _ (s : Space) (job : ℕ) where
+  abbrev mutual
+    -- the fit of an expression beside what is held
+    pub fit : List Placement → Tree → List Placement
+    fit held (one l) = fit_of_leaf s held l
+    fit held (join greatest ts) = (best_fit held ts (0, [])).1
+    fit held (join least ts) = if all_fit held ts then fits held ts else []
+    fit held (join added ts) = fits held ts
+    fit held (scale t by) = fit held t
+    fit held (barrier t v) = if nat_le v (fit_worth job t (fit held t)) then fit held t else []
+
+    -- the first fit that is worth most, and more than the best so far
+    pub best_fit : List Placement → Trees → ℕ × List Placement → ℕ × List Placement
+    best_fit held none best = best
+    best_fit held (more t ts) best = best_fit held ts (better best (fit_worth job t (fit held t), fit held t))
+
+    -- the fits in order, each beside the earlier ones
+    pub fits : List Placement → Trees → List Placement
+    fits held none = []
+    fits held (more t ts) = fit held t ++ fits (held ++ fit held t) ts
+
+    -- each of them is worth something
+    pub all_fit : List Placement → Trees → Bool
+    all_fit held none = true
+    all_fit held (more t ts) = nat_le 1 (fit_worth job t (fit held t)) && all_fit (held ++ fit held t) ts

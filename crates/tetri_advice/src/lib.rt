@@ -1,0 +1,2 @@
+//! What advisors say of an instance: the definitions.
+#![tactic(auto)]

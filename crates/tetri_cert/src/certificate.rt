@@ -1,0 +1,23 @@
+// The certificate of a plan's bound.
+ghost use Rattle.std.specs.Prelude.{◌≡◌, ◌++◌, OnOk, string_bytes};
+ghost use Rattle.tetri_cert.specs.Text.{certificate_text};
+
+use std::alloc::AllocError;
+use std::fmt::Write;
+
+/// Why no plan is worth more than the bound.
+#[derive(Debug, Drop, PartialEq, Eq)]
+pub enum Certificate {
+    /// The bound is the sum of the tops; the size of the instance's program stands beside it.
+    Tops { columns: u64, rows: u64 },
+}
+
+/// Adds the lines of a certificate to a text.
+#[tactic(auto, unfolding(crate::specs::Text::certificate_text))]
+pub fn print_onto(out: &mut String, certificate: &Certificate) -> Result<(), AllocError>
+    ensures { OnOk result (string_bytes out.new ≡ string_bytes out.old ++ certificate_text certificate.now) }
+{
+    match certificate {
+        Certificate::Tops { columns, rows } => write!(out, "tops {columns} {rows}\n"),
+    }
+}

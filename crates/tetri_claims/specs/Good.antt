@@ -1,0 +1,27 @@
+-- What a good plan is.
+use Rattle.std.specs.Prelude.{◌≡◌, ◌≤◌, ◌↔◌, ℕ, List, All}
+use Rattle.tetri_strl.specs.Thrifty.{IsThriftyFor}
+use Rattle.tetri_strl.specs.declared.grants.Grant.{Grant}
+use Rattle.tetri_cert.specs.declared.mark.PlanMark.TheVariants.{Optimal}
+use Rattle.tetri_space.specs.Lawful.{IsLawful}
+use Rattle.tetri_space.specs.Space.{Bid, Space}
+use Rattle.tetri_space.specs.Total.{total_in}
+use Rattle.tetri_claims.specs.Planned.{Planned}
+
+-- no grant of any job is wasted
+abbrev pub IsThriftyForAll : Space → List Grant → Type 0
+IsThriftyForAll s a = All (λ b. IsThriftyFor a b.job b.expr) s.bids
+
+-- no lawful allotment is worth more
+abbrev pub BoundsEveryLawful : Space → ℕ → Type 0
+BoundsEveryLawful s bound = (a : List Grant) → IsLawful s a → total_in s a ≤ bound
+
+-- The grants are lawful, thrifty and worth the value, which is at least `low`; no lawful allotment is worth more than
+-- the bound; and `optimal` stands exactly where value and bound are equal.
+pub record IsGood (s : Space) (low : ℕ) (p : Planned) : Type 0 where
+  pub lawful : IsLawful s p.grants
+  pub thrifty : IsThriftyForAll s p.grants
+  pub attained : total_in s p.grants ≡ p.value
+  pub at_least : low ≤ p.value
+  pub bounded : BoundsEveryLawful s p.bound
+  pub optimal : (p.mark ≡ Optimal) ↔ (p.value ≡ p.bound)

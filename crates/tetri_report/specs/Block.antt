@@ -1,0 +1,41 @@
+-- A cycle of a report as plain data.
+use Rattle.std.specs.Prelude.{ℕ, List}
+use Rattle.tetri_strl.specs.declared.grants.Grant.{Grant}
+use Rattle.tetri_cert.specs.declared.mark.PlanMark.{PlanMark}
+use Rattle.tetri_cert.specs.declared.certificate.Certificate.{Certificate}
+use Rattle.tetri_state.specs.declared.happened.PieceId.{PieceId}
+use Rattle.tetri_report.specs.declared.cycle.Cycle.{Cycle}
+
+-- `starts` by grant
+pub record Block : Type 0 where
+  pub number : ℕ
+  pub ended : List PieceId
+  pub cancelled : List ℕ
+  pub over : List PieceId
+  pub expired : List ℕ
+  pub value : ℕ
+  pub bound : ℕ
+  pub mark : PlanMark
+  pub nodes : ℕ
+  pub grants : List Grant
+  pub starts : List ℕ
+  pub certificate : Certificate
+  pub launched : List ℕ
+
+-- what a cycle says
+abbrev pub block : Cycle → Block
+block c = record {
+  number = c.number;
+  ended = c.happened.ended.items;
+  cancelled = c.happened.cancelled.items;
+  over = c.happened.over.items;
+  expired = c.happened.expired.items;
+  value = c.value;
+  bound = c.bound;
+  mark = c.mark;
+  nodes = c.nodes;
+  grants = c.grants;
+  starts = c.starts.items;
+  certificate = c.certificate;
+  launched = c.launched.items;
+}

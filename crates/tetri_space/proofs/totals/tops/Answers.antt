@@ -1,0 +1,26 @@
+use Rattle.std.proofs.Common.{◌+◌, map, All, drop, subst, sym, ap, arith}
+use Rattle.std.specs.List.{sum_by}
+use Rattle.tetri_strl.specs.Tree.{tree}
+use Rattle.tetri_strl.specs.WellMade.{IsSound as IsSoundTree}
+use Rattle.tetri_space.specs.Sound.{IsSoundBid}
+use Rattle.tetri_space.specs.Space.{Bid, bid, space}
+use Rattle.tetri_space.specs.Total.{bid_top}
+use Rattle.tetri_space.proofs.BidLemmas.{bid_has, next_sum}
+use Rattle.tetri_space.proofs.TotalLemmas.{tops_limit}
+use Rattle.tetri_space.proofs.totals.tops.Goals as goal
+
+pub top_in-total-requires : goal.top_in-total-requires
+top_in-total-requires c =
+    let all = subst (λ os. All (IsSoundBid (space c.args.inst.now)) (map bid os)) (sym c.deref-offer-items.ensures.value) c.requires.sound_bids in
+    (bid_has (IsSoundBid (space c.args.inst.now)) _ _ c.offer-item.result all c.loop-offer-test.true c.offer-item.is).well_made.sound
+
+pub overflow_add-total : goal.overflow_add-total
+overflow_add-total c =
+    let next = next_sum (bid_top c.args.inst.now.now (c.args.inst.now.now + c.args.inst.now.window)) _ _ c.offer-item.result c.loop-offer-test.true c.offer-item.is in
+    let whole = tops_limit (space c.args.inst.now) c.requires in
+    omega (arith, next, whole, c.top_in-total.ensures, c.loop-offer.invariant)
+
+pub loop-offer-preserved : goal.loop-offer-preserved
+loop-offer-preserved c =
+    let next = next_sum (bid_top c.args.inst.now.now (c.args.inst.now.now + c.args.inst.now.window)) _ _ c.offer-item.result c.loop-offer-test.true c.offer-item.is in
+    omega (arith, next, c.top_in-total.ensures, c.loop-offer.invariant)

@@ -1,0 +1,4 @@
+pub mod Objects
+pub mod Drafts
+pub mod Openings
+pub mod Ends

@@ -1,0 +1,8 @@
+pub mod Scenario
+pub mod Sound
+pub mod Answers
+pub mod Draft
+pub mod Opening
+pub mod LeafText
+pub mod Fields
+pub mod Lines

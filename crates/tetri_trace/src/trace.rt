@@ -1,0 +1,58 @@
+// What a trace says.
+use std::rc::Rc;
+use tetri_cluster::{Cluster, Name, Sets};
+use tetri_strl::Expr;
+
+/// The limits of a run: the slots of the window, the nodes of a search tree, the number of cycles, and
+/// what each written worth is multiplied by.
+#[derive(Clone, Copy, Debug, PartialEq, Eq)]
+pub struct Header {
+    pub window: u32,
+    pub budget: u32,
+    pub until: u32,
+    pub unit: u64,
+}
+
+/// What a job asks for.
+#[derive(Drop)]
+pub enum Work {
+    /// An expression, with absolute starts.
+    Strl(Expr),
+}
+
+/// A job. It arrives at the slot `arrival`, and a launched piece of it runs `late` slots longer than it
+/// asked for.
+#[derive(Drop)]
+pub struct Job {
+    pub name: Name,
+    pub arrival: u32,
+    pub late: i32,
+    pub work: Work,
+}
+
+/// What happens to a job or a node of this number.
+#[derive(Clone, Copy, Debug, PartialEq, Eq)]
+pub enum Happening {
+    Arrive(u32),
+    Cancel(u32),
+    Drain(u32),
+    Undrain(u32),
+}
+
+/// What happens at a slot.
+#[derive(Clone, Copy, Debug, PartialEq, Eq)]
+pub struct Event {
+    pub at: u32,
+    pub what: Happening,
+}
+
+/// A whole trace: the nodes, the sets of nodes that the jobs name, the jobs in order of arrival, and the
+/// events in order of slot.
+#[derive(Drop)]
+pub struct Trace {
+    pub header: Header,
+    pub cluster: Cluster,
+    pub sets: Rc<Sets>,
+    pub jobs: Vec<Job>,
+    pub events: Vec<Event>,
+}
