@@ -1,0 +1,2 @@
+//! Greedy fits of requests.
+#![tactic(auto)]

@@ -1,0 +1,4 @@
+pub mod Opening
+pub mod FirstFit
+pub mod OneCycle
+pub mod Words

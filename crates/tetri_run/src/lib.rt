@@ -1,0 +1,2 @@
+//! The top call: plans a trace and writes the report.
+#![tactic(auto)]
