@@ -1,2 +1,6 @@
 //! Greedy fits of requests.
 #![tactic(auto)]
+
+mod open_nodes;
+
+pub use open_nodes::OpenNodes;

@@ -1,11 +1,10 @@
 -- The bids of an instance, one after another.
-use Rattle.std.proofs.Common.{◌≡◌, ◌≢◌, ℕ, ◌+◌, ◌<◌, ◌≤◌, List, [], ◌∷◌, length, get_or, drop, map, All, AllPairs, refl, sym, ap, ◌∙◌, subst, arith, length-drop}
+use Rattle.std.proofs.Common.{◌≡◌, ℕ, ◌+◌, ◌<◌, List, ◌∷◌, length, get_or, drop, map, All, AllPairs, sym, ap, ◌∙◌, subst, arith, length-drop}
 use Rattle.std.specs.List.{sum_by}
 use Rattle.std.proofs.lemmas.List.{drop_more, get_or-map, get_or-drop, length-map}
 use Rattle.std.proofs.lemmas.List.Sums.{sum_by-cons}
 use Rattle.tetri_space.specs.declared.instance.Offer.{Offer}
-use Rattle.tetri_space.specs.Space.{Bid, Space, bid}
-use Rattle.tetri_space.specs.Sound.{IsSoundBid, IsSound}
+use Rattle.tetri_space.specs.Space.{Bid, bid}
 
 bid_at : (os : List Offer) (i : ℕ) (o : Offer) → i < length os → o ≡ get_or os i o → get_or (map bid os) i (bid o) ≡ bid o
 bid_at os i o lt is = get_or-map bid os i o (bid o) lt ∙ ap bid (sym is)

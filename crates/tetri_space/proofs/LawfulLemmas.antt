@@ -1,5 +1,5 @@
 -- Lists of lawful grants, joined and cut.
-use Rattle.std.proofs.Common.{ℕ, ◌<◌, List, [], ◌∷◌, ◌++◌, length, get_or, All, AllPairs, Contains, Bool, arith, suc, zero, refl}
+use Rattle.std.proofs.Common.{List, [], ◌∷◌, ◌++◌, AllPairs, Contains, Bool, arith, suc, refl}
 use Rattle.std.specs.List.{filter}
 use Rattle.std.proofs.lemmas.List.Elements.{All-append, All-filter, Contains-get_or}
 use Rattle.std.proofs.lemmas.List.Kept.{AllPairs-cons, AllPairs-filter}

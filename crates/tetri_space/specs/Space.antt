@@ -41,7 +41,8 @@ set_of s l = slice_index_or s.sets l.set []
 
 -- the leaf of this number that this job offers
 abbrev pub leaf_in : List Bid → ℕ → ℕ → Option Leaf
-leaf_in bids job num = option_and_then (λ b. find (λ l. l.num == num) (leaves b.expr)) (find (λ b. b.job == job) bids)
+leaf_in bids job num =
+    option_and_then (λ b. find (λ l. l.num == num) (leaves b.expr)) (find (λ b. b.job == job) bids)
 
 -- the leaf starts in the window
 pub record IsLive (s : Space) (l : Leaf) : Type 0 where

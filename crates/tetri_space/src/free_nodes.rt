@@ -6,7 +6,8 @@ ghost use Rattle.tetri_space.specs.Space.{space};
 
 use crate::Instance;
 
-/// Whether a leaf may use the node in the slot: the node is there and not drained, and busy until that slot at most.
+/// Whether a leaf may use the node in the slot: the node is there and not drained, and busy until
+/// that slot at most.
 pub fn free(inst: &Instance, node: u32, slot: u32) -> bool
     requires { IsSound (space inst.now) }
     ensures { IsTrue result ↔ IsFree (space inst.entry.now) node slot }

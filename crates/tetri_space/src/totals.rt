@@ -9,9 +9,10 @@ use crate::Instance;
 use crate::runs::{ascends_by_job, run_len};
 use tetri_strl::{Allotment, Grant, top_in, worth_among};
 
-/// What the allotment is worth to all jobs together. Takes no memory. Where the grants ascend by job it goes once
-/// through jobs and grants: each leaf is weighed against the grants of its own job alone. Where they do not, each
-/// leaf is weighed against every grant.
+/// What the allotment is worth to all jobs together. Takes no memory. Where the grants ascend by job
+/// it goes once through jobs and grants, and weighs each leaf against the grants of its own job
+/// alone. Where they do not, it weighs each leaf against every grant, so that its cost grows with
+/// the product of their numbers.
 pub fn total(inst: &Instance, a: &Allotment) -> u64
     requires { IsSound (space inst.now) }
     ensures { result ≡ total_in (space inst.entry.now) a.now }
@@ -50,8 +51,8 @@ fn total_by_runs(inst: &Instance, grants: &[Grant]) -> u64
     total
 }
 
-/// The greatest worths of the jobs by structure, together: each leaf that starts in the window is worth its `v`, and
-/// any other 0. No lawful allotment is worth more.
+/// The greatest worths of the jobs by structure, together: each leaf that starts in the window is
+/// worth its `v`, and any other 0. No lawful allotment is worth more.
 pub fn tops(inst: &Instance) -> u64
     requires { IsSound (space inst.now) }
     ensures { result ≡ tops_in (space inst.entry.now) }

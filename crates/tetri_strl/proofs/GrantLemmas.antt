@@ -1,14 +1,13 @@
 -- A job's worth depends on its own grants alone.
-use Rattle.std.proofs.Common.{◌≡◌, ◌≢◌, ℕ, ◌+◌, ◌*◌, ◌≤◌, List, [], ◌∷◌, ◌++◌, length, All, Bool, true, false, cond, ◌&&◌, ◌==◌, nat_le, min, refl, ap, ◌∙◌, sym, arith}
+use Rattle.std.proofs.Common.{◌≡◌, ◌≢◌, ℕ, ◌+◌, ◌*◌, ◌≤◌, List, [], ◌∷◌, ◌++◌, length, All, false, cond, ◌&&◌, ◌==◌, nat_le, min, refl, ap, ◌∙◌, arith}
 use Rattle.std.proofs.lemmas.Bool.Decides.{nat_tests}
-use Rattle.std.proofs.lemmas.List.{append-nil}
 use Rattle.std.proofs.lemmas.List.Elements.{All-head, All-tail}
 use Rattle.tetri_strl.specs.declared.expr.Leaf.{Leaf}
 use Rattle.tetri_strl.specs.declared.grants.Grant.{Grant}
 use Rattle.tetri_strl.specs.Tree.{Operator, greatest, least, added, Tree, one, join, scale, barrier, Trees, none, more}
-use Rattle.tetri_strl.specs.Worth.{granted, worth_at, leaf_worth, joined, greatest_of, least_from, least_of, added_of, worth_by, worths_by, worth_of}
+use Rattle.tetri_strl.specs.Worth.{granted, worth_at, leaf_worth, joined, greatest_of, least_from, added_of, worth_by, worths_by, worth_of}
 use Rattle.tetri_strl.specs.WellMade.{IsGoodLeaf, IsSound, AreSound, peak}
-use Rattle.tetri_strl.proofs.WorthLemmas.{worth_at-none, leaf_worth_le, worth_le_peak, worth_le_limit}
+use Rattle.tetri_strl.proofs.WorthLemmas.{worth_at-none, leaf_worth_le, worth_le_peak}
 
 -- no grant of the list is for the job
 abbrev pub NamesNot : ℕ → List Grant → Type 0

@@ -26,7 +26,8 @@ module _ (value : Leaf → ℕ) (held : List ℕ) where
     -- no part that is worth 0 has a grant at it or below it, and at most one part of each `max` has
     pub IsThrifty : Tree → Type 0
     IsThrifty (one l) = value l ≡ 0 → IsBare (l.num ∷ [])
-    IsThrifty (join op ts) = (joined op (worths_by value ts) ≡ 0 → IsBare (numbers_of ts)) × MeetsOne op ts × AreThrifty ts
+    IsThrifty (join op ts) =
+        (joined op (worths_by value ts) ≡ 0 → IsBare (numbers_of ts)) × MeetsOne op ts × AreThrifty ts
     IsThrifty (scale t s) = (worth_by value (scale t s) ≡ 0 → IsBare (numbers t)) × IsThrifty t
     IsThrifty (barrier t v) = (worth_by value (barrier t v) ≡ 0 → IsBare (numbers t)) × IsThrifty t
 

@@ -1,5 +1,5 @@
 -- Which expressions are well made.
-use Rattle.std.specs.Prelude.{◌≡◌, ℕ, ◌+◌, ◌*◌, ◌%◌, ◌≤◌, max, IsTrue, List, [], ◌∷◌, ◌++◌, length, AllPairs, ◌≢◌}
+use Rattle.std.specs.Prelude.{◌≡◌, ℕ, ◌+◌, ◌*◌, ◌%◌, ◌≤◌, max, IsTrue, List, [], ◌∷◌, length, AllPairs, ◌≢◌}
 use Rattle.tetri_strl.specs.declared.expr.Leaf.{Leaf}
 use Rattle.tetri_strl.specs.Tree.{Operator, greatest, least, added, Tree, one, join, scale, barrier, Trees, none, more, leaves}
 use Rattle.tetri_strl.specs.Worth.{greatest_of, added_of}

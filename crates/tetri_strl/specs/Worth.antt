@@ -7,7 +7,8 @@ use Rattle.tetri_strl.specs.Tree.{Operator, greatest, least, added, Tree, one, j
 -- how many nodes the grants give to the job's leaf of this number
 abbrev pub granted : List Grant → ℕ → ℕ → ℕ
 granted [] job leaf = 0
-granted (g ∷ gs) job leaf = (if g.job == job && g.leaf == leaf then length g.nodes else 0) + granted gs job leaf
+granted (g ∷ gs) job leaf =
+    (if g.job == job && g.leaf == leaf then length g.nodes else 0) + granted gs job leaf
 
 -- the worth of a leaf to which this many nodes are granted
 abbrev pub worth_at : Leaf → ℕ → ℕ

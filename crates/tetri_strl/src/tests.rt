@@ -10,7 +10,8 @@ use std::test::Fail;
 
 // 8 for 4 nodes in slot 3, and 2 for each of fewer
 fn linear() -> Expr
-    ensures leaf { tree result ≡ one (record { num = 0; set = 0; k = 4; start = 3; dur = 1; v = 8; linear = true }) }
+    ensures leaf { tree result
+        ≡ one (record { num = 0; set = 0; k = 4; start = 3; dur = 1; v = 8; linear = true }) }
     ensures sound { IsSound (tree result) }
 {
     Expr::One(Leaf {
@@ -27,7 +28,8 @@ fn linear() -> Expr
 // 4 for exactly 2 nodes
 fn exact(start: u32) -> Expr
     requires { start ≤ 20000 }
-    ensures leaf { tree result ≡ one (record { num = 1; set = 0; k = 2; start = start; dur = 1; v = 4; linear = false }) }
+    ensures leaf { tree result
+        ≡ one (record { num = 1; set = 0; k = 2; start = start; dur = 1; v = 4; linear = false }) }
     ensures sound { IsSound (tree result) }
 {
     Expr::One(Leaf {

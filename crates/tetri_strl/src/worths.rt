@@ -35,8 +35,8 @@ fn worth_of_leaf(leaf: &Leaf, job: u32, grants: &[Grant]) -> u64
     }
 }
 
-/// What the allotment is worth to the job with this expression, by the numbers of nodes that it grants to the
-/// job's leaves. Each leaf is weighed against every grant.
+/// What the allotment is worth to the job with this expression, by the numbers of nodes that it
+/// grants to the job's leaves. Each leaf is weighed against every grant.
 pub fn worth(e: &Expr, job: u32, a: &Allotment) -> u64
     requires { IsSound (tree e.now) }
     ensures { result ≡ worth_of a.now job (tree e.now) }
@@ -44,7 +44,8 @@ pub fn worth(e: &Expr, job: u32, a: &Allotment) -> u64
     worth_among(e, job, a.as_slice())
 }
 
-/// `worth` where the grants are given as a slice, such as the job's own part of an allotment that ascends by job.
+/// `worth` where the grants are given as a slice, such as the job's own run in an allotment that
+/// ascends by job.
 pub fn worth_among(e: &Expr, job: u32, grants: &[Grant]) -> u64
     requires { IsSound (tree e.now) }
     ensures { result ≡ worth_of grants.now job (tree e.now) }

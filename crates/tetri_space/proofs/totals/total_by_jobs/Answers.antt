@@ -1,9 +1,6 @@
-use Rattle.std.proofs.Common.{map, All, drop, subst, sym, ap, arith}
-use Rattle.std.specs.List.{sum_by}
-use Rattle.tetri_strl.specs.Tree.{tree}
-use Rattle.tetri_strl.specs.WellMade.{IsSound as IsSoundTree}
+use Rattle.std.proofs.Common.{map, All, subst, sym, arith}
 use Rattle.tetri_space.specs.Sound.{IsSoundBid}
-use Rattle.tetri_space.specs.Space.{Bid, bid, space}
+use Rattle.tetri_space.specs.Space.{bid, space}
 use Rattle.tetri_space.specs.Total.{bid_worth}
 use Rattle.tetri_space.proofs.BidLemmas.{bid_has, next_sum}
 use Rattle.tetri_space.proofs.TotalLemmas.{total_limit}

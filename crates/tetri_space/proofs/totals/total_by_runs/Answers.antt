@@ -1,4 +1,4 @@
-use Rattle.std.proofs.Common.{◌<◌, map, All, AllPairs, drop, subst, sym, ap, arith}
+use Rattle.std.proofs.Common.{◌<◌, map, All, AllPairs, subst, sym, arith}
 use Rattle.std.specs.List.Sorted.{IsNonDecreasingBy}
 use Rattle.std.proofs.lemmas.List.Sorted.{IsNonDecreasingBy-drop}
 use Rattle.tetri_strl.specs.declared.grants.Grant.{Grant}
