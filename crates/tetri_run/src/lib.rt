@@ -1,2 +1,5 @@
 //! The top call: plans a trace and writes the report.
 #![tactic(auto)]
+
+mod opening;
+
