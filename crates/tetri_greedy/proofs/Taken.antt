@@ -1,6 +1,6 @@
 -- What is left when the lowest nodes were taken.
 use Rattle.std.proofs.Common.{◌≡◌, ℕ, zero, suc, ◌+◌, ◌<◌, ◌≤◌, ◌==◌, ◌&&◌, ◌||◌, Bool, true, false, not, cond, List, [], ◌∷◌, ◌++◌, take, drop, length, get_or, refl, sym, ap, ◌∙◌, nat_lt, arith, add-one}
-use Rattle.std.specs.Prelude.{filter}
+use Rattle.std.specs.Prelude.{filter, slice_index_or}
 use Rattle.std.specs.List.{list_any}
 use Rattle.std.specs.List.Sorted.{IsStrictlyIncreasing}
 use Rattle.std.proofs.lemmas.Bool.Decides.{nat_tests}
@@ -94,3 +94,15 @@ open_beside_more s set k held l left beside at_once ascends m now =
     ∙ filter_twice (is_available s held m) (λ n. list_any (λ p. p == n) (take k left)) (set_of s m)
     ∙ ap (filter (λ n. not (list_any (λ p. p == n) (take k left)))) (beside m now)
     ∙ left_over k left ascends
+
+available_now : (s : Space) (l : Leaf) (n : ℕ) → is_available s [] l n ≡ is_free_from s l.start n
+available_now s l n = and_true (is_free_from s l.start n)
+  where
+    and_true : (b : Bool) → (b && true) ≡ b
+    and_true true = refl
+    and_true false = refl
+
+-- while nothing is held, all free nodes are open
+pub open_beside_nothing : (s : Space) (set : ℕ) → IsOpenBeside s set [] (filter (is_free_from s s.now) (slice_index_or s.sets set []))
+open_beside_nothing s set l now =
+    filter_same (is_available s [] l) (is_free_from s s.now) (set_of s l) (λ n. available_now s l n ∙ ap (λ t. is_free_from s t n) now.now) ∙ ap (λ k. filter (is_free_from s s.now) (slice_index_or s.sets k [])) now.over

@@ -56,7 +56,8 @@ impl OpenNodes {
     pub fn new(alloc: Global, inst: &Instance, set: u32) -> Result<OpenNodes, AllocError>
         requires sound { IsSound (space inst.now) }
         requires known { set < length (space inst.now).sets }
-        ensures { IfOk result (λ o. o ≡ filter (is_free_from (space inst.entry.now) (space inst.entry.now).now)
+        ensures ascending { IfOk result IsStrictlyIncreasing }
+        ensures free { IfOk result (λ o. o ≡ filter (is_free_from (space inst.entry.now) (space inst.entry.now).now)
             (slice_index_or (space inst.entry.now).sets set [])) }
     {
         let mut nodes = Vec::new(alloc);

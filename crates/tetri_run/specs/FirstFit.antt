@@ -1,8 +1,9 @@
 -- First fit: each job in order gets its fit beside what earlier jobs hold.
-use Rattle.std.specs.Prelude.{ℕ, ◌==◌, List, [], ◌∷◌, ◌++◌, if◌then◌else◌}
+use Rattle.std.specs.Prelude.{◌≡◌, ℕ, ◌==◌, List, [], ◌∷◌, ◌++◌, if◌then◌else◌}
 use Rattle.tetri_strl.specs.declared.grants.Grant.{Grant}
 use Rattle.tetri_space.specs.Space.{Bid, Space}
 use Rattle.tetri_advice.specs.Fit.{Placement, fit, fit_worth, grants_of}
+use Rattle.tetri_greedy.specs.Open.{IsOpenBeside}
 
 -- a fit that is worth nothing is given up
 abbrev pub earning : Bid → List Placement → List Placement
@@ -19,3 +20,8 @@ module _ (s : Space) where
 
 abbrev pub first_fit : Space → List Grant
 first_fit s = first_fit_from s [] s.bids
+
+-- A job got its fit beside what is held, and these nodes are left beside that.
+pub record GotFit (s : Space) (held : List Placement) (b : Bid) (left : List ℕ) (before after : List Grant) : Type 0 where
+  pub grants : after ≡ before ++ grants_of b.job (placed s held b)
+  pub open_beside : IsOpenBeside s 0 (held ++ placed s held b) left

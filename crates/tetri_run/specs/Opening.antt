@@ -1,7 +1,8 @@
 -- The instance of a trace at slot 0.
 use Rattle.std.specs.Prelude.{◌≡◌, ℕ, ◌+◌, List, [], ◌∷◌, All, false, length, replicate}
 use Rattle.tetri_strl.specs.declared.expr.Leaf.{Leaf}
-use Rattle.tetri_strl.specs.Tree.{one}
+use Rattle.tetri_strl.specs.Tree.{Tree, one}
+use Rattle.tetri_strl.specs.WellMade.{IsGoodLeaf}
 use Rattle.tetri_space.specs.Space.{Bid, Space}
 use Rattle.tetri_trace.specs.Scenario.{Submission, Scenario, expr_of}
 
@@ -32,3 +33,10 @@ pub record AsksAtOnce (s : Space) (b : Bid) : Type 0 where
 
 abbrev pub AllAskAtOnce : Space → Type 0
 AllAskAtOnce s = All (AsksAtOnce s) s.bids
+
+-- one exact leaf within its limits
+pub record AsksExactLeaf (t : Tree) : Type 0 where
+  pub leaf : Leaf
+  pub expr : t ≡ one leaf
+  pub exact : leaf.linear ≡ false
+  pub good : IsGoodLeaf leaf

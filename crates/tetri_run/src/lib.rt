@@ -1,5 +1,6 @@
 //! The top call: plans a trace and writes the report.
 #![tactic(auto)]
 
+mod first_fit;
 mod opening;
 
