@@ -1,1 +1,2 @@
+pub mod FirstFits
 pub mod Placed
