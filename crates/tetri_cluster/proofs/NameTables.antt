@@ -1,5 +1,5 @@
 -- Tests over a list of names and over the vectors that hold them.
-use Rattle.std.proofs.Common.{◌≡◌, ℕ, suc, Bool, true, false, ◌||◌, ◌&&◌, cond, List, [], ◌∷◌, map, length, not, ◌+◌, refl, sym, ap, ◌∙◌, bytes_eq}
+use Rattle.std.proofs.Common.{◌≡◌, ℕ, suc, Bool, true, false, ◌||◌, cond, List, [], ◌∷◌, map, length, not, ◌+◌, refl, ap, bytes_eq}
 use Rattle.std.specs.Prelude.{position, Vec}
 use Rattle.std.specs.declared.alloc.Global.{Global}
 use Rattle.std.specs.List.{list_any, position_or_len, IsDistinct, AllByRecursion}

@@ -1,11 +1,12 @@
 -- The nodes of a cluster: each has the number of its place in the list.
-use Rattle.std.specs.Prelude.{ℕ, ◌≡◌, ◌<◌, ◌≤◌, List, [], map, length, slice_index_or, Option, Some, None, Bool, Result, Ok, Err}
+use Rattle.std.specs.Prelude.{ℕ, ◌≡◌, ◌<◌, ◌≤◌, List, [], map, length, slice_index_or, Some, None, Bool, Result, Ok, Err}
 use Rattle.std.specs.List.{list_any}
 use Rattle.tetri_cluster.specs.Names.{is_among, first_repeated}
 use Rattle.tetri_cluster.specs.declared.cluster.NodeText.{NodeText}
 use Rattle.tetri_cluster.specs.declared.cluster.ClusterFault.{ClusterFault}
 use Rattle.tetri_cluster.specs.declared.cluster.ClusterFault.TheVariants.{TooManyNodes, NameTaken, NoMemory}
 
+-- the names of the nodes, in order
 abbrev pub names_of : List NodeText → List (List ℕ)
 names_of nodes = map (λ n. n.name) nodes
 

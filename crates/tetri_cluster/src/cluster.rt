@@ -11,7 +11,9 @@ const MAX_NODES: usize = 4096;
 /// A node's name and its tags.
 #[derive(Drop)]
 pub struct NodeText {
+    /// Its name, which no other node of a cluster has.
     pub name: Name,
+    /// Its tags, in the order in which they were given.
     pub tags: NameList,
 }
 
@@ -32,7 +34,8 @@ impl Model for Cluster {
 
     ghost view = { λ c. c.nodes.items };
 
-    ghost invariant = { λ c. (c.names ≡ names_of c.nodes.items) × (length c.nodes.items ≤ 4096) × (differ (names_of c.nodes.items) ≡ true) };
+    ghost invariant = { λ c. (c.names ≡ names_of c.nodes.items) × (length c.nodes.items ≤ 4096)
+        × (differ (names_of c.nodes.items) ≡ true) };
 }
 
 /// Why nodes make no cluster.
@@ -60,8 +63,8 @@ impl From<AllocError> for ClusterFault {
 impl Cluster {
     ghost use Rattle.tetri_cluster.specs.Cluster.{AnswersBuild, knows_tag, name_at, names_of, tags_at};
 
-    /// The cluster of these nodes. `TooManyNodes` comes exactly above 4,096 of them, and else `NameTaken` exactly at the first
-    /// repeated name.
+    /// The cluster of these nodes. `TooManyNodes` comes exactly above 4,096 of them, and else
+    /// `NameTaken` exactly at the first repeated name.
     pub fn build(alloc: Global, nodes: Vec<NodeText>) -> Result<Cluster, ClusterFault>
         ensures { AnswersBuild nodes.items result }
     {
@@ -115,7 +118,8 @@ impl Cluster {
 
     // The names of the nodes, by number.
     fn number_names(alloc: Global, nodes: &[NodeText]) -> Result<NameTable, ClusterFault>
-        ensures ok { IfOk result (λ names. (names ≡ names_of nodes.now) × (first_repeated (names_of nodes.now) ≡ None)) }
+        ensures ok { IfOk result (λ names. (names ≡ names_of nodes.now)
+            × (first_repeated (names_of nodes.now) ≡ None)) }
         ensures taken { (place : ℕ) → IsErrOf result (ClusterFault.NameTaken place)
             → first_repeated (names_of nodes.now) ≡ Some place }
         ensures counted { (count : ℕ) → ¬ IsErrOf result (ClusterFault.TooManyNodes count) }

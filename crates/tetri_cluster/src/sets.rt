@@ -10,7 +10,8 @@ use std::marker::Model;
 
 const MAX_SETS: usize = 4096;
 
-/// At most 4,096 different sets of nodes, each ascending. A set's number is its place, from 0 on, and a look-up goes by an index.
+/// At most 4,096 different sets of nodes, each ascending. A set's number is its place, from 0 on,
+/// and a look-up goes by an index.
 #[derive(Drop)]
 pub struct Sets {
     sets: IndexSet<NodeSet>,
@@ -57,7 +58,8 @@ impl Sets {
         }
     }
 
-    /// The number of the set with exactly these nodes, a new one last. `Full` exactly where it is new and 4,096 are there.
+    /// The number of the set with exactly these nodes, a new one last. The other sets keep their
+    /// numbers. `Full` exactly where it is new and 4,096 are there.
     pub fn find_or_add(&mut self, nodes: NodeSet) -> Result<u32, SetsFault>
         requires { IsStrictlyIncreasing nodes }
         ensures ok { IfOk result (λ set. set_added nodes self.old ≡ Some (set, self.new)) }
@@ -65,6 +67,7 @@ impl Sets {
         ensures within { IfOk result (λ set. set < length self.new) }
         ensures full { IsErrOf result SetsFault.Full → set_added nodes self.old ≡ None }
         ensures err { OnErr result (self.new ≡ self.old) }
+        ensures kept { take (length self.old) self.new ≡ self.old }
         ensures are_sets { AreSets self.new }
         ensures most { length self.new ≤ 4096 }
     {

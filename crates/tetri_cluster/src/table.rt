@@ -6,7 +6,8 @@ use indexmap::IndexSet;
 use std::alloc::{AllocError, Global};
 use std::marker::Model;
 
-/// Different names, each with the number of its place in the order of their coming, from 0 on. A look-up goes by an index.
+/// Different names, each with the number of its place in the order of their coming, from 0 on. A
+/// look-up goes by an index.
 #[derive(Drop)]
 pub struct NameTable {
     names: IndexSet<Vec<u8>>,
@@ -60,10 +61,12 @@ impl NameTable {
         self.names.get_index(number).map(|name| name.as_slice())
     }
 
-    /// Gives a new name the next number, and says whether it was new. Without memory the table stays as it was.
+    /// Gives a new name the next number, and says whether it was new. Without memory the table
+    /// stays as it was.
     pub fn add(&mut self, name: &[u8]) -> Result<bool, AllocError>
         ensures fresh { IfOk result (λ new. new ≡ not (is_among name.now self.old)) }
-        ensures ok { IfOk result (λ new. self.new ≡ (if new then self.old ++ name.now ∷ [] else self.old)) }
+        ensures ok { IfOk result (λ new.
+            self.new ≡ (if new then self.old ++ name.now ∷ [] else self.old)) }
         ensures err { OnErr result (self.new ≡ self.old) }
         ensures differ { differ self.new ≡ true }
     {

@@ -6,8 +6,8 @@ use std::fs;
 use std::io::{Read, Seek, SeekFrom};
 use std::rt::Files;
 
-/// The files of a runtime. Each read opens the named file, seeks and reads. It tells no content, and each fault counts one,
-/// up to 2^64 - 1, as the fault of every name.
+/// The files of a runtime. Each read opens the named file, seeks and reads. It tells no content,
+/// and each fault counts one, up to 2^64 - 1, as the fault of every name.
 #[derive(Drop)]
 pub struct FileShelf<'a, R: Files> {
     files: &'a R,
@@ -15,9 +15,11 @@ pub struct FileShelf<'a, R: Files> {
 }
 
 impl<'a, R: Files> FileShelf<'a, R> {
+    ghost use Rattle.tetri_io.specs.FileShelf.{fault_count};
+
     /// The files of this runtime, with no fault yet.
     pub fn new(files: &'a R) -> FileShelf<'a, R>
-        ensures { result.faults ≡ 0 }
+        ensures { fault_count result ≡ 0 }
     {
         FileShelf { files, faults: 0 }
     }
@@ -36,9 +38,11 @@ fn read_file<R: Files>(files: &R, name: &str, offset: u64, buf: &mut [u8]) -> Op
 }
 
 impl<R: Files> Shelf for FileShelf<'_, R> {
+    ghost use Rattle.tetri_io.specs.FileShelf.{fault_count};
+
     ghost told = { λ _ _. None };
 
-    ghost faults = { λ s _. s.faults };
+    ghost faults = { λ s _. fault_count s };
 
     fn read_at(&mut self, name: &str, offset: u64, buf: &mut [u8]) -> Result<usize, Failed> {
         match read_file(self.files, name, offset, buf) {

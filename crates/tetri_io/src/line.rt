@@ -13,7 +13,8 @@ const LINE_FEED: u8 = 10;
 /// What stands at an offset.
 #[derive(Drop)]
 pub enum Line {
-    /// The bytes up to the next line feed or the end, without the line feed, and the offset behind it.
+    /// The bytes up to the next line feed or the end, without the line feed, and the offset behind
+    /// it.
     Text { bytes: Vec<u8>, next: u64 },
     /// The content ends at or before the offset.
     End,
@@ -55,8 +56,8 @@ impl From<AllocError> for LineFault {
     }
 }
 
-/// The line at an offset, of at most `limit` bytes. It reads chunk by chunk, and `Failed` comes only where the count of the name's
-/// faults rose.
+/// The line at an offset, of at most `limit` bytes. It reads chunk by chunk, and `Failed` comes
+/// only where the count of the name's faults rose.
 pub fn read_line_at<S: Shelf>(
     alloc: Global,
     shelf: &mut S,
@@ -100,7 +101,8 @@ fn add_front(bytes: &mut Vec<u8>, piece: &[u8], limit: usize) -> Result<usize, L
         × (bytes.new.items ≡ bytes.old.items ++ take n piece.now) × (vec_len bytes.new ≤ limit)
         × (vec_len bytes.new ≡ vec_len bytes.old + n)) }
     ensures failed { ¬ IsErrOf result LineFault.Failed }
-    ensures long { IsErrOf result LineFault.TooLong → limit < vec_len bytes.old + length (line_of piece.now) }
+    ensures long { IsErrOf result LineFault.TooLong
+        → limit < vec_len bytes.old + length (line_of piece.now) }
 {
     let front = line_len(piece);
     if limit - bytes.len() < front {

@@ -1,6 +1,13 @@
 //! The top call: plans a trace and writes the report.
 #![tactic(auto)]
 
+mod cycle;
 mod first_fit;
 mod opening;
+mod report;
+mod status;
+mod top;
+
+pub use status::Status;
+pub use top::{run, run_plan};
 

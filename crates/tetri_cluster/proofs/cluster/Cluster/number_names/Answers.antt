@@ -1,4 +1,4 @@
-use Rattle.std.proofs.Common.{◌∙◌, ◌≡◌, ap, Some, ℕ}
+use Rattle.std.proofs.Common.{◌∙◌, ◌≡◌, ap, Some}
 use Rattle.tetri_cluster.proofs.Repeats.{Tries, names_at, taken_at, fresh_at}
 use Rattle.tetri_cluster.proofs.cluster.Cluster.number_names.Goals as goal
 

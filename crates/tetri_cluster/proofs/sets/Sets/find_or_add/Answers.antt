@@ -1,6 +1,4 @@
-use Rattle.std.proofs.Common.{arith, ◌∙◌, sym, ap, ◌≤◌, length, if◌then◌else◌}
-use Rattle.std.specs.Prelude.{All}
-use Rattle.std.specs.List.Sorted.{IsStrictlyIncreasing}
+use Rattle.std.proofs.Common.{arith, sym}
 use Rattle.tetri_cluster.specs.Sets.{AreSets}
 use Rattle.tetri_cluster.proofs.SetsAdded.{are_sets, ascending_with, found_set, stored_set}
 use Rattle.tetri_cluster.proofs.sets.Sets.find_or_add.Goals as goal

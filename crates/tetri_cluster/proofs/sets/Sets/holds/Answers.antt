@@ -1,4 +1,3 @@
-use Rattle.std.proofs.Common.{◌∙◌}
 use Rattle.tetri_cluster.proofs.SetsAdded.{search_finds}
 use Rattle.tetri_cluster.proofs.sets.Sets.holds.Goals as goal
 

@@ -9,8 +9,8 @@ returns-clause-fresh c =
     let keys = c.self.inside.names.keys in
     c.in_ok-insert.ensures.added
     ∙ ap not (ap (λ q. list_any (λ v. bytes_eq q v.items) keys) c.in_ok-key.ensures.items
-      ∙ sym (list_any_map (bytes_eq name) (λ v. v.items) keys)
-      ∙ ap (list_any (bytes_eq name)) c.self.view_is)
+    ∙ sym (list_any_map (bytes_eq name) (λ v. v.items) keys)
+    ∙ ap (list_any (bytes_eq name)) c.self.view_is)
 
 pub returns-clause-differ : goal.returns-clause-differ
 returns-clause-differ c = differ_held _ c.in_ok-insert.ensures.unique

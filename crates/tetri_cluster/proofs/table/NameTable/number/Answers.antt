@@ -1,4 +1,4 @@
-use Rattle.std.proofs.Common.{◌∙◌, ap, sym, bytes_eq, arith}
+use Rattle.std.proofs.Common.{◌∙◌, ap, sym, bytes_eq}
 use Rattle.std.specs.Prelude.{position}
 use Rattle.std.specs.List.{list_any}
 use Rattle.tetri_cluster.proofs.NameTables.{position_map, list_any_map}

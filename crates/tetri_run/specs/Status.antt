@@ -1,0 +1,65 @@
+-- What a status says, of the trace and of the bytes that were written.
+use Rattle.std.specs.Prelude.{◌≡◌, ℕ, List, ◌++◌, Option, Result, Ok, Err, codes, decimal}
+use Rattle.std.specs.Io.KnownBytes.{append_known}
+use Rattle.tetri_io.specs.Sink.{AppendsPart}
+use Rattle.tetri_report.specs.Block.{Block}
+use Rattle.tetri_report.specs.Text.{cycle_text, summary_text}
+use Rattle.tetri_trace.specs.Scenario.{Scenario}
+use Rattle.tetri_trace.specs.declared.fault.TraceWhy.{TraceWhy}
+use Rattle.tetri_trace.specs.declared.fault.TraceWhy.TheVariants.{NotBuilt}
+use Rattle.tetri_run.specs.OneCycle.{IsFirstCycle, summary_of}
+use Rattle.tetri_run.specs.Opening.{opening_space}
+use Rattle.tetri_run.specs.declared.status.Status.{Status}
+use Rattle.tetri_run.specs.declared.status.Status.TheVariants.{Done, Usage, ReadFault, WriteFault, BadTrace, NoMemory}
+
+-- a run of one cycle over a trace
+pub record OneCycleRun (t : Scenario) : Type 0 where
+  pub cycle : Block
+  pub first : IsFirstCycle (opening_space t) cycle
+
+-- the report of such a run: its cycle and its summary
+abbrev pub report_text : (t : Scenario) → OneCycleRun t → List ℕ
+report_text t run = cycle_text t run.cycle ++ summary_text (summary_of (opening_space t) run.cycle)
+
+-- What a status says of the trace that was read, and of the written bytes before and after.
+abbrev pub Leads : Status → Result Scenario (ℕ × TraceWhy) → Option (List ℕ) → Option (List ℕ) → Type 0
+Leads Done trace before after = (t : Scenario) × (run : OneCycleRun t) × (trace ≡ Ok t) × (after ≡ append_known before (report_text t run))
+Leads Usage trace before after = Unit {0}
+Leads ReadFault trace before after = Unit {0}
+Leads WriteFault trace before after = (t : Scenario) × (run : OneCycleRun t) × (trace ≡ Ok t) × AppendsPart before after (report_text t run)
+Leads (BadTrace line why) trace before after = trace ≡ Err (line, why)
+Leads NoMemory trace before after = Unit {0}
+
+-- Where nothing is done, nothing is written.
+abbrev pub WritesOnlyReports : Status → Option (List ℕ) → Option (List ℕ) → Type 0
+WritesOnlyReports Done before after = Unit {0}
+WritesOnlyReports Usage before after = after ≡ before
+WritesOnlyReports ReadFault before after = after ≡ before
+WritesOnlyReports WriteFault before after = Unit {0}
+WritesOnlyReports (BadTrace line why) before after = after ≡ before
+WritesOnlyReports NoMemory before after = after ≡ before
+
+-- a cause in words
+abbrev pub why_words : TraceWhy → List ℕ
+why_words NotBuilt = codes "not-built"
+
+unfoldable pub bad_trace_words : ℕ → TraceWhy → List ℕ
+bad_trace_words line why = codes "bad trace: line " ++ decimal line ++ codes ": " ++ why_words why ++ codes "\n"
+
+-- the line that is said of a status, which is empty once all is done
+abbrev pub status_words : Status → List ℕ
+status_words Done = codes ""
+status_words Usage = codes "usage: tetri plan TRACE | check TRACE REPORT | load N\n"
+status_words ReadFault = codes "read fault\n"
+status_words WriteFault = codes "write fault\n"
+status_words (BadTrace line why) = bad_trace_words line why
+status_words NoMemory = codes "out of memory\n"
+
+-- All of a text was written, or a proper front of it at a fault.
+abbrev pub Writes : Status → List ℕ → Option (List ℕ) → Option (List ℕ) → Type 0
+Writes Done text before after = after ≡ append_known before text
+Writes Usage text before after = ⊥
+Writes ReadFault text before after = ⊥
+Writes WriteFault text before after = AppendsPart before after text
+Writes (BadTrace line why) text before after = ⊥
+Writes NoMemory text before after = ⊥
