@@ -1,5 +1,5 @@
 // The plan of the first cycle.
-ghost use Rattle.std.specs.Prelude.{◌≡◌, ◌↔◌, ◌⊎◌, [], All, IfOk, map};
+ghost use Rattle.std.specs.Prelude.{◌≡◌, ◌<◌, ◌^◌, ◌↔◌, ◌⊎◌, All, IfOk, map, replicate};
 ghost use Rattle.std.specs.List.Sorted.{IsStrictlyIncreasing};
 ghost use Rattle.tetri_cert.specs.declared.mark.PlanMark.TheVariants as marks;
 ghost use Rattle.tetri_report.specs.Block.{block};
@@ -39,6 +39,13 @@ fn jobs_of(alloc: Global, grants: &[Grant]) -> Result<Vec<u32>, AllocError>
     Ok(jobs)
 }
 
+// One start for each grant.
+fn same_starts(alloc: Global, start: u32, count: usize) -> Result<Vec<u32>, AllocError>
+    ensures { IfOk result (λ v. v.items ≡ replicate count start) }
+{
+    vec![in alloc; start; count]
+}
+
 /// The first cycle: first fit is planned, and launched as a whole.
 pub(crate) fn first_cycle(alloc: Global, inst: &Instance) -> Result<Cycle, AllocError>
     requires sound { IsSound (space inst.now) }
@@ -51,7 +58,7 @@ pub(crate) fn first_cycle(alloc: Global, inst: &Instance) -> Result<Cycle, Alloc
     let value = total(inst, &grants);
     let bound = tops(inst);
     tops_bound_every_lawful_total(inst);
-    let starts = vec![in alloc; inst.now; grants.as_slice().len()]?;
+    let starts = same_starts(alloc, inst.now, grants.as_slice().len())?;
     let launched = jobs_of(alloc, grants.as_slice())?;
     Ok(Cycle {
         number: 0,
@@ -87,7 +94,8 @@ fn optimal_count(mark: PlanMark) -> u64
 
 /// The summary of a run of one cycle, whose value was launched as a whole.
 pub(crate) fn summary_of(cycle: &Cycle) -> Summary
-    ensures { (s : Space) → worth_launched s cycle.entry.now.grants ≡ cycle.entry.now.value
+    ensures small { result.worth < 2 ^ 64 }
+    ensures counts { (s : Space) → worth_launched s cycle.entry.now.grants ≡ cycle.entry.now.value
         → result ≡ summary_of s (block cycle.entry.now) }
 {
     Summary {

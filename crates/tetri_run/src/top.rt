@@ -95,11 +95,19 @@ fn write_report<K: Sink>(report: &Report, sink: &mut K) -> Status
     ensures write { result ≡ Status.WriteFault → Rose (K.faults sink.old) (K.faults sink.new) }
     ensures later { K.faults sink.old ≤ K.faults sink.new }
 {
-    if send_all(sink, &report.cycle).is_err() {
-        return Status::WriteFault;
+    match send_all(sink, &report.cycle) {
+        Ok(()) => write_summary(&report.summary, sink),
+        Err(_) => Status::WriteFault,
     }
-    if send_all(sink, &report.summary).is_err() {
-        return Status::WriteFault;
+}
+
+fn write_summary<K: Sink>(summary: &[u8], sink: &mut K) -> Status
+    ensures writes { Writes result summary.now (K.written sink.old) (K.written sink.new) }
+    ensures write { result ≡ Status.WriteFault → Rose (K.faults sink.old) (K.faults sink.new) }
+    ensures later { K.faults sink.old ≤ K.faults sink.new }
+{
+    match send_all(sink, summary) {
+        Ok(()) => Status::Done,
+        Err(_) => Status::WriteFault,
     }
-    Status::Done
 }
