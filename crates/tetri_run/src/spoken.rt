@@ -1,0 +1,84 @@
+// What is said of a status.
+ghost use Rattle.std.specs.Prelude.{◌≡◌, ◌≤◌, ◌++◌, IfOk, OnOk, OnErr, IsErrOf, string_bytes};
+ghost use Rattle.std.specs.Io.KnownBytes.{append_known};
+ghost use Rattle.tetri_algebra.specs.Counts.{Rose};
+ghost use Rattle.tetri_io.specs.Sink.{AppendsPart};
+ghost use Rattle.tetri_run.specs.Status.{status_words, bad_trace_words};
+ghost use Rattle.tetri_trace.specs.declared.fault.TraceWhy.{TraceWhy};
+
+use crate::status::Status;
+use std::alloc::{AllocError, Global};
+use std::fmt::Write;
+use tetri_io::{Failed, Sink, send_all};
+use tetri_trace::TraceWhy;
+use thiserror::Error;
+
+/// Why a status was not said.
+#[derive(Clone, Copy, Debug, PartialEq, Eq, Error)]
+pub enum SayFault {
+    /// A write failed, and was counted.
+    #[error("a write failed")]
+    Failed,
+    /// There is no memory for the line.
+    #[error("out of memory")]
+    NoMemory,
+}
+
+impl From<Failed> for SayFault {
+    ghost use Rattle.std.specs.Prelude.{◌≡◌};
+    ghost use Rattle.tetri_run.specs.declared.spoken.SayFault.TheVariants as fault;
+
+    ghost from_gives = { λ _ e. e ≡ fault.Failed };
+
+    fn from(_: Failed) -> Self {
+        SayFault::Failed
+    }
+}
+
+impl From<AllocError> for SayFault {
+    ghost use Rattle.std.specs.Prelude.{◌≡◌};
+    ghost use Rattle.tetri_run.specs.declared.spoken.SayFault.TheVariants as fault;
+
+    ghost from_gives = { λ _ e. e ≡ fault.NoMemory };
+
+    fn from(_: AllocError) -> Self {
+        SayFault::NoMemory
+    }
+}
+
+#[tactic(auto, unfolding(crate::specs::Status::bad_trace_words))]
+fn bad_trace_line(alloc: Global, line: u64, why: TraceWhy) -> Result<String, AllocError>
+    ensures { IfOk result (λ s. string_bytes s ≡ bad_trace_words line why) }
+{
+    let mut out = String::new(alloc);
+    write!(out, "bad trace: line {line}: ")?;
+    match why {
+        TraceWhy::NotBuilt => out.push_str("not-built")?,
+    }
+    out.push_str("\n")?;
+    Ok(out)
+}
+
+/// Writes the line of a status, and nothing for `Done`. `Failed` comes only where the count of faults rose, and then a
+/// proper prefix was written.
+pub fn say<K: Sink>(alloc: Global, status: &Status, sink: &mut K) -> Result<(), SayFault>
+    ensures ok { OnOk result (K.written sink.new ≡ append_known (K.written sink.old) (status_words status.entry.now)) }
+    ensures failed { IsErrOf result SayFault.Failed → Rose (K.faults sink.old) (K.faults sink.new) }
+    ensures part { IsErrOf result SayFault.Failed
+        → AppendsPart (K.written sink.old) (K.written sink.new) (status_words status.entry.now) }
+    ensures memory { IsErrOf result SayFault.NoMemory → K.written sink.new ≡ K.written sink.old }
+    ensures later { K.faults sink.old ≤ K.faults sink.new }
+{
+    match status {
+        Status::Done => send_all(sink, b"")?,
+        Status::Usage => send_all(sink, b"usage: tetri plan TRACE | check TRACE REPORT | load N\n")?,
+        Status::ReadFault => send_all(sink, b"read fault\n")?,
+        Status::WriteFault => send_all(sink, b"write fault\n")?,
+        Status::BadTrace { line, why } => {
+            let text = bad_trace_line(alloc, *line, *why)?;
+            send_all(sink, text.as_bytes())?;
+        }
+        Status::NoMemory => send_all(sink, b"out of memory\n")?,
+    }
+    Ok(())
+}
