@@ -8,7 +8,7 @@ use Rattle.tetri_claims.specs.Planned.{Planned}
 
 -- The bound is the sum of the tops over the window, and no tree was searched. No size of a program stands beside it as
 -- long as no program is built.
-pub record HasTops (s : Space) (p : Planned) : Type 0 where
+pub record IsBoundedByTops (s : Space) (p : Planned) : Type 0 where
   pub certificate : p.certificate ≡ Tops 0 0
   pub bound : p.bound ≡ tops_in s
   pub nodes : p.nodes ≡ 0

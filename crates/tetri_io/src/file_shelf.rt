@@ -1,5 +1,8 @@
 // Files. They tell nothing of what they hold.
-ghost use Rattle.std.specs.Prelude.{◌≡◌, ◌+◌, ◌<◌, ◌≤◌, ◌^◌, None, length, IfSome};
+ghost use Rattle.std.specs.Prelude.{◌≡◌, ◌+◌, ◌<◌, ◌≤◌, ◌^◌, List, ℕ, Some, length, IfOk, IfSome};
+ghost use Rattle.std.specs.Io.{ReadsAtMost};
+ghost use Rattle.tetri_io.specs.Causes.{HasCause, count_after};
+ghost use Rattle.tetri_io.specs.Shelf.{Gives};
 
 use crate::{Failed, Shelf};
 use std::fs;
@@ -38,13 +41,27 @@ fn read_file<R: Files>(files: &R, name: &str, offset: u64, buf: &mut [u8]) -> Op
 }
 
 impl<R: Files> Shelf for FileShelf<'_, R> {
-    ghost use Rattle.tetri_io.specs.FileShelf.{fault_count};
+    ghost use Rattle.tetri_io.specs.FileShelf.{fault_count, told_content};
 
-    ghost told = { λ _ _. None };
+    ghost told = { told_content };
 
     ghost faults = { λ s _. fault_count s };
 
-    fn read_at(&mut self, name: &str, offset: u64, buf: &mut [u8]) -> Result<usize, Failed> {
+    fn read_at(&mut self, name: &str, offset: u64, buf: &mut [u8]) -> Result<usize, Failed>
+        requires { offset < 2 ^ 63 }
+
+        // What each shelf ensures.
+        ensures count { ReadsAtMost result buf.new }
+        ensures within { IfOk result (λ n. offset + n < 2 ^ 63) }
+        ensures bytes { (content : List ℕ) → told_content self.old name.now ≡ Some content
+            → IfOk result (λ n. Gives content offset n buf.new) }
+        ensures same { told_content self.new ≡ told_content self.old }
+        ensures cause { HasCause (fault_count self.old) (fault_count self.new) result }
+        ensures later { (other : List ℕ) → fault_count self.old ≤ fault_count self.new }
+
+        // What this one ensures besides.
+        ensures counted { fault_count self.new ≡ count_after (fault_count self.old) result }
+    {
         match read_file(self.files, name, offset, buf) {
             Some(count) => Ok(count),
             None => {

@@ -183,9 +183,9 @@ module _ (s : Space) (sound : IsSound s) (at_once : AllAskAtOnce s) where
       let rest = first_fit_from s (held ++ placed s held b) bs in
       let later : All (λ (c : Bid). b.job < c.job) bs = λ k d lt. ascending 0 (suc k) d (omega arith) (omega arith) in
       let others : NamesNot b.job rest = names_given s (held ++ placed s held b) b.job bs
-          (All-weaker (λ (c : Bid). b.job < c.job) (λ (c : Bid). c.job ≢ b.job) (λ c lt same. absurd (omega arith)) bs later) in
+      (All-weaker (λ (c : Bid). b.job < c.job) (λ (c : Bid). c.job ≢ b.job) (λ c lt same. absurd (omega arith)) bs later) in
       let not_own : (c : Bid) → Contains bs c → NamesNot c.job own = λ c at. other_job c.job b (placed s held b)
-          (λ same. let lt : b.job < c.job = All-contains (λ (d : Bid). b.job < d.job) bs c later at in absurd (omega arith)) in
+      (λ same. let lt : b.job < c.job = All-contains (λ (d : Bid). b.job < d.job) bs c later at in absurd (omega arith)) in
       kept_step test b bs own rest (fit_one held b (All-head (Contains s.bids) b bs pending)) passes others (fails b (0, omega arith, refl))
       (kept_by_fit test (held ++ placed s held b) bs (All-tail (Contains s.bids) b bs pending)
       (λ i k d lt within. ascending (suc i) (suc k) d (omega arith) (omega arith))

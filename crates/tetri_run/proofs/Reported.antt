@@ -8,7 +8,7 @@ use Rattle.tetri_io.specs.Sink.{AppendsPart}
 use Rattle.tetri_io.proofs.Known.{append_known-append, part_on}
 use Rattle.tetri_trace.specs.Scenario.{Scenario}
 use Rattle.tetri_trace.specs.declared.fault.TraceWhy.{TraceWhy}
-use Rattle.tetri_run.specs.Status.{OneCycleRun, report_text, Leads, Writes}
+use Rattle.tetri_run.specs.Status.{OneCycleRun, report_text, IsPromised, Writes}
 use Rattle.tetri_run.specs.declared.status.Status.{Status}
 use Rattle.tetri_run.specs.declared.status.Status.TheVariants.{Done, Usage, ReadFault, WriteFault, BadTrace, NoMemory}
 
@@ -33,11 +33,11 @@ writes_behind NoMemory old middle new front next e w = w
 pub part_of_front : (old new : Option (List ℕ)) (front next : List ℕ) → AppendsPart old new front → AppendsPart old new (front ++ next)
 part_of_front old new front next p = (p.0, omega (arith, p.1, length-append front next), p.2 ∙ ap (append_known old) (sym (take-append-le p.0 front next (omega (arith, p.1)))))
 
-pub leads_from : (status : Status) (trace : Result Scenario (ℕ × TraceWhy)) (t : Scenario) (run : OneCycleRun t) (text : List ℕ) (before after : Option (List ℕ)) →
-    trace ≡ Ok t → text ≡ report_text t run → Writes status text before after → Leads status trace before after
-leads_from Done trace t run text before after e f w = (t, run, e, w ∙ ap (append_known before) f)
-leads_from Usage trace t run text before after e f w = tt
-leads_from ReadFault trace t run text before after e f w = tt
-leads_from WriteFault trace t run text before after e f w = (t, run, e, subst (AppendsPart before after) f w)
-leads_from (BadTrace line why) trace t run text before after e f w = absurd w
-leads_from NoMemory trace t run text before after e f w = tt
+pub promised_from : (status : Status) (trace : Result Scenario (ℕ × TraceWhy)) (t : Scenario) (run : OneCycleRun t) (text : List ℕ) (before after : Option (List ℕ)) →
+    trace ≡ Ok t → text ≡ report_text t run → Writes status text before after → IsPromised status trace before after
+promised_from Done trace t run text before after e f w = (t, run, e, w ∙ ap (append_known before) f)
+promised_from Usage trace t run text before after e f w = tt
+promised_from ReadFault trace t run text before after e f w = tt
+promised_from WriteFault trace t run text before after e f w = (t, run, e, subst (AppendsPart before after) f w)
+promised_from (BadTrace line why) trace t run text before after e f w = absurd w
+promised_from NoMemory trace t run text before after e f w = tt

@@ -5,7 +5,7 @@ use Rattle.tetri_space.specs.Space.{Bid, Space}
 use Rattle.tetri_advice.specs.Fit.{Placement, fit, fit_worth, grants_of}
 use Rattle.tetri_greedy.specs.Open.{IsOpenBeside}
 
--- a fit that is worth nothing is given up
+-- A fit that is worth nothing is given up. For a job of one leaf these are the grants that earn nothing.
 abbrev pub earning : Bid → List Placement → List Placement
 earning b ps = if fit_worth b.job b.expr ps == 0 then [] else ps
 

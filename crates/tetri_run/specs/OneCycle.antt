@@ -5,7 +5,7 @@ use Rattle.tetri_cert.specs.declared.mark.PlanMark.{PlanMark}
 use Rattle.tetri_cert.specs.declared.mark.PlanMark.TheVariants.{Optimal, Spent, Wide}
 use Rattle.tetri_claims.specs.Planned.{Planned}
 use Rattle.tetri_claims.specs.Good.{IsGood}
-use Rattle.tetri_claims.specs.Certified.{HasTops}
+use Rattle.tetri_claims.specs.Certified.{IsBoundedByTops}
 use Rattle.tetri_report.specs.Block.{Block}
 use Rattle.tetri_report.specs.declared.cycle.Summary.{Summary}
 use Rattle.tetri_space.specs.Space.{Space}
@@ -46,13 +46,14 @@ summary_of s b = record {
   optimal = optimal_count b.mark;
 }
 
--- The first cycle over this instance: its plan is good, at least as good as first fit, and bounded by the tops; it is told
--- with its grants in order and with all that it launches.
+-- The first cycle over this instance: first fit is planned, which is good and bounded by the tops; it is told with its
+-- grants in order and with all that it launches.
 pub record IsFirstCycle (s : Space) (b : Block) : Type 0 where
   pub number : b.number ≡ 0
   pub nothing : NothingHappened b
+  pub planned_by : b.grants ≡ first_fit s
   pub good : IsGood s (total_in s (first_fit s)) (planned b)
-  pub tops : HasTops s (planned b)
+  pub tops : IsBoundedByTops s (planned b)
   pub ordered : AllPairs ComesBefore b.grants
   pub starts : b.starts ≡ map (start_of s) b.grants
   pub launched : b.launched ≡ launched_in s b.grants

@@ -22,22 +22,22 @@ abbrev pub report_text : (t : Scenario) → OneCycleRun t → List ℕ
 report_text t run = cycle_text t run.cycle ++ summary_text (summary_of (opening_space t) run.cycle)
 
 -- What a status says of the trace that was read, and of the written bytes before and after.
-abbrev pub Leads : Status → Result Scenario (ℕ × TraceWhy) → Option (List ℕ) → Option (List ℕ) → Type 0
-Leads Done trace before after = (t : Scenario) × (run : OneCycleRun t) × (trace ≡ Ok t) × (after ≡ append_known before (report_text t run))
-Leads Usage trace before after = Unit {0}
-Leads ReadFault trace before after = Unit {0}
-Leads WriteFault trace before after = (t : Scenario) × (run : OneCycleRun t) × (trace ≡ Ok t) × AppendsPart before after (report_text t run)
-Leads (BadTrace line why) trace before after = trace ≡ Err (line, why)
-Leads NoMemory trace before after = Unit {0}
+abbrev pub IsPromised : Status → Result Scenario (ℕ × TraceWhy) → Option (List ℕ) → Option (List ℕ) → Type 0
+IsPromised Done trace before after = (t : Scenario) × (run : OneCycleRun t) × (trace ≡ Ok t) × (after ≡ append_known before (report_text t run))
+IsPromised Usage trace before after = Unit {0}
+IsPromised ReadFault trace before after = Unit {0}
+IsPromised WriteFault trace before after = (t : Scenario) × (run : OneCycleRun t) × (trace ≡ Ok t) × AppendsPart before after (report_text t run)
+IsPromised (BadTrace line why) trace before after = trace ≡ Err (line, why)
+IsPromised NoMemory trace before after = Unit {0}
 
 -- Where nothing is done, nothing is written.
-abbrev pub WritesOnlyReports : Status → Option (List ℕ) → Option (List ℕ) → Type 0
-WritesOnlyReports Done before after = Unit {0}
-WritesOnlyReports Usage before after = after ≡ before
-WritesOnlyReports ReadFault before after = after ≡ before
-WritesOnlyReports WriteFault before after = Unit {0}
-WritesOnlyReports (BadTrace line why) before after = after ≡ before
-WritesOnlyReports NoMemory before after = after ≡ before
+abbrev pub WritesNothingElse : Status → Option (List ℕ) → Option (List ℕ) → Type 0
+WritesNothingElse Done before after = Unit {0}
+WritesNothingElse Usage before after = after ≡ before
+WritesNothingElse ReadFault before after = after ≡ before
+WritesNothingElse WriteFault before after = Unit {0}
+WritesNothingElse (BadTrace line why) before after = after ≡ before
+WritesNothingElse NoMemory before after = after ≡ before
 
 -- a cause in words
 abbrev pub why_words : TraceWhy → List ℕ

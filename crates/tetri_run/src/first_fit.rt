@@ -15,7 +15,12 @@ use tetri_space::{Instance, Offer};
 use tetri_strl::{Allotment, Expr, Grant};
 
 // Grants a job its fit, where that is worth something.
-fn grant_fit(alloc: Global, offer: &Offer, nodes: &mut OpenNodes, grants: &mut Allotment) -> Result<(), AllocError>
+fn grant_fit(
+    alloc: Global,
+    offer: &Offer,
+    nodes: &mut OpenNodes,
+    grants: &mut Allotment,
+) -> Result<(), AllocError>
     requires asks { AsksExactLeaf (tree offer.now.expr) }
     requires ascending { IsStrictlyIncreasing nodes.old }
     ensures ascending { OnOk result (IsStrictlyIncreasing nodes.new) }

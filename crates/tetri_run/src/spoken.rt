@@ -71,7 +71,10 @@ pub fn say<K: Sink>(alloc: Global, status: &Status, sink: &mut K) -> Result<(), 
 {
     match status {
         Status::Done => send_all(sink, b"")?,
-        Status::Usage => send_all(sink, b"usage: tetri plan TRACE | check TRACE REPORT | load N\n")?,
+        Status::Usage => send_all(
+            sink,
+            b"usage: tetri plan TRACE | check TRACE REPORT | load N\n",
+        )?,
         Status::ReadFault => send_all(sink, b"read fault\n")?,
         Status::WriteFault => send_all(sink, b"write fault\n")?,
         Status::BadTrace { line, why } => {

@@ -1,7 +1,7 @@
 // The words of the command line, and what is done for them.
 ghost use Rattle.std.specs.Prelude.{◌≡◌, ◌≢◌, ◌↔◌, ◌≤◌, ◌⊎◌, List, ℕ, Some, None, Ok, Err, ◌++◌, option_map};
 ghost use Rattle.tetri_algebra.specs.Counts.{Rose};
-ghost use Rattle.tetri_run.specs.Status.{Leads, Writes, WritesOnlyReports};
+ghost use Rattle.tetri_run.specs.Status.{IsPromised, Writes, WritesNothingElse};
 ghost use Rattle.tetri_trace.specs.declared.fault.TraceWhy.{TraceWhy};
 ghost use Rattle.tetri_run.specs.Words.{trace_asked, texts};
 ghost use Rattle.tetri_trace.specs.Lines.{scenario_in};
@@ -24,12 +24,17 @@ fn trace_asked(words: &[String]) -> Option<&str>
 }
 
 /// Does what the words ask: `plan TRACE` plans the trace of that name and writes its report.
-pub fn run<S: Shelf, K: Sink>(alloc: Global, words: &[String], shelf: &mut S, sink: &mut K) -> Status
+pub fn run<S: Shelf, K: Sink>(
+    alloc: Global,
+    words: &[String],
+    shelf: &mut S,
+    sink: &mut K,
+) -> Status
     ensures usage { (result ≡ Status.Usage) ↔ (trace_asked (texts words.now) ≡ None) }
     ensures promise { (name content : List ℕ) → trace_asked (texts words.now) ≡ Some name
         → S.told shelf.old name ≡ Some content
-        → Leads result (scenario_in content) (K.written sink.old) (K.written sink.new) }
-    ensures silent { WritesOnlyReports result (K.written sink.old) (K.written sink.new) }
+        → IsPromised result (scenario_in content) (K.written sink.old) (K.written sink.new) }
+    ensures silent { WritesNothingElse result (K.written sink.old) (K.written sink.new) }
 
     // A fault comes only where it was counted.
     ensures read { (name : List ℕ) → trace_asked (texts words.now) ≡ Some name → result ≡ Status.ReadFault
@@ -60,8 +65,8 @@ pub fn run<S: Shelf, K: Sink>(alloc: Global, words: &[String], shelf: &mut S, si
 pub fn run_plan<S: Shelf, K: Sink>(alloc: Global, name: &str, shelf: &mut S, sink: &mut K) -> Status
     ensures usage { result ≢ Status.Usage }
     ensures promise { (content : List ℕ) → S.told shelf.old name.now ≡ Some content
-        → Leads result (scenario_in content) (K.written sink.old) (K.written sink.new) }
-    ensures silent { WritesOnlyReports result (K.written sink.old) (K.written sink.new) }
+        → IsPromised result (scenario_in content) (K.written sink.old) (K.written sink.new) }
+    ensures silent { WritesNothingElse result (K.written sink.old) (K.written sink.new) }
     ensures read { result ≡ Status.ReadFault
         → Rose (S.faults shelf.old name.now) (S.faults shelf.new name.now) }
     ensures write { result ≡ Status.WriteFault → Rose (K.faults sink.old) (K.faults sink.new) }

@@ -1,14 +1,16 @@
 // Each public call once with ample memory.
-ghost use Rattle.std.specs.Prelude.{IfOk};
+ghost use Rattle.std.specs.Prelude.{◌≡◌, ◌∷◌, [], IfOk, false, true};
+ghost use Rattle.tetri_strl.specs.Tree.{greatest, join, more, none, one, tree, trees};
+ghost use Rattle.tetri_cluster.specs.declared.sets.Sets.{Sets};
 ghost use Rattle.tetri_space.specs.Sound.{IsSound};
 ghost use Rattle.tetri_space.specs.Space.{space};
 
-use crate::{Instance, free, tops, tops_bound_every_lawful_total, total};
+use crate::{Instance, Offer, free, tops, tops_bound_every_lawful_total, total};
 use std::alloc::{AllocError, Global};
 use std::rc::Rc;
 use std::test::Fail;
-use tetri_cluster::Sets;
-use tetri_strl::Allotment;
+use tetri_cluster::{NodeSet, Sets};
+use tetri_strl::{Allotment, Expr, Grant, Leaf, NodeList};
 
 // Slots 5 to 8 and no job: node 0 is idle, node 1 is busy until slot 7, and node 2 is drained.
 fn without_jobs(alloc: Global) -> Result<Instance, AllocError>
@@ -37,5 +39,114 @@ fn free_nodes(rt: HostRuntime) -> Result<(), Fail> {
     assert_eq!(rt; total(&inst, &Allotment::new(alloc)), 0);
     assert_eq!(rt; tops(&inst), 0);
     tops_bound_every_lawful_total(&inst);
+    Ok(())
+}
+
+fn one_set(alloc: Global) -> Result<Sets, AllocError>
+    ensures { IfOk result (λ sets. sets ≡ (0 ∷ 1 ∷ 2 ∷ []) ∷ []) }
+{
+    let mut nodes = NodeSet::new(alloc);
+    nodes.push(0)?;
+    nodes.push(1)?;
+    nodes.push(2)?;
+    let mut sets = Sets::new(alloc);
+    match sets.find_or_add(nodes) {
+        Ok(_) => Ok(sets),
+        Err(_) => Err(AllocError),
+    }
+}
+
+// 8 for 4 nodes from slot 5 on and 2 for each of fewer, or 20 for a node in slot 9
+fn wide(alloc: Global) -> Result<Expr, AllocError>
+    ensures { IfOk result (λ e. tree e ≡ join greatest
+        (more (one (record { num = 0; set = 0; k = 4; start = 5; dur = 2; v = 8; linear = true }))
+        (more (one (record { num = 1; set = 0; k = 1; start = 9; dur = 1; v = 20; linear = false })) none))) }
+{
+    let mut parts = Vec::new(alloc);
+    parts.push(Expr::One(Leaf {
+        num: 0,
+        set: 0,
+        k: 4,
+        start: 5,
+        dur: 2,
+        v: 8,
+        linear: true,
+    }))?;
+    parts.push(Expr::One(Leaf {
+        num: 1,
+        set: 0,
+        k: 1,
+        start: 9,
+        dur: 1,
+        v: 20,
+        linear: false,
+    }))?;
+    Ok(Expr::Max(parts))
+}
+
+// 4 for exactly 2 nodes in slot 6
+fn narrow() -> Expr
+    ensures { tree result ≡ one (record { num = 0; set = 0; k = 2; start = 6; dur = 1; v = 4; linear = false }) }
+{
+    Expr::One(Leaf {
+        num: 0,
+        set: 0,
+        k: 2,
+        start: 6,
+        dur: 1,
+        v: 4,
+        linear: false,
+    })
+}
+
+fn two_jobs(alloc: Global) -> Result<Instance, AllocError>
+    ensures { IfOk result (λ inst. IsSound (space inst)) }
+{
+    let mut jobs = Vec::new(alloc);
+    jobs.push(Offer {
+        job: 3,
+        expr: wide(alloc)?,
+    })?;
+    jobs.push(Offer {
+        job: 7,
+        expr: narrow(),
+    })?;
+    Ok(Instance {
+        now: 5,
+        window: 4,
+        nodes: 3,
+        sets: Rc::new(alloc, one_set(alloc)?)?,
+        busy_until: vec![in alloc; 5, 7, 5]?,
+        drained: vec![in alloc; false, false, true]?,
+        jobs,
+    })
+}
+
+fn put_grant(
+    a: &mut Allotment,
+    alloc: Global,
+    job: u32,
+    leaf: u32,
+    count: u32,
+) -> Result<(), AllocError> {
+    let mut nodes = NodeList::new(alloc);
+    for node in 0..count {
+        nodes.push(node)?;
+    }
+    a.push(Grant { job, leaf, nodes })
+}
+
+#[test]
+fn totals(rt: HostRuntime) -> Result<(), Fail> {
+    let alloc = rt.alloc();
+    let inst = two_jobs(alloc)?;
+    let mut a = Allotment::new(alloc);
+    put_grant(&mut a, alloc, 3, 0, 3)?;
+    put_grant(&mut a, alloc, 5, 0, 2)?;
+    put_grant(&mut a, alloc, 7, 0, 2)?;
+    assert_eq!(rt; total(&inst, &a), 10);
+    put_grant(&mut a, alloc, 3, 1, 1)?;
+    assert_eq!(rt; total(&inst, &a), 24);
+    assert_eq!(rt; tops(&inst), 12);
     Ok(())
 }

@@ -1,5 +1,5 @@
 -- The text of one `nCk` leaf over all nodes that starts at once.
-use Rattle.std.specs.Prelude.{ℕ, ◌+◌, ◌-◌, ◌*◌, ◌==◌, ◌||◌, ◌&&◌, List, [], ◌∷◌, drop, take, Bool, true, false, nat_le, nat_eq, if◌then◌else◌, Option, Some, None, codes, fold}
+use Rattle.std.specs.Prelude.{ℕ, ◌+◌, ◌-◌, ◌*◌, ◌==◌, ◌||◌, ◌&&◌, List, [], ◌∷◌, drop, take, length, Bool, true, false, nat_le, nat_eq, if◌then◌else◌, Option, Some, None, codes, fold}
 use Rattle.std.specs.List.{prefix_len, starts_with}
 use Rattle.tetri_strl.specs.declared.expr.Leaf.{Leaf}
 use Rattle.tetri_strl.specs.WellMade.{PEAK}
@@ -29,7 +29,7 @@ after_mark mark text = mark_first mark (skip_blanks text)
 
 -- what stands behind this word, where it comes first
 abbrev pub after_word : List ℕ → List ℕ → Option (List ℕ)
-after_word word text = if starts_with nat_eq (skip_blanks text) word then Some (drop 3 (skip_blanks text)) else None
+after_word word text = if starts_with nat_eq (skip_blanks text) word then Some (drop (length word) (skip_blanks text)) else None
 
 -- the number that decimal digits write
 abbrev pub numeral : List ℕ → ℕ

@@ -67,6 +67,6 @@ pub record IsSound (s : Scenario) : Type 0 where
   pub events_ascend : AllPairs (λ e f. e.at ≤ f.at) s.events
   pub in_run : All (λ e. e.at < s.header.until) s.events
   pub known : All (λ e. NamesKnown s e.what) s.events
-  -- each job arrives once, at its slot
+  -- each job arrives once, at its slot, in the order of the numbers
   pub arrivals : filter_map arrival_in s.events ≡ zip (map (λ j. j.arrival) s.submissions) (range_with_len 0 (length s.submissions))
   pub cancels : AllPairs (λ e f. CancelsNothingLater e.what f.what) s.events

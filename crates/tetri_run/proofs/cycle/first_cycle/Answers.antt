@@ -26,6 +26,7 @@ returns-clause-first c =
     record {
       number = refl;
       nothing = record { ended = c.new.ensures.items; cancelled = c.new-2.ensures.items; over = c.new-3.ensures.items; expired = c.new-4.ensures.items };
+      planned_by = same;
       good = record {
         lawful = subst (IsLawful s) (sym same) (first_fit_lawful s c.requires.sound c.requires.at_once c.requires.sets);
         thrifty = subst (IsThriftyForAll s) (sym same) (first_fit_thrifty s c.requires.sound c.requires.at_once c.requires.sets);

@@ -4,7 +4,7 @@ use Rattle.tetri_trace.specs.Scenario.{scenario}
 use Rattle.tetri_run.specs.OneCycle.{summary_of}
 use Rattle.tetri_run.specs.Opening.{opening_space}
 use Rattle.tetri_run.specs.Status.{report_text}
-use Rattle.tetri_run.proofs.Reported.{leads_from}
+use Rattle.tetri_run.proofs.Reported.{promised_from}
 use Rattle.tetri_run.proofs.top.run_plan.Goals as goal
 
 pub returns-clause-promise : goal.returns-clause-promise
@@ -13,4 +13,4 @@ returns-clause-promise g c = λ content told.
     let is = c.in-Ok-make_report.ensures in
     let text : c.in-Ok-make_report.report.cycle.items ++ c.in-Ok-make_report.report.summary.items ≡ report_text t is.run =
     ap (λ l. l ++ c.in-Ok-make_report.report.summary.items) is.cycle ∙ ap (λ l. cycle_text t is.run.cycle ++ l) is.summary in
-    leads_from c.write_report.result _ t is.run (c.in-Ok-make_report.report.cycle.items ++ c.in-Ok-make_report.report.summary.items) (g.K.Sink.written c.args.sink.now) (g.K.Sink.written c.write_report.new.sink) (c.in-Ok.ensures.exact content told) text c.write_report.ensures.writes
+    promised_from c.write_report.result _ t is.run (c.in-Ok-make_report.report.cycle.items ++ c.in-Ok-make_report.report.summary.items) (g.K.Sink.written c.args.sink.now) (g.K.Sink.written c.write_report.new.sink) (c.in-Ok.ensures.exact content told) text c.write_report.ensures.writes

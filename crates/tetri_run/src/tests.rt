@@ -1,0 +1,130 @@
+// Whole runs, from the bytes of a trace to the bytes of its report.
+use crate::{Status, run, say};
+use std::alloc::{AllocError, Global};
+use std::test::Fail;
+use tetri_io::{MemShelf, MemSink};
+use tetri_trace::TraceWhy;
+
+// The words `plan` and a trace's name.
+fn plan_words(alloc: Global) -> Result<Vec<String>, AllocError> {
+    let mut words = Vec::new(alloc);
+    words.push(String::from_str(alloc, "plan")?)?;
+    words.push(String::from_str(alloc, "trace")?)?;
+    Ok(words)
+}
+
+// Plans a content with a sink that takes 7 bytes at a time.
+fn planned(alloc: Global, content: &str, sink: &mut MemSink) -> Result<Status, AllocError> {
+    let mut shelf = MemShelf::new(alloc, 64, &[])?;
+    shelf.put("trace", content.as_bytes())?;
+    let words = plan_words(alloc)?;
+    Ok(run(alloc, words.as_slice(), &mut shelf, sink))
+}
+
+const FOUR: &str =
+    "{\"nodes\":[{\"name\":\"n1\"},{\"name\":\"n2\"},{\"name\":\"n3\"},{\"name\":\"n4\"}],\"window\":4,\"budget\":1000,\"until\":1}\n";
+
+const THREE: &str =
+    "{\"nodes\":[{\"name\":\"n1\"},{\"name\":\"n2\"},{\"name\":\"n3\"}],\"window\":4,\"budget\":1000,\"until\":1}\n";
+
+const NOT_BUILT: Status = Status::BadTrace {
+    line: 0,
+    why: TraceWhy::NotBuilt,
+};
+
+// A header, the lines of its jobs, the status and the report.
+fn examples() -> [(&'static str, &'static str, Status, &'static str); 5] {
+    [
+        (
+            FOUR,
+            "",
+            Status::Done,
+            "cycle 0\nplan 0 0 optimal 0\ntops 0 0\nsummary cycles=1 launched=0 ended=0 cancelled=0 expired=0 worth=0 optimal=1\n",
+        ),
+        (
+            FOUR,
+            "{\"at\":0,\"arrive\":\"j1\",\"strl\":\"nCk(*,2,0,1,3)\"}\n",
+            Status::Done,
+            "cycle 0\nplan 3 3 optimal 0\ngrant j1 0 0 n1,n2\ntops 0 0\nlaunch j1\nsummary cycles=1 launched=1 ended=0 cancelled=0 expired=0 worth=3 optimal=1\n",
+        ),
+        (
+            THREE,
+            "{\"at\":0,\"arrive\":\"j1\",\"strl\":\"nCk(*,2,0,1,2)\"}\n{\"at\":0,\"arrive\":\"j2\",\"strl\":\"nCk(*,2,0,1,2)\"}\n{\"at\":0,\"arrive\":\"j3\",\"strl\":\"nCk(*,2,0,1,2)\"}\n",
+            Status::Done,
+            "cycle 0\nplan 2 6 wide 0\ngrant j1 0 0 n1,n2\ntops 0 0\nlaunch j1\nsummary cycles=1 launched=1 ended=0 cancelled=0 expired=0 worth=2 optimal=0\n",
+        ),
+        (
+            FOUR,
+            "{\"at\":0,\"arrive\":\"j1\",\"strl\":\"nCk(*,5,0,1,2)\"}\n",
+            Status::Done,
+            "cycle 0\nplan 0 2 wide 0\ntops 0 0\nsummary cycles=1 launched=0 ended=0 cancelled=0 expired=0 worth=0 optimal=0\n",
+        ),
+        (
+            FOUR,
+            "{\"at\":0,\"arrive\":\"j1\",\"strl\":\"nCk(*,2,1,1,3)\"}\n",
+            NOT_BUILT,
+            "",
+        ),
+    ]
+}
+
+#[test]
+fn reports_are_written_to_the_byte(rt: HostRuntime) -> Result<(), Fail> {
+    let alloc = rt.alloc();
+    for (header, jobs, status, report) in examples() {
+        let mut content = String::from_str(alloc, header)?;
+        content.push_str(jobs)?;
+        let mut sink = MemSink::new(alloc, 7, 1000, &[])?;
+        let found = planned(alloc, content.as_str(), &mut sink)?;
+        assert!(rt; found == status, "of {jobs}");
+        assert_eq!(rt; sink.written(), report.as_bytes(), "of {jobs}");
+    }
+    Ok(())
+}
+
+#[test]
+fn a_failed_write_leaves_the_cycle(rt: HostRuntime) -> Result<(), Fail> {
+    let alloc = rt.alloc();
+    let mut sink = MemSink::new(alloc, 1000, 1000, &[2])?;
+    assert!(rt; planned(alloc, FOUR, &mut sink)? == Status::WriteFault);
+    assert_eq!(rt;
+        sink.written(),
+        b"cycle 0\nplan 0 0 optimal 0\ntops 0 0\n".as_slice()
+    );
+    Ok(())
+}
+
+#[test]
+fn a_failed_read_and_wrong_words_write_nothing(rt: HostRuntime) -> Result<(), Fail> {
+    let alloc = rt.alloc();
+    let mut shelf = MemShelf::new(alloc, 64, &[1])?;
+    shelf.put("trace", FOUR.as_bytes())?;
+    let mut sink = MemSink::new(alloc, 7, 100, &[])?;
+    let mut words = plan_words(alloc)?;
+    assert!(rt; run(alloc, words.as_slice(), &mut shelf, &mut sink) == Status::ReadFault);
+    words.push(String::from_str(alloc, "more")?)?;
+    assert!(rt; run(alloc, words.as_slice(), &mut shelf, &mut sink) == Status::Usage);
+    assert_eq!(rt; sink.written().len(), 0);
+    Ok(())
+}
+
+#[test]
+fn each_status_is_said(rt: HostRuntime) -> Result<(), Fail> {
+    let alloc = rt.alloc();
+    for (status, line) in [
+        (Status::Done, ""),
+        (
+            Status::Usage,
+            "usage: tetri plan TRACE | check TRACE REPORT | load N\n",
+        ),
+        (Status::ReadFault, "read fault\n"),
+        (Status::WriteFault, "write fault\n"),
+        (NOT_BUILT, "bad trace: line 0: not-built\n"),
+        (Status::NoMemory, "out of memory\n"),
+    ] {
+        let mut sink = MemSink::new(alloc, 7, 100, &[])?;
+        assert!(rt; say(alloc, &status, &mut sink).is_ok());
+        assert_eq!(rt; sink.written(), line.as_bytes());
+    }
+    Ok(())
+}
