@@ -1,10 +1,10 @@
 -- The first cycle may be printed.
-use Rattle.std.proofs.Common.{◌≡◌, ℕ, ◌<◌, Bool, true, false, cond, List, [], ◌∷◌, map, length, refl, sym, ap, ◌∙◌, subst, All, zero-add}
+use Rattle.std.proofs.Common.{ℕ, ◌<◌, Bool, true, false, cond, List, [], ◌∷◌, map, length, sym, ap, ◌∙◌, subst, All, zero-add}
 use Rattle.std.specs.Prelude.{filter}
 use Rattle.std.proofs.lemmas.List.{length-map}
 use Rattle.std.proofs.lemmas.List.Elements.{All-nil, All-cons, All-head, All-tail}
 use Rattle.tetri_strl.specs.declared.grants.Grant.{Grant}
-use Rattle.tetri_space.specs.Space.{Bid, Space}
+use Rattle.tetri_space.specs.Space.{Bid}
 use Rattle.tetri_state.specs.Launch.{launched_in, start_of, starts_now}
 use Rattle.tetri_report.specs.Block.{Block}
 use Rattle.tetri_report.specs.Printable.{AreJobs, ArePieces, IsPrintable}

@@ -1,16 +1,15 @@
 -- First fit, job by job.
-use Rattle.std.proofs.Common.{◌≡◌, ℕ, ◌+◌, ◌<◌, ◌≤◌, List, [], ◌∷◌, ◌++◌, map, length, drop, get_or, refl, sym, ap, ◌∙◌, subst, arith, All, append_assoc}
+use Rattle.std.proofs.Common.{◌≡◌, ℕ, ◌+◌, ◌<◌, List, [], ◌∷◌, ◌++◌, map, length, drop, get_or, sym, ap, ◌∙◌, subst, arith, All, append_assoc}
 use Rattle.std.proofs.lemmas.List.Elements.{All-head}
-use Rattle.tetri_strl.specs.declared.expr.Leaf.{Leaf}
 use Rattle.tetri_strl.specs.declared.grants.Grant.{Grant}
-use Rattle.tetri_strl.specs.Tree.{one, leaves}
+use Rattle.tetri_strl.specs.Tree.{leaves}
 use Rattle.tetri_strl.specs.WellMade.{IsSound as IsSoundTree}
 use Rattle.tetri_space.specs.Space.{Bid, Space, bid}
-use Rattle.tetri_space.specs.Sound.{IsSound, IsSoundBid, HasKnownSet}
+use Rattle.tetri_space.specs.Sound.{IsSoundBid, HasKnownSet}
 use Rattle.tetri_space.specs.declared.instance.Offer.{Offer}
 use Rattle.std.proofs.lemmas.List.{drop_more}
 use Rattle.tetri_advice.specs.Fit.{Placement, grants_of}
-use Rattle.tetri_run.specs.Opening.{AsksAtOnce, AllAskAtOnce, AsksExactLeaf}
+use Rattle.tetri_run.specs.Opening.{AsksAtOnce, AsksExactLeaf}
 use Rattle.tetri_run.specs.FirstFit.{placed, first_fit, first_fit_from, GotFit}
 
 -- a job that asks at once asks for one exact leaf

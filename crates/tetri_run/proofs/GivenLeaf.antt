@@ -10,7 +10,7 @@ use Rattle.std.proofs.lemmas.List.{get_or-take, length-take}
 use Rattle.std.proofs.lemmas.List.Elements.{All-contains, All-contains_itself, All-filter, All-take, All-weaker, filter_passes}
 use Rattle.std.proofs.lemmas.List.Kept.{IsStrictlyIncreasing-filter}
 use Rattle.tetri_strl.specs.declared.expr.Leaf.{Leaf}
-use Rattle.tetri_strl.specs.Tree.{one, leaves}
+use Rattle.tetri_strl.specs.Tree.{leaves}
 use Rattle.tetri_strl.specs.WellMade.{IsGoodLeaf}
 use Rattle.tetri_strl.specs.WellMade as made
 use Rattle.tetri_strl.proofs.WorthLemmas.{eq_from_test}

@@ -1,15 +1,14 @@
 -- What first fit places for one exact leaf.
-use Rattle.std.proofs.Common.{◌≡◌, ℕ, ◌+◌, ◌<◌, ◌≤◌, ◌==◌, ◌&&◌, Bool, true, false, cond, List, [], ◌∷◌, ◌++◌, map, length, refl, sym, ap, ◌∙◌, subst, arith, add-zero}
+use Rattle.std.proofs.Common.{◌≡◌, ℕ, ◌==◌, ◌&&◌, Bool, true, false, cond, List, [], ◌∷◌, ◌++◌, length, refl, sym, ap, ◌∙◌, subst, arith, add-zero}
 use Rattle.std.proofs.lemmas.Bool.{true≢false}
 use Rattle.std.proofs.lemmas.Bool.Decides.{nat_tests}
 use Rattle.tetri_strl.specs.declared.expr.Leaf.{Leaf}
 use Rattle.tetri_strl.specs.Tree.{one}
 use Rattle.tetri_strl.specs.WellMade.{IsGoodLeaf}
-use Rattle.tetri_strl.specs.Worth.{worth_at, leaf_worth, granted}
-use Rattle.tetri_strl.proofs.WorthLemmas.{worth_at-none}
+use Rattle.tetri_strl.specs.Worth.{worth_at}
 use Rattle.tetri_space.specs.Space.{Bid, Space}
-use Rattle.tetri_advice.specs.Fit.{Placement, fit, fit_of_leaf, fit_worth, grants_of, lowest, enough, is_live}
-use Rattle.std.proofs.Common.{Option, Some, None}
+use Rattle.tetri_advice.specs.Fit.{Placement, fit_of_leaf, fit_worth, grants_of, lowest, enough, is_live}
+use Rattle.std.proofs.Common.{Option, None}
 use Rattle.tetri_strl.specs.declared.grants.Grant.{Grant}
 use Rattle.tetri_greedy.specs.Open.{StartsAtOnce, IsOpenBeside, placement_of}
 use Rattle.tetri_run.specs.Opening.{AsksAtOnce, AsksExactLeaf}

@@ -1,5 +1,5 @@
 -- What is promised of a run of one cycle.
-use Rattle.std.specs.Prelude.{◌≡◌, ◌<◌, ◌⊎◌, ℕ, List, [], AllPairs, map, length}
+use Rattle.std.specs.Prelude.{◌≡◌, ◌<◌, ◌⊎◌, ℕ, [], AllPairs, map, length}
 use Rattle.tetri_strl.specs.declared.grants.Grant.{Grant}
 use Rattle.tetri_cert.specs.declared.mark.PlanMark.{PlanMark}
 use Rattle.tetri_cert.specs.declared.mark.PlanMark.TheVariants.{Optimal, Spent, Wide}
@@ -11,9 +11,7 @@ use Rattle.tetri_report.specs.declared.cycle.Summary.{Summary}
 use Rattle.tetri_space.specs.Space.{Space}
 use Rattle.tetri_space.specs.Total.{total_in}
 use Rattle.tetri_state.specs.Launch.{start_of, launched_in, worth_launched}
-use Rattle.tetri_trace.specs.Scenario.{Scenario}
 use Rattle.tetri_run.specs.FirstFit.{first_fit}
-use Rattle.tetri_run.specs.Opening.{opening_space}
 
 abbrev pub planned : Block → Planned
 planned b = record { value = b.value; bound = b.bound; mark = b.mark; nodes = b.nodes; grants = b.grants; certificate = b.certificate }

@@ -1,5 +1,5 @@
 -- The report of a run of one cycle, as its bytes.
-use Rattle.std.specs.Prelude.{◌≡◌, List, ℕ, ◌++◌}
+use Rattle.std.specs.Prelude.{◌≡◌}
 use Rattle.tetri_report.specs.Text.{cycle_text, summary_text}
 use Rattle.tetri_trace.specs.Scenario.{Scenario}
 use Rattle.tetri_run.specs.OneCycle.{summary_of}

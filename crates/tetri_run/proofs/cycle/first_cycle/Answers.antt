@@ -1,7 +1,5 @@
 use Rattle.std.proofs.Common.{◌≡◌, ◌∙◌, ap, sym, subst, refl, arith, length, map, AllPairs}
 use Rattle.std.specs.Prelude.{replicate}
-use Rattle.std.specs.List.Sorted.{IsStrictlyIncreasing}
-use Rattle.tetri_strl.specs.declared.grants.Grant.{Grant}
 use Rattle.tetri_claims.specs.Good.{IsThriftyForAll}
 use Rattle.tetri_space.specs.Lawful.{IsLawful}
 use Rattle.tetri_space.specs.Space.{space}

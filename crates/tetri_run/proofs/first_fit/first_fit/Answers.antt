@@ -1,12 +1,12 @@
-use Rattle.std.proofs.Common.{◌≡◌, ◌<◌, ◌++◌, [], ◌∷◌, ◌∙◌, ap, sym, subst, map, length, arith, refl, All}
+use Rattle.std.proofs.Common.{◌<◌, ◌++◌, [], ◌∙◌, ap, sym, subst, map, length, arith, All}
 use Rattle.std.proofs.lemmas.Bool.Decides.{nat_tests}
 use Rattle.std.proofs.lemmas.List.{length-map}
 use Rattle.tetri_greedy.specs.Open.{IsOpenBeside}
 use Rattle.tetri_greedy.proofs.Taken.{open_beside_nothing}
-use Rattle.tetri_space.specs.Space.{Bid, bid, space}
+use Rattle.tetri_space.specs.Space.{bid, space}
 use Rattle.tetri_space.specs.Sound.{IsSoundBid}
 use Rattle.tetri_space.proofs.BidLemmas.{bid_has}
-use Rattle.tetri_run.specs.FirstFit.{first_fit, first_fit_from}
+use Rattle.tetri_run.specs.FirstFit.{first_fit_from}
 use Rattle.tetri_run.specs.Opening.{AsksAtOnce}
 use Rattle.tetri_run.proofs.FirstFits.{asks_exact, first_set, fit_more}
 use Rattle.tetri_run.proofs.first_fit.first_fit.Goals as goal

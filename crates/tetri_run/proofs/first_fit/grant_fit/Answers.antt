@@ -1,4 +1,4 @@
-use Rattle.std.proofs.Common.{◌≡◌, ◌==◌, ◌∙◌, ap, false, Some, None, arith}
+use Rattle.std.proofs.Common.{◌∙◌, ap, Some, arith}
 use Rattle.std.proofs.lemmas.Bool.Decides.{nat_tests}
 use Rattle.tetri_strl.specs.Tree.{tree}
 use Rattle.tetri_strl.proofs.TreeLemmas.{tree-One}

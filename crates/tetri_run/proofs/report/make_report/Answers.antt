@@ -1,11 +1,11 @@
-use Rattle.std.proofs.Common.{◌≡◌, ◌∙◌, ap, sym, subst}
+use Rattle.std.proofs.Common.{◌∙◌, ap, sym, subst}
 use Rattle.tetri_report.specs.Block.{block}
 use Rattle.tetri_report.specs.Text.{summary_text}
 use Rattle.tetri_space.specs.Space.{space}
 use Rattle.tetri_space.specs.Sound.{IsSound}
 use Rattle.tetri_trace.specs.Scenario.{scenario}
 use Rattle.tetri_run.specs.OneCycle.{IsFirstCycle, summary_of}
-use Rattle.tetri_run.specs.Opening.{AllAskAtOnce, opening_space}
+use Rattle.tetri_run.specs.Opening.{AllAskAtOnce}
 use Rattle.tetri_run.proofs.FirstCycles.{first_cycle_printable}
 use Rattle.tetri_run.proofs.OpeningLemmas.{opening_space_sound, opening_asks_at_once}
 use Rattle.tetri_run.proofs.report.make_report.Goals as goal

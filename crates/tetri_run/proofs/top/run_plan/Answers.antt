@@ -1,8 +1,6 @@
 use Rattle.std.proofs.Common.{◌≡◌, ◌∙◌, ◌++◌, ap}
-use Rattle.tetri_report.specs.Text.{cycle_text, summary_text}
+use Rattle.tetri_report.specs.Text.{cycle_text}
 use Rattle.tetri_trace.specs.Scenario.{scenario}
-use Rattle.tetri_run.specs.OneCycle.{summary_of}
-use Rattle.tetri_run.specs.Opening.{opening_space}
 use Rattle.tetri_run.specs.Status.{report_text}
 use Rattle.tetri_run.proofs.Reported.{promised_from}
 use Rattle.tetri_run.proofs.top.run_plan.Goals as goal
