@@ -1,9 +1,9 @@
 -- The fit of an expression: greedily, the lowest nodes that are free beside what is held already.
-use Rattle.std.specs.Prelude.{ℕ, ◌+◌, ◌==◌, ◌&&◌, ◌||◌, List, [], ◌∷◌, ◌++◌, map, filter, take, length, slice_index, slice_get, Bool, true, false, not, nat_lt, nat_le, if◌then◌else◌, Option, Some, None}
-use Rattle.std.specs.List.{list_any, list_all}
+use Rattle.std.specs.Prelude.{ℕ, ◌+◌, ◌==◌, ◌&&◌, List, [], ◌∷◌, ◌++◌, map, filter, take, length, slice_index, slice_get, Bool, true, false, not, nat_lt, nat_le, if◌then◌else◌, Option, Some, None}
+use Rattle.std.specs.List.{list_any}
 use Rattle.tetri_strl.specs.declared.expr.Leaf.{Leaf}
 use Rattle.tetri_strl.specs.declared.grants.Grant.{Grant}
-use Rattle.tetri_strl.specs.Tree.{Operator, greatest, least, added, Tree, one, join, scale, barrier, Trees, none, more}
+use Rattle.tetri_strl.specs.Tree.{greatest, least, added, Tree, one, join, scale, barrier, Trees, none, more}
 use Rattle.tetri_strl.specs.Worth.{worth_of}
 use Rattle.tetri_space.specs.Space.{Space, set_of}
 

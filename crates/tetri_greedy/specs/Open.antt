@@ -1,5 +1,5 @@
 -- What is open to leaves that start at once.
-use Rattle.std.specs.Prelude.{◌≡◌, ◌≤◌, ℕ, List, [], ◌∷◌, filter, Option, Some, None, false}
+use Rattle.std.specs.Prelude.{◌≡◌, ◌≤◌, ℕ, List, [], ◌∷◌, filter, Option, Some, None}
 use Rattle.tetri_strl.specs.declared.expr.Leaf.{Leaf}
 use Rattle.tetri_space.specs.Space.{Space, set_of}
 use Rattle.tetri_advice.specs.Fit.{Placement, is_available}

@@ -1,9 +1,8 @@
 //! `tetri plan TRACE` plans the trace in a file and writes its report to standard output.
 #![tactic(auto)]
 
-use std::env;
-use std::io;
 use std::process::ExitCode;
+use std::{env, io};
 use tetri_io::{FileShelf, StdSink};
 use tetri_run::{Status, run, say};
 

@@ -22,7 +22,13 @@ pub(crate) fn add_cycle_line(out: &mut String, number: u32) -> Result<(), AllocE
 }
 
 #[tactic(auto, unfolding(crate::specs::Text::plan_line))]
-pub(crate) fn add_plan_line(out: &mut String, value: u64, bound: u64, mark: PlanMark, nodes: u32) -> Result<(), AllocError>
+pub(crate) fn add_plan_line(
+    out: &mut String,
+    value: u64,
+    bound: u64,
+    mark: PlanMark,
+    nodes: u32,
+) -> Result<(), AllocError>
     ensures { OnOk result (string_bytes out.new ≡ string_bytes out.old ++ plan_line value bound mark nodes) }
 {
     write!(out, "plan {value} {bound} {mark} {nodes}\n")
@@ -49,7 +55,12 @@ fn name_of(trace: &Trace, job: u32) -> &str
     trace.jobs[job as usize].name.text()
 }
 
-pub(crate) fn add_job_lines(out: &mut String, trace: &Trace, word: &str, jobs: &[u32]) -> Result<(), AllocError>
+pub(crate) fn add_job_lines(
+    out: &mut String,
+    trace: &Trace,
+    word: &str,
+    jobs: &[u32],
+) -> Result<(), AllocError>
     requires { AreJobs (scenario trace.now) jobs.now }
     ensures { OnOk result (string_bytes out.new ≡ string_bytes out.old ++ flat_map (job_line (scenario trace.entry.now) word.now) jobs.now) }
 {
@@ -59,7 +70,12 @@ pub(crate) fn add_job_lines(out: &mut String, trace: &Trace, word: &str, jobs: &
     Ok(())
 }
 
-pub(crate) fn add_piece_lines(out: &mut String, trace: &Trace, word: &str, pieces: &[PieceId]) -> Result<(), AllocError>
+pub(crate) fn add_piece_lines(
+    out: &mut String,
+    trace: &Trace,
+    word: &str,
+    pieces: &[PieceId],
+) -> Result<(), AllocError>
     requires { ArePieces (scenario trace.now) pieces.now }
     ensures { OnOk result (string_bytes out.new ≡ string_bytes out.old ++ flat_map (piece_line (scenario trace.entry.now) word.now) pieces.now) }
 {
@@ -86,7 +102,12 @@ fn add_nodes(out: &mut String, cluster: &Cluster, nodes: &[u32]) -> Result<(), A
 }
 
 #[tactic(auto, unfolding(crate::specs::Text::granted_line))]
-fn add_grant_line(out: &mut String, trace: &Trace, grant: &Grant, start: u32) -> Result<(), AllocError>
+fn add_grant_line(
+    out: &mut String,
+    trace: &Trace,
+    grant: &Grant,
+    start: u32,
+) -> Result<(), AllocError>
     requires { IsPrintableGrant (scenario trace.now) grant.now }
     ensures { OnOk result (string_bytes out.new ≡ string_bytes out.old ++ grant_line (scenario trace.entry.now) grant.now start) }
 {
@@ -97,7 +118,12 @@ fn add_grant_line(out: &mut String, trace: &Trace, grant: &Grant, start: u32) ->
     out.push_str("\n")
 }
 
-pub(crate) fn add_grant_lines(out: &mut String, trace: &Trace, grants: &[Grant], starts: &[u32]) -> Result<(), AllocError>
+pub(crate) fn add_grant_lines(
+    out: &mut String,
+    trace: &Trace,
+    grants: &[Grant],
+    starts: &[u32],
+) -> Result<(), AllocError>
     requires printable { All (IsPrintableGrant (scenario trace.now)) grants.now }
     requires starts { length starts.now ≡ length grants.now }
     ensures { OnOk result (string_bytes out.new ≡ string_bytes out.old ++ grant_lines (scenario trace.entry.now) grants.now starts.now) }

@@ -6,7 +6,9 @@ ghost use Rattle.tetri_report.specs.Text.{happened_text, cycle_text};
 ghost use Rattle.tetri_trace.specs.Scenario.{scenario};
 
 use crate::Cycle;
-use crate::lines::{add_cycle_line, add_grant_lines, add_job_lines, add_piece_lines, add_plan_line};
+use crate::lines::{
+    add_cycle_line, add_grant_lines, add_job_lines, add_piece_lines, add_plan_line,
+};
 use std::alloc::{AllocError, Global};
 use tetri_cert::print_onto;
 use tetri_trace::Trace;

@@ -1,5 +1,5 @@
 -- What is launched after a plan.
-use Rattle.std.specs.Prelude.{ℕ, ◌==◌, ◌&&◌, List, map, filter, Bool, false, Option, Some, None, sum_by}
+use Rattle.std.specs.Prelude.{ℕ, ◌==◌, ◌&&◌, List, map, filter, Bool, Option, Some, None, sum_by}
 use Rattle.std.specs.List.{list_any}
 use Rattle.tetri_strl.specs.declared.expr.Leaf.{Leaf}
 use Rattle.tetri_strl.specs.declared.grants.Grant.{Grant}

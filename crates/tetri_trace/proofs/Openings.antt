@@ -1,20 +1,20 @@
 -- A trace of one cycle is sound.
-use Rattle.std.proofs.Common.{◌≡◌, ℕ, zero, suc, ◌+◌, ◌<◌, ◌≤◌, Bool, true, false, List, [], ◌∷◌, ◌++◌, map, length, get_or, refl, sym, ap, subst, ◌∙◌, arith, add-zero, zero-add, add-one, All, AllPairs, Contains, pos, negsuc, ◌≤ℤ◌, lit≤}
+use Rattle.std.proofs.Common.{◌≡◌, ℕ, zero, suc, ◌+◌, ◌<◌, ◌≤◌, true, List, [], ◌∷◌, ◌++◌, map, length, get_or, refl, sym, ap, ◌∙◌, arith, add-zero, zero-add, add-one, All, lit≤}
 use Rattle.std.specs.List.{range_with_len, zip, filter_map}
 use Rattle.std.specs.List.Sorted.{IsStrictlyIncreasing}
 use Rattle.std.proofs.lemmas.Int.{ints}
 use Rattle.std.proofs.lemmas.List.FromFn.{length-range_with_len, get_or-range_with_len, length-map-range_with_len, get_or-map-range_with_len}
-use Rattle.std.proofs.lemmas.List.Elements.{All-nil, All-cons, All-head, All-tail, All-weaker}
-use Rattle.tetri_cluster.specs.Names.{is_name, differ}
+use Rattle.std.proofs.lemmas.List.Elements.{All-nil, All-cons, All-head, All-tail}
+use Rattle.tetri_cluster.specs.Names.{differ}
 use Rattle.tetri_cluster.specs.Sets.{AreSets}
-use Rattle.tetri_strl.specs.Tree.{one, leaves}
+use Rattle.tetri_strl.specs.Tree.{one}
 use Rattle.tetri_strl.specs.declared.expr.Leaf.{Leaf}
 use Rattle.tetri_strl.specs.WellMade.{IsSound, IsWellMade}
 use Rattle.tetri_trace.specs.declared.trace.Event.{Event}
 use Rattle.tetri_trace.specs.Draft.{HeadData}
 use Rattle.tetri_trace.specs.Lines.{opening, opening_sets, arrival_of}
-use Rattle.tetri_trace.specs.Opening.{IsOpeningLeaf, IsOpeningSubmission, IsSoundHead}
-use Rattle.tetri_trace.specs.Scenario.{Submission, Scenario, strl, expr_of, job_names}
+use Rattle.tetri_trace.specs.Opening.{IsOpeningSubmission, IsSoundHead}
+use Rattle.tetri_trace.specs.Scenario.{Submission, job_names}
 use Rattle.tetri_trace.specs.Sound as sound
 use Rattle.tetri_trace.specs.Sound.{IsSoundSubmission, NamesKnown, CancelsNothingLater, arrival_in}
 

@@ -1,5 +1,5 @@
 -- What the JSON objects of a trace say.
-use Rattle.std.specs.Prelude.{ℕ, ◌&&◌, ℤ, pos, negsuc, List, [], ◌∷◌, ◌++◌, map, length, Bool, true, false, not, nat_le, is_some, is_none, if◌then◌else◌, Option, Some, None, option_map, option_and_then, ok_or, Result, Ok, Err, codes}
+use Rattle.std.specs.Prelude.{ℕ, ◌&&◌, ℤ, pos, negsuc, List, [], ◌∷◌, ◌++◌, length, Bool, true, false, not, nat_le, is_some, is_none, if◌then◌else◌, Option, Some, None, option_map, option_and_then, ok_or, Result, Ok, Err, codes}
 use Rattle.std.specs.Str.{is_utf8}
 use Rattle.serde_json.specs.Data.{Data, null, boolean, number, string, array, object, Items, no_items, item}
 use Rattle.serde_json.specs.Read.{read}
@@ -15,7 +15,6 @@ use Rattle.tetri_trace.specs.Scenario.{Submission, strl}
 use Rattle.tetri_trace.specs.Draft.{HeadData}
 use Rattle.tetri_trace.specs.declared.fault.TraceWhy.{TraceWhy}
 use Rattle.tetri_trace.specs.declared.fault.TraceWhy.TheVariants.{NotBuilt}
-use Rattle.tetri_trace.specs.declared.trace.Header.{Header}
 
 -- the name that a value is
 abbrev pub name_in : Data → Option (List ℕ)

@@ -1,10 +1,9 @@
 -- The trace that the bytes of a content are, one step a line.
-use Rattle.std.specs.Prelude.{ℕ, ◌==◌, ◌||◌, pos, List, [], ◌∷◌, ◌++◌, map, length, Bool, nat_lt, nat_le, if◌then◌else◌, Option, Some, None, Result, Ok, Err}
+use Rattle.std.specs.Prelude.{ℕ, ◌==◌, ◌||◌, List, [], ◌∷◌, ◌++◌, map, length, Bool, nat_lt, nat_le, if◌then◌else◌, Option, Some, None, Result, Ok, Err}
 use Rattle.std.specs.List.{list_all, range_with_len}
 use Rattle.serde_json.specs.Data.{Data}
 use Rattle.tetri_io.specs.Lines.{lines_from}
 use Rattle.tetri_cluster.specs.Names.{is_among}
-use Rattle.tetri_cluster.specs.declared.cluster.NodeText.{NodeText}
 use Rattle.tetri_trace.specs.Answers.{◌>>=◌}
 use Rattle.tetri_trace.specs.Fields.{head_in, submission_in, object_in}
 use Rattle.tetri_trace.specs.Draft.{HeadData, Part}

@@ -1,5 +1,5 @@
 -- Input of the form that is built so far: one cycle, and single `nCk` leaves over all nodes that start at once.
-use Rattle.std.specs.Prelude.{◌≡◌, ◌≤◌, ℕ, pos, false, true, All, length, map, Option}
+use Rattle.std.specs.Prelude.{◌≡◌, ◌≤◌, pos, false, true, All, length}
 use Rattle.std.specs.Option.{ForSome}
 use Rattle.tetri_strl.specs.declared.expr.Leaf.{Leaf}
 use Rattle.tetri_strl.specs.Tree.{one}

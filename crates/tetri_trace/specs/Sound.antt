@@ -1,5 +1,5 @@
 -- Which traces are sound.
-use Rattle.std.specs.Prelude.{◌≡◌, ◌<◌, ◌≤◌, ℕ, ℤ, pos, negsuc, ◌≤ℤ◌, true, List, map, All, AllPairs, length, Option, Some, None}
+use Rattle.std.specs.Prelude.{◌≡◌, ◌<◌, ◌≤◌, ℕ, pos, negsuc, ◌≤ℤ◌, true, map, All, AllPairs, length, Option, Some, None}
 use Rattle.std.specs.List.{filter_map, zip, range_with_len}
 use Rattle.tetri_strl.specs.Tree.{leaves}
 use Rattle.tetri_strl.specs.WellMade.{IsWellMade}

@@ -82,7 +82,9 @@ fn numeral(digits: &[u8]) -> u64
 {
     let mut value = 0u64;
     for digit in digits {
-        value = value.saturating_mul(10).saturating_add(u64::from(digit.saturating_sub(b'0')));
+        value = value
+            .saturating_mul(10)
+            .saturating_add(u64::from(digit.saturating_sub(b'0')));
     }
     value
 }

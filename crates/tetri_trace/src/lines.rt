@@ -42,7 +42,11 @@ fn add_job(draft: Draft, job: Job) -> Result<Draft, Stop>
     ensures gives { Gives part result (with_submission (part draft) (submission job)) }
     ensures sound { IfOk result IsSoundDraft }
 {
-    let Draft { head, mut names, mut jobs } = draft;
+    let Draft {
+        head,
+        mut names,
+        mut jobs,
+    } = draft;
     if jobs.len() >= JOBS_MOST {
         return Err(Stop::Because(TraceWhy::NotBuilt));
     }

@@ -61,7 +61,11 @@ pub(crate) fn ended(alloc: Global, draft: Draft) -> Result<Trace, Stop>
     ensures sound { IfOk result (λ t. IsSound (scenario t)) }
     ensures opening { IfOk result (λ t. IsOpening (scenario t)) }
 {
-    let Draft { head, names: _, jobs } = draft;
+    let Draft {
+        head,
+        names: _,
+        jobs,
+    } = draft;
     let Some(head) = head else {
         return Err(Stop::Because(TraceWhy::NotBuilt));
     };

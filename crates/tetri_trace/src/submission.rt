@@ -7,7 +7,9 @@ ghost use Rattle.tetri_trace.specs.Fields.{is_plain_arrival, submission_in};
 ghost use Rattle.tetri_trace.specs.Scenario.{submission};
 
 use crate::fault::{Stop, TraceWhy};
-use crate::field::{has_key, is_absent, leaf_of_value, name_in, read_name, required, required_number};
+use crate::field::{
+    has_key, is_absent, leaf_of_value, name_in, read_name, required, required_number,
+};
 use crate::trace::{Job, Work};
 use serde_json::Value;
 use std::alloc::Global;
@@ -16,7 +18,11 @@ use tetri_strl::Expr;
 fn is_plain_arrival(object: &Value) -> bool
     ensures { result ≡ is_plain_arrival (view object.now) }
 {
-    is_absent(object, "late") && !has_key(object, "ask") && !has_key(object, "cancel") && !has_key(object, "drain") && !has_key(object, "undrain")
+    is_absent(object, "late")
+        && !has_key(object, "ask")
+        && !has_key(object, "cancel")
+        && !has_key(object, "drain")
+        && !has_key(object, "undrain")
 }
 
 /// The job that an object brings.

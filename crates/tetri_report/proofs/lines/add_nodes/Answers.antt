@@ -1,4 +1,4 @@
-use Rattle.std.proofs.Common.{◌≡◌, ◌<◌, ◌∷◌, All, subst, length, ℕ, List}
+use Rattle.std.proofs.Common.{◌≡◌, ◌<◌, ◌∷◌, All, subst, length, ℕ}
 use Rattle.std.proofs.lemmas.List.Elements.{All-tail}
 use Rattle.tetri_report.proofs.lines.add_nodes.Goals as goal
 

@@ -1,6 +1,5 @@
-use Rattle.std.proofs.Common.{◌≡◌, ◌<◌, ◌∙◌, ap, sym, length, arith, map}
+use Rattle.std.proofs.Common.{◌<◌, ◌∙◌, ap, sym, length}
 use Rattle.std.proofs.lemmas.List.{length-map}
-use Rattle.tetri_trace.specs.Scenario.{submission}
 use Rattle.tetri_report.proofs.Names.{job_name-at}
 use Rattle.tetri_report.proofs.lines.name_of.Goals as goal
 

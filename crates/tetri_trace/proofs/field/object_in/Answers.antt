@@ -1,4 +1,4 @@
-use Rattle.std.proofs.Common.{◌∙◌, rules, sym}
+use Rattle.std.proofs.Common.{◌∙◌, sym}
 use Rattle.std.proofs.lemmas.Bool.{false≢true}
 use Rattle.tetri_trace.proofs.Objects.{not_json, is_json, is_object, no_object}
 use Rattle.tetri_trace.proofs.field.object_in.Goals as goal

@@ -1,4 +1,4 @@
-use Rattle.std.proofs.Common.{◌≡◌, refl, ◌<◌, ◌∙◌, ap, sym, not, map, length, ◌++◌, ◌∷◌, [], arith}
+use Rattle.std.proofs.Common.{◌≡◌, refl, ◌<◌, ◌∙◌, ap, not, map, length, ◌++◌, ◌∷◌, [], arith}
 use Rattle.std.proofs.lemmas.List.{length-map}
 use Rattle.tetri_trace.specs.Draft.{part}
 use Rattle.tetri_trace.specs.Scenario.{submission, job_names}

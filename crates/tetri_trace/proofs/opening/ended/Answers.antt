@@ -2,10 +2,9 @@ use Rattle.std.proofs.Common.{◌≡◌, map, sym, ap, ◌∙◌, subst, length}
 use Rattle.std.specs.Prelude.{option_map}
 use Rattle.std.specs.List.{range_with_len}
 use Rattle.std.proofs.lemmas.List.{length-map}
-use Rattle.tetri_trace.specs.Draft.{part, head}
+use Rattle.tetri_trace.specs.Draft.{head}
 use Rattle.tetri_trace.specs.Lines.{opening_sets, arrival_of}
-use Rattle.tetri_trace.specs.Opening.{IsOpening}
-use Rattle.tetri_trace.specs.Scenario.{Scenario, scenario, submission}
+use Rattle.tetri_trace.specs.Scenario.{submission}
 use Rattle.tetri_trace.specs.Sound.{IsSound}
 use Rattle.tetri_trace.proofs.Openings.{opening-same, opening_is_sound}
 use Rattle.tetri_trace.proofs.opening.ended.Goals as goal

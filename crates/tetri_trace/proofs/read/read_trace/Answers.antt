@@ -1,8 +1,7 @@
-use Rattle.std.proofs.Common.{◌≡◌, ◌∙◌, ap, sym, subst, List, ℕ, drop, length, ◌<◌, ◌≤◌}
+use Rattle.std.proofs.Common.{◌∙◌, ap, drop, length, ◌<◌, ◌≤◌}
 use Rattle.tetri_io.specs.Lines.{line_of}
-use Rattle.tetri_trace.specs.Answers.{Fails}
 use Rattle.tetri_trace.specs.Draft.{part}
-use Rattle.tetri_trace.specs.Lines.{at_line_zero, scenario_in}
+use Rattle.tetri_trace.specs.Lines.{at_line_zero}
 use Rattle.tetri_trace.proofs.Ends.{at_end, fails_at_zero, goes_too_long}
 use Rattle.tetri_trace.proofs.read.read_trace.Goals as goal
 

@@ -1,4 +1,4 @@
-use Rattle.std.proofs.Common.{◌≡◌, ◌≤◌, ◌+◌, ◌-◌, ◌^◌, ◌<◌, List, ℕ, drop}
+use Rattle.std.proofs.Common.{◌≡◌, ◌≤◌, ◌-◌, List, ℕ, drop}
 use Rattle.std.specs.Prelude.{Some}
 use Rattle.tetri_io.specs.Lines.{lines_from}
 use Rattle.tetri_trace.specs.Draft.{part}

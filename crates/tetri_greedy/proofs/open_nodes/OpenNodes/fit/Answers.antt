@@ -1,6 +1,3 @@
-use Rattle.std.proofs.Common.{subst, sym, ◌≡◌, take, drop, ◌++◌, ◌∷◌, [], List, ℕ}
-use Rattle.tetri_advice.specs.Fit.{Placement}
-use Rattle.tetri_greedy.specs.Open.{IsOpenBeside}
 use Rattle.tetri_greedy.proofs.Taken.{open_beside_more}
 use Rattle.tetri_greedy.proofs.open_nodes.OpenNodes.fit.Goals as goal
 

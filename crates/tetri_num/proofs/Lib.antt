@@ -1,0 +1,13 @@
+pub mod Common
+pub mod Signed
+pub mod SumForms
+pub mod ProductForms
+pub mod Values
+pub mod Checks
+pub mod Compares
+pub mod Short
+pub mod Zeros
+pub mod Fracs
+pub mod Greatest
+pub mod Binary
+pub mod Words

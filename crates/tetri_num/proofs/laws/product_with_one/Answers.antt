@@ -1,0 +1,8 @@
+use Rattle.tetri_num.proofs.Zeros.{checked_product-one_right, checked_product-one_left}
+use Rattle.tetri_num.proofs.laws.product_with_one.Goals as goal
+
+pub returns-clause-right : goal.returns-clause-right
+returns-clause-right c = checked_product-one_right
+
+pub returns-clause-left : goal.returns-clause-left
+returns-clause-left c = checked_product-one_left

@@ -1,0 +1,5 @@
+pub mod Range
+pub mod Lowest
+pub mod Forms
+pub mod Frac
+pub mod Checked
