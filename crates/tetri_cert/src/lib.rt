@@ -6,3 +6,6 @@ mod mark;
 
 pub use certificate::{Certificate, print_onto};
 pub use mark::PlanMark;
+
+#[cfg(test)]
+mod tests;

@@ -4,3 +4,6 @@
 mod open_nodes;
 
 pub use open_nodes::OpenNodes;
+
+#[cfg(test)]
+mod tests;

@@ -9,3 +9,6 @@ mod summary;
 pub use cycle::{Cycle, Summary};
 pub use print::print_cycle;
 pub use summary::print_summary;
+
+#[cfg(test)]
+mod tests;
