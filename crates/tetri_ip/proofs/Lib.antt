@@ -1,0 +1,6 @@
+pub mod Signed
+pub mod Duality
+pub mod Coefficients
+pub mod Steps
+pub mod Formed
+pub mod Sides

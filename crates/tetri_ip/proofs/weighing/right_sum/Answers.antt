@@ -1,0 +1,26 @@
+use Rattle.std.proofs.Common.{◌<◌, sym, ◌∙◌, arith, length, get_or, rules}
+use Rattle.std.proofs.lemmas.Int.{to_z-of_z}
+use mir.Val.{SFits}
+use mir.Syntax.{w128}
+use lib.IntN.{pos}
+use Rattle.tetri_ip.specs.declared.programs.Weight.{Weight}
+use Rattle.tetri_ip.proofs.Steps.{right_next, right_none}
+use Rattle.tetri_ip.proofs.weighing.right_sum.Goals as goal
+
+pub loop-w-preserved : goal.loop-w-preserved
+loop-w-preserved c =
+    let d : Weight = record { row = 0; by = pos 0 } in
+    let l : c.loop-w.w-index < length c.args.weights.now = omega arith in
+    let k : (get_or c.args.weights.now c.loop-w.w-index d).row < length c.args.p.now.rows.items = c.requires c.loop-w.w-index d l in
+    let f : SFits w128 (get_or c.args.weights.now c.loop-w.w-index d).by = search rules in
+    let h : SFits w128 c.index.result.now.right = search rules in
+    sym (right_next _ _ _ d c.index.result.now _ _ _ c.in-Some.next _ _ l k c.index.ensures (to_z-of_z _ _ f) (to_z-of_z _ _ h) c.add_product.ensures c.in-Some.is (λ u. to_z-of_z _ _ u)) ∙ c.loop-w.invariant
+
+pub returns-in_default : goal.returns-in_default
+returns-in_default c =
+    let d : Weight = record { row = 0; by = pos 0 } in
+    let l : c.loop-w.w-index < length c.args.weights.now = omega arith in
+    let k : (get_or c.args.weights.now c.loop-w.w-index d).row < length c.args.p.now.rows.items = c.requires c.loop-w.w-index d l in
+    let f : SFits w128 (get_or c.args.weights.now c.loop-w.w-index d).by = search rules in
+    let h : SFits w128 c.index.result.now.right = search rules in
+    right_none _ _ _ d c.index.result.now _ _ _ _ l k c.index.ensures (to_z-of_z _ _ f) (to_z-of_z _ _ h) c.add_product.ensures c.in_default.is ∙ c.loop-w.invariant

@@ -1,0 +1,3 @@
+pub mod Points
+pub mod Weighed
+pub mod Forming
