@@ -59,11 +59,11 @@ pub leaf_worth-none : (a : List Grant) (job : ℕ) (l : Leaf) → IsGoodLeaf l �
 leaf_worth-none a job l good nothing = ap (worth_at l) nothing ∙ worth_at-none l good
 
 -- all are 0
-abbrev AreZero : List ℕ → Type 0
+abbrev pub AreZero : List ℕ → Type 0
 AreZero [] = Unit {0}
 AreZero (x ∷ xs) = (x ≡ 0) × AreZero xs
 
-greatest_of-zero : (xs : List ℕ) → AreZero xs → greatest_of xs ≡ 0
+pub greatest_of-zero : (xs : List ℕ) → AreZero xs → greatest_of xs ≡ 0
 greatest_of-zero [] h = refl
 greatest_of-zero (x ∷ xs) h = omega (arith, h.0, greatest_of-zero xs h.1)
 
@@ -75,7 +75,7 @@ least_from-zero : (m : ℕ) (xs : List ℕ) → m ≡ 0 → AreZero xs → least
 least_from-zero m [] e h = e
 least_from-zero m (x ∷ xs) e h = least_from-zero (min m x) xs (omega (arith, e)) h.1
 
-joined-zero : (op : Operator) (xs : List ℕ) → AreZero xs → joined op xs ≡ 0
+pub joined-zero : (op : Operator) (xs : List ℕ) → AreZero xs → joined op xs ≡ 0
 joined-zero greatest xs h = greatest_of-zero xs h
 joined-zero added xs h = added_of-zero xs h
 joined-zero least [] h = refl

@@ -1,3 +1,12 @@
+pub mod AlignedLemmas
 pub mod GrantLemmas
+pub mod OneStart
+pub mod PartsApart
+pub mod PruneLemmas
+pub mod ThriftyLemmas
 pub mod TreeLemmas
+pub mod TrimLemmas
+pub mod TrimThrift
+pub mod TrimWorth
+pub mod WasteLemmas
 pub mod WorthLemmas

@@ -41,3 +41,15 @@ abbrev mutual
   pub AreAligned : Trees → Type 0
   AreAligned none = Unit {0}
   AreAligned (more t ts) = IsAligned t × AreAligned ts
+
+abbrev mutual
+  -- the start of the first leaf
+  pub first_start : Tree → ℕ
+  first_start (one l) = l.start
+  first_start (join op ts) = first_start_of ts
+  first_start (scale t s) = first_start t
+  first_start (barrier t v) = first_start t
+
+  pub first_start_of : Trees → ℕ
+  first_start_of none = 0
+  first_start_of (more t ts) = first_start t

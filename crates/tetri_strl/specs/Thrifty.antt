@@ -1,6 +1,7 @@
 -- Which allotments are thrifty for an expression.
 use Rattle.std.specs.Prelude.{◌≡◌, ℕ, ◌==◌, ◌⊎◌, List, [], ◌∷◌, Contains, filter, map}
 use Rattle.tetri_strl.specs.declared.expr.Leaf.{Leaf}
+use Rattle.tetri_strl.specs.Aligned.{EachLeaf}
 use Rattle.tetri_strl.specs.declared.grants.Grant.{Grant}
 use Rattle.tetri_strl.specs.Tree.{Operator, greatest, least, added, Tree, one, join, scale, barrier, Trees, none, more, numbers, numbers_of}
 use Rattle.tetri_strl.specs.Worth.{joined, worth_by, worths_by, leaf_worth}
@@ -42,3 +43,7 @@ held_leaves a job = map (λ g. g.leaf) (filter (λ g. g.job == job) a)
 -- the job's grants are thrifty for its expression
 abbrev pub IsThriftyFor : List Grant → ℕ → Tree → Type 0
 IsThriftyFor a job t = IsThrifty (leaf_worth a job) (held_leaves a job) t
+
+-- all leaves of the job that have a grant start in one slot
+abbrev pub HasOneHeldStart : List Grant → ℕ → Tree → Type 0
+HasOneHeldStart a job t = (s : ℕ) × EachLeaf (λ l. Contains (held_leaves a job) l.num → l.start ≡ s) t

@@ -1,9 +1,12 @@
 // Values of worked allotments, and each public call once with ample memory.
 ghost use Rattle.std.specs.Prelude.{◌≡◌, ◌≤◌, IfOk, false, true};
-ghost use Rattle.tetri_strl.specs.Tree.{Operator, join, one, tree, trees};
-ghost use Rattle.tetri_strl.specs.WellMade.{IsSound};
+ghost use Rattle.tetri_strl.specs.Tree.{Operator, greatest, join, more, none, one, tree, trees};
+ghost use Rattle.tetri_strl.specs.WellMade.{IsSound, IsWellMade};
 
-use crate::{Allotment, Expr, Grant, Leaf, NodeList, copy_expr, top_in, worth, worth_among};
+use crate::{
+    Allotment, Expr, Grant, Leaf, NodeList, aligned, copy_expr, copy_grants, prune,
+    thrifty_grants_start_together, top_in, trim, waste, waste_among, worth, worth_among,
+};
 use std::alloc::{AllocError, Global};
 use std::process::Abort;
 use std::test::Fail;
@@ -160,5 +163,101 @@ fn copies(rt: HostRuntime) -> Result<(), Fail> {
         panic!(rt; "no sum");
     };
     assert_eq!(rt; parts.len(), 2);
+    Ok(())
+}
+
+#[test]
+fn alignment(rt: HostRuntime) -> Result<(), Fail> {
+    let alloc = rt.alloc();
+    assert!(rt; aligned(&linear()));
+    assert!(rt; aligned(&Expr::Sum(both(alloc, 3)?)));
+    assert!(rt; !aligned(&Expr::Sum(both(alloc, 5)?)));
+    assert!(rt; !aligned(&Expr::Min(both(alloc, 5)?)));
+    assert!(rt; aligned(&Expr::Max(both(alloc, 5)?)));
+    Ok(())
+}
+
+// How many parts are left of a join in the slots from `from` to `to - 1`; none where it is lost.
+fn parts_left(alloc: Global, e: &Expr, from: u32, to: u32) -> Result<Option<usize>, AllocError>
+    requires { IsSound (tree e.now) }
+{
+    match prune(alloc, e, from, to)? {
+        Some(Expr::Max(parts)) | Some(Expr::Min(parts)) | Some(Expr::Sum(parts)) => {
+            Ok(Some(parts.len()))
+        }
+        Some(_) => Ok(Some(0)),
+        None => Ok(None),
+    }
+}
+
+#[test]
+fn pruning(rt: HostRuntime) -> Result<(), Fail> {
+    let alloc = rt.alloc();
+    let greatest = Expr::Max(both(alloc, 5)?);
+    assert_eq!(rt; parts_left(alloc, &greatest, 3, 6)?, Some(2));
+    assert_eq!(rt; parts_left(alloc, &greatest, 4, 6)?, Some(1));
+    assert_eq!(rt; parts_left(alloc, &greatest, 4, 5)?, None);
+    assert_eq!(rt; parts_left(alloc, &Expr::Min(both(alloc, 5)?), 4, 6)?, None);
+    assert_eq!(rt;
+        parts_left(alloc, &Expr::Sum(both(alloc, 5)?), 4, 6)?,
+        Some(1)
+    );
+    assert_eq!(rt; parts_left(alloc, &scaled(alloc, 2)?, 0, 3)?, None);
+    assert_eq!(rt; parts_left(alloc, &barred(alloc, 2)?, 3, 4)?, Some(0));
+    Ok(())
+}
+
+// 8 for 4 nodes in slot 3 and 2 for each of fewer, or 4 for exactly 2 nodes
+fn either(alloc: Global) -> Result<Expr, AllocError>
+    ensures { IfOk result (λ e. tree e ≡ join greatest
+        (more (one (record { num = 0; set = 0; k = 4; start = 3; dur = 1; v = 8; linear = true }))
+        (more (one (record { num = 1; set = 0; k = 2; start = 3; dur = 1; v = 4; linear = false })) none))) }
+{
+    let mut parts = Vec::new(alloc);
+    parts.push(linear())?;
+    parts.push(exact(3))?;
+    Ok(Expr::Max(parts))
+}
+
+fn well_made(alloc: Global) -> Result<Expr, AllocError>
+    ensures { IfOk result (λ e. IsWellMade (tree e)) }
+{
+    either(alloc)
+}
+
+// Each row has the nodes of the linear leaf, those of the exact one, the place of the first grant that
+// earns nothing, and the leaf that is left.
+fn check_trims(
+    rt: &impl Abort,
+    alloc: Global,
+    e: &Expr,
+    rows: &[(u32, u32, u64, u32)],
+) -> Result<(), AllocError>
+    requires { IsWellMade (tree e.now) }
+{
+    for (linear, exact, place, left) in rows {
+        let a = allotment(alloc, *linear, *exact)?;
+        assert_eq!(rt; waste(e, 1, &a), Some(*place));
+        let made = trim(alloc, e, 1, &copy_grants(alloc, &a)?)?;
+        assert_eq!(rt; made.as_slice().len(), 1);
+        assert_eq!(rt; made.as_slice()[0].leaf, *left);
+        assert_eq!(rt; waste_among(e, 1, made.as_slice()), None);
+    }
+    Ok(())
+}
+
+#[test]
+fn thrift(rt: HostRuntime) -> Result<(), Fail> {
+    let alloc = rt.alloc();
+    let e = well_made(alloc)?;
+    thrifty_grants_start_together(&e);
+    check_trims(
+        &rt,
+        alloc,
+        &e,
+        &[(1, 2, 1, 1), (2, 2, 2, 0), (3, 2, 2, 0), (0, 2, 1, 1)],
+    )?;
+    let nothing = trim(alloc, &e, 1, &allotment(alloc, 0, 1)?)?;
+    assert!(rt; nothing.as_slice().is_empty());
     Ok(())
 }
