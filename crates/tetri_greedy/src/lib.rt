@@ -1,9 +1,10 @@
 //! Greedy fits of requests.
 #![tactic(auto)]
 
-mod open_nodes;
+mod fits;
+mod fitted;
+mod held;
 
-pub use open_nodes::OpenNodes;
-
-#[cfg(test)]
-mod tests;
+pub use fits::fit;
+pub use fitted::Placements;
+pub use held::HeldSlots;

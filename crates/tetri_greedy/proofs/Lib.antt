@@ -1,0 +1,4 @@
+pub mod Free
+pub mod Masks
+pub mod Placing
+pub mod Steps

@@ -1,0 +1,9 @@
+use Rattle.std.proofs.Common.{◌≡◌, ◌<◌, All, drop, length}
+use Rattle.tetri_greedy.specs.Held.{marked}
+use Rattle.tetri_greedy.proofs.held.HeldSlots.hold.Given as goal
+
+abbrev pub invariant-loop-node : goal.invariant-loop-node
+invariant-loop-node l = record {
+  so_far : marked l.self-inside.masks.items l.slots (drop l.node-index l.nodes) ≡ marked l.fn.self l.slots l.nodes;
+  as_many : length l.self-inside.masks.items ≡ length l.fn.self;
+}
