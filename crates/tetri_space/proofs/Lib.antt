@@ -1,6 +1,10 @@
 pub mod BidLemmas
+pub mod ClashLemmas
 pub mod JobLemmas
 pub mod LawLemmas
 pub mod LawfulLemmas
 pub mod LeafLemmas
+pub mod NodeLemmas
+pub mod RuleLemmas
+pub mod SearchLemmas
 pub mod TotalLemmas

@@ -1,3 +1,4 @@
+pub mod Broken
 pub mod Free
 pub mod Lawful
 pub mod Sound

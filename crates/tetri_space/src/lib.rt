@@ -1,15 +1,20 @@
 //! The instance of one cycle: what is free, and what the pending jobs ask for.
 #![tactic(auto)]
 
+mod clashes;
 mod free_nodes;
 mod instance;
 mod laws;
+mod leaves;
+mod nodes;
+mod rules;
 mod runs;
 mod totals;
 
 pub use free_nodes::free;
 pub use instance::{Instance, Offer};
 pub use laws::tops_bound_every_lawful_total;
+pub use rules::{Rule, Unlawful, lawful};
 pub use totals::{tops, total};
 
 #[cfg(test)]
