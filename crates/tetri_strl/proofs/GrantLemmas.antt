@@ -37,7 +37,7 @@ module _ (value other : Leaf → ℕ) (same : (l : Leaf) → value l ≡ other l
     worth_by-same (scale t s) = ap (λ n. s * n) (worth_by-same t)
     worth_by-same (barrier t v) = ap (λ n. cond (nat_le v n) v 0) (worth_by-same t)
 
-    worths_by-same : (ts : Trees) → worths_by value ts ≡ worths_by other ts
+    pub worths_by-same : (ts : Trees) → worths_by value ts ≡ worths_by other ts
     worths_by-same none = refl
     worths_by-same (more t ts) = ap (λ n. n ∷ worths_by value ts) (worth_by-same t) ∙ ap (λ ns. worth_by other t ∷ ns) (worths_by-same ts)
 

@@ -3,6 +3,7 @@ pub mod GrantLemmas
 pub mod OneStart
 pub mod PartsApart
 pub mod PruneLemmas
+pub mod ThriftOfOthers
 pub mod ThriftyLemmas
 pub mod TreeLemmas
 pub mod TrimLemmas

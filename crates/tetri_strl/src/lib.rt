@@ -19,7 +19,7 @@ pub use laws::thrifty_grants_start_together;
 pub use pruning::prune;
 pub use starts::aligned;
 pub use tops::top_in;
-pub use trimming::trim;
+pub use trimming::{idle_leaves, trim};
 pub use wasting::{waste, waste_among};
 pub use worths::{worth, worth_among};
 

@@ -22,8 +22,7 @@ pub fn trim(alloc: Global, e: &Expr, job: u32, a: &Allotment) -> Result<Allotmen
     ensures thrifty { IfOk result (λ made. IsThriftyFor made job (tree e.now)) }
     ensures worth { IfOk result (λ made. worth_of made job (tree e.now) ≡ worth_of a.now job (tree e.now)) }
 {
-    let mut idle = Vec::new(alloc);
-    add_idle(e, job, a.as_slice(), &mut idle)?;
+    let idle = idle_leaves(alloc, e, job, a.as_slice())?;
     let mut made = Allotment::new(alloc);
     for grant in a.as_slice() {
         if is_earning(grant, job, &idle) {
@@ -31,6 +30,22 @@ pub fn trim(alloc: Global, e: &Expr, job: u32, a: &Allotment) -> Result<Allotmen
         }
     }
     Ok(made)
+}
+
+/// The numbers of the leaves whose grants earn nothing, as `trim` says it. Its only error is want of
+/// memory.
+pub fn idle_leaves(
+    alloc: Global,
+    e: &Expr,
+    job: u32,
+    grants: &[Grant],
+) -> Result<Vec<u32>, AllocError>
+    requires { IsSound (tree e.now) }
+    ensures { IfOk result (λ ns. ns.items ≡ idle (leaf_worth grants.now job) (tree e.now)) }
+{
+    let mut idle = Vec::new(alloc);
+    add_idle(e, job, grants, &mut idle)?;
+    Ok(idle)
 }
 
 fn is_earning(grant: &Grant, job: u32, idle: &[u32]) -> bool

@@ -12,11 +12,8 @@ use Rattle.tetri_strl.proofs.trimming.trim.Goals as goal
 
 pub returns-clause-list : goal.returns-clause-list
 returns-clause-list c =
-    let idle_is =
-    c.in_ok-add_idle.ensures
-    ∙ ap (λ ns. ns ++ idle (leaf_worth c.as_slice.result.now c.args.job) (tree c.args.e.now)) c.new-idle.ensures.items
-    ∙ ap (λ a. idle (leaf_worth a c.args.job) (tree c.args.e.now)) c.as_slice.ensures in
-    let left = ap (λ gs. c.loop-grant.made ++ filter (earns c.args.job c.add_idle.new.out.items) gs)
+    let idle_is = c.in_ok-idle.ensures ∙ ap (λ a. idle (leaf_worth a c.args.job) (tree c.args.e.now)) c.as_slice.ensures in
+    let left = ap (λ gs. c.loop-grant.made ++ filter (earns c.args.job c.in_ok-idle.idle.items) gs)
     (drop_all c.loop-grant.grant-index _ c.loop-grant-test.false) in
     sym (append-nil c.loop-grant.made) ∙ sym left ∙ c.loop-grant.invariant ∙ ap (λ ns. filter (earns c.args.job ns) c.args.a.now) idle_is
 
