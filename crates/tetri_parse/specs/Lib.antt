@@ -1,0 +1,10 @@
+pub mod Answers
+pub mod Tokens
+pub mod Rows
+pub mod SetText
+pub mod Phrase
+pub mod Grammar
+pub mod Settling
+pub mod Expression
+pub mod Written
+pub mod ReadTree

@@ -1,0 +1,16 @@
+//! The text of expressions and of sets of nodes: read to its first fault, and printed.
+#![tactic(auto)]
+
+mod fault;
+mod nodes;
+mod number;
+mod peak;
+mod read;
+mod reading;
+mod set_text;
+mod settling;
+mod syntax;
+mod token;
+
+pub use fault::{Fault, ParseFault};
+pub use read::{read_expr, read_set};

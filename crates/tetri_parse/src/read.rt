@@ -1,0 +1,119 @@
+// The texts of expressions and of sets.
+ghost use Rattle.std.specs.Prelude.{◌≡◌, ◌<◌, ◌≤◌, ◌+◌, All, length, take, map, None, IfOk, OnErr};
+ghost use Rattle.std.specs.List.{range_with_len};
+ghost use Rattle.tetri_strl.specs.Aligned.{EachLeaf};
+ghost use Rattle.tetri_strl.specs.Tree.{tree, numbers, leaves};
+ghost use Rattle.tetri_strl.specs.WellMade.{IsWellMade};
+ghost use Rattle.tetri_parse.specs.Answers.{Gives, Answers, fault_in};
+ghost use Rattle.tetri_parse.specs.Expression.{expression, expression_left, node_set, node_set_left};
+ghost use Rattle.tetri_parse.specs.ReadTree.{AreWithin, IsReadTree};
+
+use crate::fault::{Fault, ParseFault, Stop};
+use crate::reading::whole;
+use crate::set_text::set_nodes;
+use crate::settling::{Terms, settle, settle_set};
+use crate::token::{missed, skip_blanks};
+use std::alloc::Global;
+use tetri_cluster::{Cluster, Sets};
+use tetri_strl::Expr;
+
+fn parse_fault(text: &[u8], stop: Stop) -> ParseFault
+    ensures { result ≡ fault_in text.now stop }
+{
+    match stop {
+        Stop::Missed(miss) => ParseFault::At {
+            offset: text.len().saturating_sub(miss.left) as u64,
+            fault: miss.fault,
+        },
+        Stop::NoMemory => ParseFault::NoMemory,
+    }
+}
+
+#[tactic(auto, unfolding(crate::specs::Expression::expression_left))]
+fn read_parts(
+    alloc: Global,
+    text: &[u8],
+    terms: Terms,
+    cluster: &Cluster,
+    sets: &mut Sets,
+) -> Result<Expr, Stop>
+    requires { (terms.unit ≤ 1000000) × (terms.arrival ≤ 10000) }
+    ensures value { Gives (λ e. (tree e, sets.new)) result (expression_left text.entry.now terms.unit terms.arrival cluster.entry.now sets.old) }
+    ensures kept { take (length sets.old) sets.new ≡ sets.old }
+    ensures good { IfOk result (λ e. IsReadTree terms.arrival (length sets.new) (tree e)) }
+    ensures within { IfOk result (λ _. AreWithin (length cluster.entry.now) sets.old → AreWithin (length cluster.entry.now) sets.new) }
+{
+    let syntax = whole(alloc, cluster, text)?;
+    settle(alloc, terms, None, &syntax, sets)
+}
+
+/// The expression that a text says. Its values are multiplied by the unit, its slots are counted
+/// from the arrival on, its leaves are numbered from 0 in the order of the text, and its sets are
+/// numbered in `sets`, where new ones come last. `At` comes exactly with the first fault of the text;
+/// any refusal leaves the sets as they were.
+pub fn read_expr(
+    alloc: Global,
+    text: &[u8],
+    unit: u64,
+    arrival: u32,
+    cluster: &Cluster,
+    sets: &mut Sets,
+) -> Result<Expr, ParseFault>
+    requires unit { (1 ≤ unit) × (unit ≤ 1000000) }
+    requires arrival { arrival ≤ 10000 }
+    ensures value { Answers (λ e. (tree e, sets.new)) result (expression text.entry.now unit arrival cluster.entry.now sets.old) }
+    ensures refused { OnErr result (sets.new ≡ sets.old) }
+    ensures kept { take (length sets.old) sets.new ≡ sets.old }
+    ensures well_made { IfOk result (λ e. IsWellMade (tree e)) }
+    ensures starts { IfOk result (λ e. EachLeaf (λ l. (arrival ≤ l.start) × (l.start ≤ arrival + 10000)) (tree e)) }
+    ensures numbered { IfOk result (λ e. numbers (tree e) ≡ range_with_len 0 (length (leaves (tree e)))) }
+    ensures known { IfOk result (λ e. EachLeaf (λ l. l.set < length sets.new) (tree e)) }
+    ensures within { AreWithin (length cluster.entry.now) sets.old → AreWithin (length cluster.entry.now) sets.new }
+{
+    let held = sets.len();
+    let result = read_parts(alloc, text, Terms { unit, arrival }, cluster, sets);
+    match result {
+        Ok(expr) => Ok(expr),
+        Err(stop) => {
+            sets.truncate(held);
+            Err(parse_fault(text, stop))
+        }
+    }
+}
+
+#[tactic(auto, unfolding(crate::specs::Expression::node_set_left))]
+fn read_nodes(alloc: Global, text: &[u8], cluster: &Cluster, sets: &mut Sets) -> Result<u32, Stop>
+    ensures value { Gives (λ n. (n, sets.new)) result (node_set_left text.entry.now cluster.entry.now sets.old) }
+    ensures err { OnErr result (sets.new ≡ sets.old) }
+    ensures kept { take (length sets.old) sets.new ≡ sets.old }
+    ensures number { IfOk result (λ n. n < length sets.new) }
+    ensures within { AreWithin (length cluster.entry.now) sets.old → AreWithin (length cluster.entry.now) sets.new }
+{
+    let start = skip_blanks(text);
+    let (nodes, rest) = set_nodes(alloc, cluster, start)?;
+    let rest = skip_blanks(rest);
+    if !rest.is_empty() {
+        return Err(missed(Fault::Trailing, rest));
+    }
+    settle_set(alloc, start.len(), &nodes, sets)
+}
+
+/// The number of the set that a text says, a new one last. `At` comes exactly with the first fault of
+/// the text; any refusal leaves the sets as they were.
+pub fn read_set(
+    alloc: Global,
+    text: &[u8],
+    cluster: &Cluster,
+    sets: &mut Sets,
+) -> Result<u32, ParseFault>
+    ensures value { Answers (λ n. (n, sets.new)) result (node_set text.entry.now cluster.entry.now sets.old) }
+    ensures refused { OnErr result (sets.new ≡ sets.old) }
+    ensures kept { take (length sets.old) sets.new ≡ sets.old }
+    ensures number { IfOk result (λ n. n < length sets.new) }
+    ensures within { AreWithin (length cluster.entry.now) sets.old → AreWithin (length cluster.entry.now) sets.new }
+{
+    match read_nodes(alloc, text, cluster, sets) {
+        Ok(set) => Ok(set),
+        Err(stop) => Err(parse_fault(text, stop)),
+    }
+}

@@ -1,0 +1,204 @@
+// The first pass: what a text spells.
+ghost use Rattle.std.specs.Prelude.{ℕ, ◌+◌, ◌<◌, ◌≤◌, length, IfOk};
+ghost use Rattle.tetri_parse.specs.Answers.{Gives};
+ghost use Rattle.tetri_parse.specs.Grammar.{leaf_at, part_with_number, goes_on_to_child, children_at, body_at, expr_at, whole_at};
+ghost use Rattle.tetri_parse.specs.Rows.{row_at};
+ghost use Rattle.tetri_parse.specs.Phrase.{phrase, phrases, line_up};
+ghost use Rattle.tetri_parse.specs.Written.{IsLeafFrom, HasPart, IsBody, AreSpelled, IsSpelled};
+
+use crate::fault::{Fault, Miss, Stop};
+use crate::number::number;
+use crate::set_text::set_nodes;
+use crate::syntax::{Join, LeafText, Syntax};
+use crate::token::{Word, first_word, goes_on, mark, missed, skip_blanks};
+use std::alloc::Global;
+use tetri_cluster::Cluster;
+
+const MAX_LEVELS: u32 = 64;
+
+const MAX_LEAVES: u32 = 128;
+
+const MAX_VALUE: u64 = 1_000_000_000_000;
+
+#[tactic(auto, unfolding(crate::specs::Grammar::leaf_at))]
+fn leaf<'t>(
+    alloc: Global,
+    cluster: &Cluster,
+    linear: bool,
+    num: u32,
+    left: usize,
+    text: &'t [u8],
+) -> Result<(LeafText, &'t [u8]), Stop>
+    requires { num < 128 }
+    ensures value { Gives (λ x. (x.0, x.1.now)) result (leaf_at cluster.now linear num left text.now) }
+    ensures good { IfOk result (λ x. IsLeafFrom (length cluster.now) num x.0 (num + 1)) }
+{
+    let set_text = skip_blanks(mark(b'(', text)?);
+    let (nodes, text) = set_nodes(alloc, cluster, set_text)?;
+    let (k, text) = number(1, 4096, mark(b',', text)?)?;
+    let (start, text) = number(0, 10_000, mark(b',', text)?)?;
+    let (dur, text) = number(1, 10_000, mark(b',', text)?)?;
+    let value_text = skip_blanks(mark(b',', text)?);
+    let (v, text) = number(0, MAX_VALUE, value_text)?;
+    let text = mark(b')', text)?;
+    let leaf = LeafText {
+        num,
+        linear,
+        nodes,
+        k: k as u32,
+        start: start as u32,
+        dur: dur as u32,
+        v,
+        left,
+        set_left: set_text.len(),
+        value_left: value_text.len(),
+    };
+    Ok((leaf, text))
+}
+
+/// The expression that stands first, whose leaves are numbered from `taken` on, how many leaves were
+/// read then, and what stands behind it.
+#[cycle(reading)]
+#[tactic(auto, using(crate::proofs::Grammars::deeper), unfolding(crate::specs::Grammar::expr_at))]
+fn expr<'t>(
+    alloc: Global,
+    cluster: &Cluster,
+    levels: u32,
+    taken: u32,
+    text: &'t [u8],
+) -> Result<(Syntax, u32, &'t [u8]), Stop>
+    ensures value { Gives (λ x. (phrase x.0, (x.1, x.2.now))) result (expr_at cluster.now levels (taken, text.now)) }
+    ensures good { IfOk result (λ x. IsSpelled (length cluster.now) levels taken (phrase x.0) x.1) }
+{
+    let start = skip_blanks(text);
+    let (word, text) = first_word(start)?;
+    if levels == 0 {
+        return Err(missed(Fault::TooDeep, start));
+    }
+    body(alloc, cluster, levels - 1, word, start.len(), taken, text)
+}
+
+#[cycle(reading)]
+#[tactic(auto, using(crate::proofs::Grammars::phrase_equations), unfolding(crate::specs::Grammar::body_at))]
+fn body<'t>(
+    alloc: Global,
+    cluster: &Cluster,
+    levels: u32,
+    word: Word,
+    left: usize,
+    taken: u32,
+    text: &'t [u8],
+) -> Result<(Syntax, u32, &'t [u8]), Stop>
+    ensures value { Gives (λ x. (phrase x.0, (x.1, x.2.now))) result (body_at cluster.now (expr_at cluster.now levels) word left taken text.now) }
+    ensures good { IfOk result (λ x. IsBody (length cluster.now) levels taken (phrase x.0) x.1) }
+{
+    match word {
+        Word::Leaf { linear } => {
+            if taken >= MAX_LEAVES {
+                return Err(Stop::Missed(Miss {
+                    fault: Fault::TooManyLeaves,
+                    left,
+                }));
+            }
+            let (leaf, text) = leaf(alloc, cluster, linear, taken, left, text)?;
+            Ok((Syntax::Leaf(leaf), taken + 1, text))
+        }
+        Word::Join(join) => {
+            let (parts, taken, text) = children(alloc, cluster, levels, taken, text)?;
+            Ok((Syntax::Join(join, left, parts), taken, text))
+        }
+        Word::Scale => {
+            let (part, by, taken, text) = with_number(alloc, cluster, levels, taken, text)?;
+            Ok((Syntax::Scale(left, Box::new(alloc, part)?, by), taken, text))
+        }
+        Word::Barrier => {
+            let (part, least, taken, text) = with_number(alloc, cluster, levels, taken, text)?;
+            Ok((
+                Syntax::Barrier(left, Box::new(alloc, part)?, least),
+                taken,
+                text,
+            ))
+        }
+    }
+}
+
+#[cycle(reading)]
+#[tactic(auto, unfolding(crate::specs::Grammar::part_with_number))]
+fn with_number<'t>(
+    alloc: Global,
+    cluster: &Cluster,
+    levels: u32,
+    taken: u32,
+    text: &'t [u8],
+) -> Result<(Syntax, u64, u32, &'t [u8]), Stop>
+    ensures value { Gives (λ x. ((phrase x.0, x.1), (x.2, x.3.now))) result (part_with_number cluster.now (expr_at cluster.now levels) taken text.now) }
+    ensures good { IfOk result (λ x. IsSpelled (length cluster.now) levels taken (phrase x.0) x.2 × (x.1 ≤ 1000000000000)) }
+{
+    let text = mark(b'(', text)?;
+    let (part, taken, text) = expr(alloc, cluster, levels, taken, text)?;
+    let (number, text) = number(0, MAX_VALUE, mark(b',', text)?)?;
+    let text = mark(b')', text)?;
+    Ok((part, number, taken, text))
+}
+
+#[cycle(reading)]
+#[tactic(auto, unfolding(crate::specs::Grammar::children_at))]
+fn children<'t>(
+    alloc: Global,
+    cluster: &Cluster,
+    levels: u32,
+    taken: u32,
+    text: &'t [u8],
+) -> Result<(Vec<Syntax>, u32, &'t [u8]), Stop>
+    ensures value { Gives (λ x. (phrases x.0.items, (x.1, x.2.now))) result (children_at cluster.now (expr_at cluster.now levels) taken text.now) }
+    ensures good { IfOk result (λ x. HasPart (line_up (phrases x.0.items)) × AreSpelled (length cluster.now) levels taken (line_up (phrases x.0.items)) x.1) }
+{
+    let text = mark(b'(', text)?;
+    child_row(alloc, cluster, levels, taken, text)
+}
+
+// Children with commas between, up to the closing parenthesis.
+#[cycle(reading)]
+fn child_row<'t>(
+    alloc: Global,
+    cluster: &Cluster,
+    levels: u32,
+    taken: u32,
+    text: &'t [u8],
+) -> Result<(Vec<Syntax>, u32, &'t [u8]), Stop>
+    ensures value { Gives (λ x. (phrases x.0.items, (x.1, x.2.now))) result
+        (row_at (expr_at cluster.now levels) (goes_on_to_child cluster.now) (length text.now) (taken, text.now)) }
+    ensures good { IfOk result (λ x. HasPart (line_up (phrases x.0.items)) × AreSpelled (length cluster.now) levels taken (line_up (phrases x.0.items)) x.1) }
+{
+    let mut parts = Vec::new(alloc);
+    let mut leaves = taken;
+    let mut rest = text;
+    for _ in 0..text.len() {
+        let (part, held, after) = expr(alloc, cluster, levels, leaves, rest)?;
+        parts.push(part)?;
+        let (more, after) = goes_on(b')', after)?;
+        leaves = held;
+        rest = after;
+        if !more {
+            return Ok((parts, leaves, rest));
+        }
+    }
+    Err(Stop::Missed(Miss {
+        fault: Fault::Ended,
+        left: 0,
+    }))
+}
+
+/// What the text spells as one expression, with nothing behind it.
+#[tactic(auto, unfolding(crate::specs::Grammar::whole_at))]
+pub(crate) fn whole(alloc: Global, cluster: &Cluster, text: &[u8]) -> Result<Syntax, Stop>
+    ensures value { Gives phrase result (whole_at cluster.now text.now) }
+    ensures good { IfOk result (λ p. (to : ℕ) × IsSpelled (length cluster.now) 64 0 (phrase p) to) }
+{
+    let (made, _, rest) = expr(alloc, cluster, MAX_LEVELS, 0, text)?;
+    let rest = skip_blanks(rest);
+    if !rest.is_empty() {
+        return Err(missed(Fault::Trailing, rest));
+    }
+    Ok(made)
+}
