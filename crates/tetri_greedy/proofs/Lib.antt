@@ -1,4 +1,6 @@
 pub mod Free
+pub mod Marks
 pub mod Masks
+pub mod Overlaps
 pub mod Placing
 pub mod Steps

@@ -1,44 +1,116 @@
--- First fit is lawful, thrifty and in the jobs' order, where each job asks for one exact leaf at once.
-use Rattle.std.proofs.Common.{◌≡◌, ℕ, ◌+◌, ◌<◌, ◌==◌, ◌&&◌, ◌||◌, inl, inr, Bool, true, false, not, List, [], ◌∷◌, ◌++◌, get_or, suc, All, AllPairs, Contains, refl, sym, ap, ◌∙◌, subst, arith, append-nil, nat_lt}
+-- First fit is lawful, thrifty and in order.
+use Rattle.std.proofs.Common.{◌≡◌, ◌≢◌, ℕ, ◌+◌, ◌<◌, ◌≤◌, ◌==◌, ◌&&◌, ◌||◌, inl, inr, Bool, true, false, cond, List, [], ◌∷◌, ◌++◌, length, map, get_or, suc, All, AllPairs, Contains, refl, sym, ap, ◌∙◌, subst, arith, nat_le, nat_lt}
+use Rattle.std.specs.Prelude.{filter, Option, None, Some}
 use Rattle.std.specs.List.{list_any}
+use Rattle.std.specs.Option.{ForSome, IsSomeAnd}
 use Rattle.std.specs.List.Sorted.{IsStrictlyIncreasing}
 use Rattle.std.proofs.lemmas.Bool.{true≢false}
 use Rattle.std.proofs.lemmas.Bool.Decides.{nat_tests}
-use Rattle.std.proofs.lemmas.List.Elements.{All-nil, All-cons, All-head, All-tail, All-append, All-contains, All-contains_itself, All-weaker}
-use Rattle.std.proofs.lemmas.List.Kept.{AllPairs-cons}
+use Rattle.std.proofs.lemmas.List.Elements.{All-nil, All-cons, All-head, All-tail, All-append, All-contains, All-contains_itself, All-map, All-weaker, Contains-append_cases}
 use Rattle.std.proofs.lemmas.List.Folds.{list_any-append, list_any_at}
+use Rattle.std.proofs.lemmas.List.Kept.{AllPairs-cons}
 use Rattle.tetri_strl.specs.declared.expr.Leaf.{Leaf}
 use Rattle.tetri_strl.specs.declared.grants.Grant.{Grant}
+use Rattle.tetri_strl.specs.Aligned.{EachLeaf, EachLeafOf}
 use Rattle.tetri_strl.specs.Thrifty.{IsThriftyFor}
-use Rattle.tetri_space.specs.Space.{Bid, Space}
-use Rattle.tetri_space.specs.Lawful.{IsLawfulGrant, AreApart, IsLawful}
-use Rattle.tetri_space.specs.Sound.{IsSound}
-use Rattle.tetri_advice.specs.Fit.{Placement, grant_of, grants_of, lowest, overlap, is_held_by, is_free_from, is_available}
+use Rattle.tetri_strl.specs.Tree.{Tree, one, join, scale, barrier, Trees, none, more, leaves}
+use Rattle.tetri_strl.specs.Trim.{earns, idle, trimmed}
+use Rattle.tetri_strl.specs.WellMade as made
+use Rattle.tetri_strl.specs.Worth.{leaf_worth}
+use Rattle.tetri_strl.proofs.GrantLemmas.{NamesNot}
+use Rattle.tetri_strl.proofs.PartsApart.{apart_of_pairs, the_one}
+use Rattle.tetri_strl.proofs.ThriftOfOthers.{thrifty-append_left, thrifty-append_right}
+use Rattle.tetri_strl.proofs.TrimThrift.{trimmed_thrifty}
+use Rattle.tetri_strl.proofs.WorthLemmas.{EachLeaf-from}
+use Rattle.tetri_space.specs.Free.{IsFree}
+use Rattle.tetri_space.specs.Space.{Bid, Space, Covers, IsLive, leaf_in, set_of}
+use Rattle.tetri_space.specs.Lawful.{AreApart, HasRightNodes, IsLawful, IsLawfulGrant, MayBeGranted, NoCommonSlot}
+use Rattle.tetri_space.specs.Sound.{HasKnownSet, IsSound, IsSoundBid}
+use Rattle.tetri_space.proofs.LawfulLemmas.{AllPairs-append}
+use Rattle.tetri_space.proofs.LeafLemmas.{leaf_in-found}
+use Rattle.tetri_advice.specs.Fit.{Placement, fit, grant_of, grants_of, is_free_from, is_held, is_held_by, is_live, overlap}
+use Rattle.tetri_advice.proofs.FitLaws.{AreFit, Follows, IsBeside, IsPlain, IsRight, are_fit, fit-filter, none_any}
 use Rattle.tetri_claims.specs.Good.{IsThriftyForAll}
-use Rattle.tetri_greedy.specs.Open.{StartsAtOnce}
-use Rattle.tetri_run.specs.Opening.{AsksAtOnce, AllAskAtOnce}
+use Rattle.tetri_greedy.proofs.Free.{free_from_test}
 use Rattle.tetri_run.specs.OneCycle.{ComesBefore}
-use Rattle.tetri_run.specs.FirstFit.{first_fit_from, first_fit}
-use Rattle.tetri_run.proofs.Placed.{IsItsLeaf, same_number}
-use Rattle.tetri_run.proofs.GivenLeaf.{lowest_for, IsGiven, given_or_not, and_both, lowest_available, asked_leaf, given_lawful}
-use Rattle.tetri_run.proofs.ThriftOfOne.{thrifty-others, thrifty-after, thrifty-whole}
+use Rattle.tetri_run.specs.FirstFit.{HasAscendingLeaves, earning, first_fit, first_fit_from, placed}
 
--- whether the node is one of these
-abbrev has_node : List ℕ → ℕ → Bool
-has_node nodes n = list_any (λ m. m == n) nodes
+-- the leaf comes first by its number
+abbrev pub IsBefore : Leaf → Leaf → Type 0
+IsBefore l m = l.num < m.num
 
--- whether a placement has the node
-abbrev is_taken : List Placement → ℕ → Bool
-is_taken held n = list_any (λ p. has_node p.nodes n) held
+AllPairs-map : {X Y : Type 0} (f : X → Y) (Q : X → Type 0) (R : X → X → Type 0) (S : Y → Y → Type 0) → ((x y : X) → Q x → Q y → R x y → S (f x) (f y)) →
+    (xs : List X) → All Q xs → AllPairs R xs → AllPairs S (map f xs)
+AllPairs-map f Q R S each [] all pairs = λ i j d lt within. absurd (omega (arith, within))
+AllPairs-map f Q R S each (x ∷ xs) all pairs =
+    let here = All-head Q x xs all in
+    let rest = All-tail Q x xs all in
+    let later : All (R x) xs = λ k d lt. pairs 0 (suc k) d (omega arith) (omega (arith, lt)) in
+    AllPairs-cons S (f x) (map f xs) (All-map (S (f x)) f xs (λ k d lt. each x (get_or xs k d) here (rest k d lt) (later k d lt)))
+    (AllPairs-map f Q R S each xs rest (λ i j d lt within. pairs (suc i) (suc j) d (omega (arith, lt)) (omega (arith, within))))
 
--- no placement has any of the grant's nodes
-abbrev IsBeside : List Placement → Grant → Type 0
-IsBeside held g = All (λ n. is_taken held n ≡ false) g.nodes
+-- trimming takes the same grants whether it looks at them or at the placements
+grants_filter : (job : ℕ) (keeps : Grant → Bool) (ps : List Placement) → grants_of job (filter (λ p. keeps (grant_of job p)) ps) ≡ filter keeps (grants_of job ps)
+grants_filter job keeps [] = refl
+grants_filter job keeps (p ∷ ps) = by_test (keeps (grant_of job p)) (grants_filter job keeps ps)
+  where
+    by_test : (b : Bool) → grants_of job (filter (λ q. keeps (grant_of job q)) ps) ≡ filter keeps (grants_of job ps) →
+        grants_of job (cond b (p ∷ filter (λ q. keeps (grant_of job q)) ps) (filter (λ q. keeps (grant_of job q)) ps)) ≡
+        cond b (grant_of job p ∷ filter keeps (grants_of job ps)) (filter keeps (grants_of job ps))
+    by_test true e = ap (λ gs. grant_of job p ∷ gs) e
+    by_test false e = e
 
--- the grant is of an earlier job, and no node is in both
-record GoesBefore (g h : Grant) : Type 0 where
-  pub earlier : g.job < h.job
-  pub no_common : (n : ℕ) → Contains g.nodes n → Contains h.nodes n → ⊥
+pub placed_grants : (s : Space) (held : List Placement) (b : Bid) →
+    grants_of b.job (placed s held b) ≡ trimmed (grants_of b.job (fit s b.job held b.expr)) b.job b.expr
+placed_grants s held b =
+    grants_filter b.job (earns b.job (idle (leaf_worth (grants_of b.job (fit s b.job held b.expr)) b.job) b.expr)) (fit s b.job held b.expr)
+
+and_true : (a b : Bool) → (a && b) ≡ true → (a ≡ true) × (b ≡ true)
+and_true true true e = (refl, refl)
+and_true true false e = absurd (true≢false (sym e))
+and_true false b e = absurd (true≢false (sym e))
+
+not_both : (a b : Bool) → a ≡ true → (a && b) ≡ false → b ≡ false
+not_both true b e f = f
+not_both false b e f = absurd (true≢false (sym e))
+
+or_false : (a b : Bool) → (a || b) ≡ false → (a ≡ false) × (b ≡ false)
+or_false true b e = absurd (true≢false e)
+or_false false b e = (refl, e)
+
+same_number : (x : ℕ) → (x == x) ≡ true
+same_number x = grind (arith, nat_tests)
+
+live_from : (s : Space) (l : Leaf) → is_live s l ≡ true → IsLive s l
+live_from s l e =
+    let both = and_true (nat_le s.now l.start) (nat_lt l.start (s.now + s.window)) e in
+    record { not_early = grind (arith, nat_tests, both.0); not_late = grind (arith, nat_tests, both.1) }
+
+-- leaves that share a slot overlap
+overlap_from : (l m : Leaf) (slot : ℕ) → Covers m slot → Covers l slot → overlap l m ≡ true
+overlap_from l m slot p q =
+    let first : nat_lt l.start (m.start + m.dur) ≡ true = grind (arith, nat_tests, p.not_over, q.begun) in
+    let second : nat_lt m.start (l.start + l.dur) ≡ true = grind (arith, nat_tests, p.begun, q.not_over) in
+    rw (first, second) refl
+
+-- where a placement does not hold one of its nodes in the leaf's slots, it has no slot in common with it
+no_common : (p : Placement) (l : Leaf) (n : ℕ) → Contains p.nodes n → is_held_by l n p ≡ false → NoCommonSlot p.leaf l
+no_common p l n at free slot own theirs =
+    let has : list_any (λ m. m == n) p.nodes ≡ true = list_any_at (λ m. m == n) p.nodes at.0 n at.1 (ap (λ m. m == n) at.2 ∙ same_number n) in
+    true≢false (sym (overlap_from l p.leaf slot own theirs) ∙ not_both (list_any (λ m. m == n) p.nodes) (overlap l p.leaf) has free)
+
+some_is : {X : Type 0} (P : X → Type 0) (o : Option X) (x : X) → o ≡ Some x → IsSomeAnd o P → P x
+some_is P o x e h = subst (λ q. IsSomeAnd q P) e h
+
+some_from : {X : Type 0} (P : X → Type 0) (o : Option X) (x : X) → o ≡ Some x → P x → IsSomeAnd o P
+some_from P o x e h = subst (λ q. IsSomeAnd q P) (sym e) h
+
+same_some : {X : Type 0} (o : Option X) (x y : X) → o ≡ Some x → o ≡ Some y → x ≡ y
+same_some o x y e f = cc
+
+-- no node of the grant is held in the slots of its leaf
+abbrev IsBesideHeld : Space → List Placement → Grant → Type 0
+IsBesideHeld s held g = IsSomeAnd (leaf_in s.bids g.job g.leaf) (λ l. All (λ n. is_held held l n ≡ false) g.nodes)
 
 abbrev IsLater : ℕ → Grant → Type 0
 IsLater job g = job < g.job
@@ -46,177 +118,212 @@ IsLater job g = job < g.job
 abbrev IsLaterBid : ℕ → Bid → Type 0
 IsLaterBid job b = job < b.job
 
-abbrev IsAtOnce : Space → Placement → Type 0
-IsAtOnce s p = StartsAtOnce s 0 p.leaf
-
--- The grants of these jobs beside what is held: lawful, apart from it and from each other, thrifty, in the jobs' order.
+-- The grants of these jobs beside what is held: lawful, apart from it and from each other, thrifty, in order.
 record IsRun (s : Space) (held : List Placement) (bs : List Bid) (a : List Grant) : Type 0 where
   pub grants : All (IsLawfulGrant s) a
-  pub ascending : AllPairs GoesBefore a
-  pub beside : All (IsBeside held) a
+  pub apart : AllPairs (AreApart s) a
+  pub ordered : AllPairs ComesBefore a
+  pub beside : All (IsBesideHeld s held) a
   pub of_jobs : (job : ℕ) → All (IsLaterBid job) bs → All (IsLater job) a
   pub thrifty : All (λ b. IsThriftyFor a b.job b.expr) bs
 
-or_false : (a b : Bool) → (a || b) ≡ false → (a ≡ false) × (b ≡ false)
-or_false true b e = absurd (true≢false e)
-or_false false b e = (refl, e)
+mutual
+  plain_leaves : (s : Space) (sets : All IsStrictlyIncreasing s.sets) (t : Tree) → made.IsSound t → EachLeaf (HasKnownSet s) t → EachLeaf (IsPlain s) t
+  plain_leaves s sets (one l) sound known = record { good = sound.0; ascending = sets l.set [] known.known }
+  plain_leaves s sets (join op ts) sound known = plain_leaves_of s sets ts sound.1 known
+  plain_leaves s sets (scale t v) sound known = plain_leaves s sets t sound.0 known
+  plain_leaves s sets (barrier t v) sound known = plain_leaves s sets t sound.0 known
 
-not_true : (a : Bool) → not a ≡ true → a ≡ false
-not_true true e = absurd (true≢false (sym e))
-not_true false e = refl
+  plain_leaves_of : (s : Space) (sets : All IsStrictlyIncreasing s.sets) (ts : Trees) → made.AreSound ts → EachLeafOf (HasKnownSet s) ts → EachLeafOf (IsPlain s) ts
+  plain_leaves_of s sets none sound known = tt
+  plain_leaves_of s sets (more t ts) sound known = (plain_leaves s sets t sound.0 known.0, plain_leaves_of s sets ts sound.1 known.1)
 
-and_true : (a b : Bool) → b ≡ true → (a && b) ≡ false → a ≡ false
-and_true true true e f = f
-and_true true false e f = absurd (true≢false (sym e))
-and_true false b e f = refl
+module _ (s : Space) (sound : IsSound s) (sets : All IsStrictlyIncreasing s.sets) (held : List Placement) (b : Bid) (pending : Contains s.bids b)
+    (numbered : HasAscendingLeaves b) where
+  good_bid : IsSoundBid s b
+  good_bid = All-contains (IsSoundBid s) s.bids b sound.sound_bids pending
 
--- a node that is not found is not in the list
-not_in : (nodes : List ℕ) (n : ℕ) → has_node nodes n ≡ false → Contains nodes n → ⊥
-not_in nodes n missed at =
-    true≢false (sym (list_any_at (λ m. m == n) nodes at.0 n at.1 (ap (λ m. m == n) at.2 ∙ same_number n)) ∙ missed)
+  plain_bid : EachLeaf (IsPlain s) b.expr
+  plain_bid =
+      plain_leaves s sets b.expr good_bid.well_made.sound
+      (EachLeaf-from (HasKnownSet s) b.expr (λ l at. All-contains (HasKnownSet s) (leaves b.expr) l good_bid.known_sets at))
 
-overlap_at_once : (s : Space) (l m : Leaf) → StartsAtOnce s 0 l → StartsAtOnce s 0 m → overlap l m ≡ true
-overlap_at_once s l m p q =
-    let first : nat_lt l.start (m.start + m.dur) ≡ true = grind (arith, nat_tests, p.now, q.now, q.some_slots) in
-    let second : nat_lt m.start (l.start + l.dur) ≡ true = grind (arith, nat_tests, p.now, q.now, p.some_slots) in
-    rw (first, second) refl
+  pub fit_is : AreFit s b.job (is_held held) IsBefore [] (leaves b.expr) (fit s b.job held b.expr)
+  fit_is = are_fit s b.job (is_held held) IsBefore b.expr plain_bid numbered []
 
--- where all start at once, a node that no placement holds in the leaf's slots is in none
-not_taken : (s : Space) (l : Leaf) (n : ℕ) (held : List Placement) → StartsAtOnce s 0 l → All (IsAtOnce s) held →
-    list_any (is_held_by l n) held ≡ false → is_taken held n ≡ false
-not_taken s l n [] now at_once e = refl
-not_taken s l n (p ∷ ps) now at_once e =
-    let both = or_false (is_held_by l n p) (list_any (is_held_by l n) ps) e in
-    let here : has_node p.nodes n ≡ false =
-    and_true (has_node p.nodes n) (overlap l p.leaf) (overlap_at_once s l p.leaf now (All-head (IsAtOnce s) p ps at_once)) both.0 in
-    rw here (not_taken s l n ps now (All-tail (IsAtOnce s) p ps at_once) both.1)
+  pub placed_is : AreFit s b.job (is_held held) IsBefore [] (leaves b.expr) (placed s held b)
+  placed_is =
+      fit-filter s b.job (is_held held) IsBefore (λ p. earns b.job (idle (leaf_worth (grants_of b.job (fit s b.job held b.expr)) b.job) b.expr) (grant_of b.job p))
+      [] (leaves b.expr) (fit s b.job held b.expr) fit_is
 
-module _ (s : Space) (held : List Placement) (at_once : All (IsAtOnce s) held) where
-  -- what a leaf is given is beside what is held
-  given_beside : (b : Bid) (l : Leaf) → StartsAtOnce s 0 l → IsBeside held (grant_of b.job (lowest_for s held l))
-  given_beside b l now =
-      All-weaker (λ n. is_available s held l n ≡ true) (λ n. is_taken held n ≡ false)
-      (λ n e. not_taken s l n held now at_once (not_true (list_any (is_held_by l n) held) (and_both (is_free_from s l.start n) (not (list_any (is_held_by l n) held)) e).1))
-      (lowest s held l) (lowest_available s held l)
+  -- a placement of one of the job's leaves
+  record IsOwn (p : Placement) : Type 0 where
+    pub right : IsRight s b.job (is_held held) p
+    pub within : Contains (leaves b.expr) p.leaf
 
--- what is beside more is beside less
-beside_more : (held : List Placement) (p : Placement) (n : ℕ) → is_taken (held ++ p ∷ []) n ≡ false → (is_taken held n ≡ false) × (has_node p.nodes n ≡ false)
-beside_more held p n e =
-    let split = or_false (is_taken held n) (has_node p.nodes n || false) (sym (list_any-append (λ q. has_node q.nodes n) held (p ∷ [])) ∙ e) in
-    (split.0, (or_false (has_node p.nodes n) false split.1).0)
+  owns : All IsOwn (placed s held b)
+  owns k d lt = record { right = placed_is.right k d lt; within = placed_is.within k d lt }
 
-names_not : (job : ℕ) (a : List Grant) → All (IsLater job) a → All (λ g. g.job ≡ job → ⊥) a
-names_not job a later = All-weaker (IsLater job) (λ g. g.job ≡ job → ⊥) (λ g lt same. absurd (omega (arith, lt, same))) a later
+  pub its_leaf : (p : Placement) → Contains (leaves b.expr) p.leaf → leaf_in s.bids b.job p.leaf.num ≡ Some p.leaf
+  its_leaf p within = leaf_in-found s b p.leaf sound pending within
 
-module _ (s : Space) (sound : IsSound s) (sets : All IsStrictlyIncreasing s.sets) (held : List Placement) (at_once : All (IsAtOnce s) held)
-    (b : Bid) (l : Leaf) (its : IsItsLeaf s b l) (pending : Contains s.bids b) (bs : List Bid) (later : All (IsLaterBid b.job) bs)
-    (asks : All (AsksAtOnce s) bs) where
-  -- a job that gets nothing adds nothing
-  run_without : (a : List Grant) → IsRun s held bs a → IsRun s held (b ∷ bs) a
-  run_without a run = record {
-    grants = run.grants;
-    ascending = run.ascending;
-    beside = run.beside;
-    of_jobs = λ job above. run.of_jobs job (All-tail (IsLaterBid job) b bs above);
-    thrifty =
-        All-cons (λ c. IsThriftyFor a c.job c.expr) b bs
-        (subst (IsThriftyFor a b.job) (sym its.expr) (thrifty-others a b.job l (names_not b.job a (run.of_jobs b.job later)))) run.thrifty;
+  own_lawful : (p : Placement) → IsOwn p → IsLawfulGrant s (grant_of b.job p)
+  own_lawful p own =
+      some_from (λ l. MayBeGranted s l p.nodes) (leaf_in s.bids b.job p.leaf.num) p.leaf (its_leaf p own.within)
+      (record {
+        live = live_from s p.leaf own.right.live;
+        nodes_right = record {
+          some = own.right.some;
+          ascending = own.right.ascending;
+          few = own.right.few;
+          in_set = own.right.in_set;
+          free =
+              All-weaker (λ n. is_free_from s p.leaf.start n ≡ true) (λ n. (slot : ℕ) → Covers p.leaf slot → IsFree s n slot)
+              (λ n e slot covers.
+                let free = free_from_test s p.leaf.start n e in
+                record { there = free.there; not_drained = free.not_drained; idle = omega (arith, free.idle, covers.begun) })
+              p.nodes own.right.free;
+        };
+      })
+
+  own_apart : (p q : Placement) → IsOwn p → IsOwn q → Follows s b.job (is_held held) IsBefore p q → AreApart s (grant_of b.job p) (grant_of b.job q)
+  own_apart p q own_p own_q follows = record {
+    other_leaf = λ same_job same_leaf. absurd (omega (arith, follows.0, same_leaf));
+    other_slots = λ n mine theirs l found m found_too.
+        subst (λ x. NoCommonSlot x m) (same_some (leaf_in s.bids b.job p.leaf.num) p.leaf l (its_leaf p own_p.within) found)
+        (subst (NoCommonSlot p.leaf) (same_some (leaf_in s.bids b.job q.leaf.num) q.leaf m (its_leaf q own_q.within) found_too)
+        (no_common p q.leaf n mine
+        (or_false (is_held_by q.leaf n p) false (All-contains (λ k. is_held (p ∷ []) q.leaf k ≡ false) q.nodes n follows.1 theirs)).0));
   }
 
-  -- a job that gets its leaf goes before the later ones
-  run_with : (a : List Grant) → IsGiven s held b l → IsRun s (held ++ lowest_for s held l ∷ []) bs a →
-      IsRun s held (b ∷ bs) (grant_of b.job (lowest_for s held l) ∷ a)
-  run_with a given run = record {
-    grants = All-cons (IsLawfulGrant s) own a (given_lawful s sound held b l sets pending its given) run.grants;
-    ascending = AllPairs-cons GoesBefore own a before run.ascending;
-    beside =
-        All-cons (IsBeside held) own a (given_beside s held at_once b l its.at_once)
-        (All-weaker (IsBeside (held ++ place ∷ [])) (IsBeside held)
-        (λ g. All-weaker (λ n. is_taken (held ++ place ∷ []) n ≡ false) (λ n. is_taken held n ≡ false) (λ n e. (beside_more held place n e).0) g.nodes)
-        a run.beside);
-    of_jobs = λ job above.
-        All-cons (IsLater job) own a (All-head (IsLaterBid job) b bs above) (run.of_jobs job (All-tail (IsLaterBid job) b bs above));
-    thrifty = All-cons (λ c. IsThriftyFor (own ∷ a) c.job c.expr) b bs first others;
+  own_before : (p q : Placement) → IsOwn p → IsOwn q → Follows s b.job (is_held held) IsBefore p q → ComesBefore (grant_of b.job p) (grant_of b.job q)
+  own_before p q own_p own_q follows = inr (refl, follows.0)
+
+  own_beside : (p : Placement) → IsOwn p → IsBesideHeld s held (grant_of b.job p)
+  own_beside p own =
+      some_from (λ l. All (λ n. is_held held l n ≡ false) p.nodes) (leaf_in s.bids b.job p.leaf.num) p.leaf (its_leaf p own.within) own.right.not_taken
+
+  -- a later job's grant beside these placements too is apart from each of them
+  own_apart_later : (p : Placement) → Contains (placed s held b) p → IsOwn p → (h : Grant) → IsLater b.job h → IsBesideHeld s (held ++ placed s held b) h →
+      AreApart s (grant_of b.job p) h
+  own_apart_later p at own h later beside = record {
+    other_leaf = λ same_job same_leaf. absurd (omega (arith, later, same_job));
+    other_slots = λ n mine theirs l found m found_too.
+        let free = some_is (λ x. All (λ k. is_held (held ++ placed s held b) x k ≡ false) h.nodes) (leaf_in s.bids h.job h.leaf) m found_too beside in
+        let here : is_held (held ++ placed s held b) m n ≡ false = All-contains (λ k. is_held (held ++ placed s held b) m k ≡ false) h.nodes n free theirs in
+        let split = or_false (is_held held m n) (is_held (placed s held b) m n) (sym (list_any-append (is_held_by m n) held (placed s held b)) ∙ here) in
+        let not_by = All-contains (λ q. is_held_by m n q ≡ false) (placed s held b) p (none_any (is_held_by m n) (placed s held b) split.1) at in
+        subst (λ x. NoCommonSlot x m) (same_some (leaf_in s.bids b.job p.leaf.num) p.leaf l (its_leaf p own.within) found) (no_common p m n mine not_by);
   }
-    where
-      place : Placement
-      place = lowest_for s held l
 
-      own : Grant
-      own = grant_of b.job (lowest_for s held l)
+  own_grants : List Grant
+  own_grants = grants_of b.job (placed s held b)
 
-      before : All (GoesBefore own) a
-      before k d lt = record {
-        earlier = run.of_jobs b.job later k d lt;
-        no_common = λ n mine theirs.
-            not_in (lowest s held l) n
-            (beside_more held place n (All-contains (λ m. is_taken (held ++ place ∷ []) m ≡ false) (get_or a k d).nodes n (run.beside k d lt) theirs)).1 mine;
-      }
+  own_thrifty : IsThriftyFor (grants_of b.job (placed s held b)) b.job b.expr
+  own_thrifty =
+      subst (λ a. IsThriftyFor a b.job b.expr) (sym (placed_grants s held b))
+      (trimmed_thrifty (grants_of b.job (fit s b.job held b.expr)) b.job b.expr good_bid.well_made.sound (apart_of_pairs b.expr good_bid.well_made.distinct))
 
-      first : IsThriftyFor (own ∷ a) b.job b.expr
-      first =
-          subst (IsThriftyFor (own ∷ a) b.job) (sym its.expr)
-          (thrifty-whole b.job l (lowest s held l) a its.exact given.whole given.worth (names_not b.job a (run.of_jobs b.job later)))
+names_not : (job : ℕ) (a : List Grant) → All (IsLater job) a → NamesNot job a
+names_not job a later = All-weaker (IsLater job) (λ g. g.job ≢ job) (λ g lt same. absurd (omega (arith, lt, same))) a later
 
-      others : All (λ c. IsThriftyFor (own ∷ a) c.job c.expr) bs
-      others k d lt =
-          let c = get_or bs k d in
-          let at_c = asks k d lt in
-          subst (IsThriftyFor (own ∷ a) c.job) (sym at_c.expr)
-          (thrifty-after own a c.job at_c.leaf (λ same. absurd (omega (arith, later k d lt, same))) (subst (IsThriftyFor a c.job) at_c.expr (run.thrifty k d lt)))
+own_names_not : (job : ℕ) (b : Bid) (ps : List Placement) → b.job ≢ job → NamesNot job (grants_of b.job ps)
+own_names_not job b ps other = All-map (λ (g : Grant). g.job ≢ job) (grant_of b.job) ps (λ k d lt. other)
 
-  run_step : ((h : List Placement) → All (IsAtOnce s) h → IsRun s h bs (first_fit_from s h bs)) → IsRun s held (b ∷ bs) (first_fit_from s held (b ∷ bs))
-  run_step rest = elim (given_or_not s held b l its) [
-    | inl nothing ↦
-        subst (λ ps. IsRun s held (b ∷ bs) (grants_of b.job ps ++ first_fit_from s (held ++ ps) bs)) (sym nothing)
-        (run_without (first_fit_from s (held ++ []) bs) (subst (λ h. IsRun s h bs (first_fit_from s (held ++ []) bs)) (append-nil held) (rest (held ++ []) (subst (All (IsAtOnce s)) (sym (append-nil held)) at_once))))
-    | inr given ↦
-        subst (λ ps. IsRun s held (b ∷ bs) (grants_of b.job ps ++ first_fit_from s (held ++ ps) bs)) (sym given.placed_is)
-        (run_with (first_fit_from s (held ++ lowest_for s held l ∷ []) bs) given
-        (rest (held ++ lowest_for s held l ∷ [])
-        (All-append (IsAtOnce s) held (lowest_for s held l ∷ []) at_once (All-cons (IsAtOnce s) (lowest_for s held l) [] its.at_once (All-nil (IsAtOnce s))))))
-  ]
+-- a grant of a placement
+of_placement : (job : ℕ) (ps : List Placement) (g : Grant) → Contains (grants_of job ps) g → (p : Placement) × Contains ps p × (g ≡ grant_of job p)
+of_placement job [] g at = absurd (omega (arith, at.1))
+of_placement job (p ∷ ps) g at =
+    elim (Contains-append_cases (grant_of job p ∷ []) (grants_of job ps) g at) [
+      | inl here ↦ (p, (0, omega arith, refl), sym (the_one (grant_of job p) g here))
+      | inr later ↦ let w = of_placement job ps g later in (w.0, (suc w.1.0, omega (arith, w.1.1), w.1.2), w.2)
+    ]
 
 module _ (s : Space) (sound : IsSound s) (sets : All IsStrictlyIncreasing s.sets) where
-  first_fit_run : (bs : List Bid) → All (Contains s.bids) bs → AllPairs (λ a b. a.job < b.job) bs → All (AsksAtOnce s) bs →
-      (held : List Placement) → All (IsAtOnce s) held → IsRun s held bs (first_fit_from s held bs)
-  first_fit_run [] pending ascending asks held at_once = record {
+  -- a job and then the later ones
+  run_step : (held : List Placement) (b : Bid) (bs : List Bid) → Contains s.bids b → HasAscendingLeaves b → All (IsLaterBid b.job) bs →
+      (a : List Grant) → IsRun s (held ++ placed s held b) bs a → IsRun s held (b ∷ bs) (grants_of b.job (placed s held b) ++ a)
+  run_step held b bs pending numbered later a run = record {
+    grants = All-append (IsLawfulGrant s) own a (All-map (IsLawfulGrant s) (grant_of b.job) ps (λ k d lt. own_lawful s sound sets held b pending numbered (get_or ps k d) (mine k d lt))) run.grants;
+    apart =
+        AllPairs-append (AreApart s) own a
+        (AllPairs-map (grant_of b.job) (IsOwn s sound sets held b pending numbered) (Follows s b.job (is_held held) IsBefore) (AreApart s)
+        (own_apart s sound sets held b pending numbered) ps mine fit.pairs) run.apart
+        (λ g h at bt.
+          let w = of_placement b.job ps g at in
+          subst (λ x. AreApart s x h) (sym w.2)
+          (own_apart_later s sound sets held b pending numbered w.0 w.1 (All-contains (IsOwn s sound sets held b pending numbered) ps w.0 mine w.1) h
+          (All-contains (IsLater b.job) a h after bt) (All-contains (IsBesideHeld s (held ++ ps)) a h run.beside bt)));
+    ordered =
+        AllPairs-append ComesBefore own a
+        (AllPairs-map (grant_of b.job) (IsOwn s sound sets held b pending numbered) (Follows s b.job (is_held held) IsBefore) ComesBefore
+        (own_before s sound sets held b pending numbered) ps mine fit.pairs) run.ordered
+        (λ g h at bt.
+          let w = of_placement b.job ps g at in
+          let lt : b.job < h.job = All-contains (IsLater b.job) a h after bt in
+          subst (λ x. ComesBefore x h) (sym w.2) (inl lt));
+    beside =
+        All-append (IsBesideHeld s held) own a
+        (All-map (IsBesideHeld s held) (grant_of b.job) ps (λ k d lt. own_beside s sound sets held b pending numbered (get_or ps k d) (mine k d lt)))
+        (All-weaker (IsBesideHeld s (held ++ ps)) (IsBesideHeld s held) (λ h. beside_less h (leaf_in s.bids h.job h.leaf)) a run.beside);
+    of_jobs = λ job above.
+        All-append (IsLater job) own a (All-map (IsLater job) (grant_of b.job) ps (λ k d lt. All-head (IsLaterBid job) b bs above))
+        (run.of_jobs job (All-tail (IsLaterBid job) b bs above));
+    thrifty =
+        All-cons (λ c. IsThriftyFor (own ++ a) c.job c.expr) b bs
+        (thrifty-append_left own a b.job b.expr (names_not b.job a after) (own_thrifty s sound sets held b pending numbered))
+        (λ k d lt.
+          let c = get_or bs k d in
+          thrifty-append_right own a c.job c.expr (own_names_not c.job b ps (λ same. absurd (omega (arith, later k d lt, same)))) (run.thrifty k d lt));
+  }
+    where
+      abbrev ps : List Placement
+      ps = placed s held b
+
+      abbrev own : List Grant
+      own = grants_of b.job (placed s held b)
+
+      fit : AreFit s b.job (is_held held) IsBefore [] (leaves b.expr) (placed s held b)
+      fit = placed_is s sound sets held b pending numbered
+
+      mine : All (IsOwn s sound sets held b pending numbered) (placed s held b)
+      mine = owns s sound sets held b pending numbered
+
+      after : All (IsLater b.job) a
+      after = run.of_jobs b.job later
+
+      beside_less : (h : Grant) (o : Option Leaf) → IsSomeAnd o (λ l. All (λ n. is_held (held ++ placed s held b) l n ≡ false) h.nodes) →
+          IsSomeAnd o (λ l. All (λ n. is_held held l n ≡ false) h.nodes)
+      beside_less h None beside = beside
+      beside_less h (Some l) beside =
+          All-weaker (λ n. is_held (held ++ placed s held b) l n ≡ false) (λ n. is_held held l n ≡ false)
+          (λ n e. (or_false (is_held held l n) (is_held (placed s held b) l n) (sym (list_any-append (is_held_by l n) held (placed s held b)) ∙ e)).0) h.nodes beside
+
+  first_fit_run : (bs : List Bid) → All (Contains s.bids) bs → AllPairs (λ a b. a.job < b.job) bs → All HasAscendingLeaves bs → (held : List Placement) →
+      IsRun s held bs (first_fit_from s held bs)
+  first_fit_run [] pending ascending numbered held = record {
     grants = All-nil (IsLawfulGrant s);
-    ascending = λ i j d lt within. absurd (omega (arith, within));
-    beside = All-nil (IsBeside held);
+    apart = λ i j d lt within. absurd (omega (arith, within));
+    ordered = λ i j d lt within. absurd (omega (arith, within));
+    beside = All-nil (IsBesideHeld s held);
     of_jobs = λ job above. All-nil (IsLater job);
     thrifty = All-nil (λ b. IsThriftyFor [] b.job b.expr);
   }
-  first_fit_run (b ∷ bs) pending ascending asks held at_once =
-      let own : AsksAtOnce s b = All-head (AsksAtOnce s) b bs asks in
-      let here : Contains s.bids b = All-head (Contains s.bids) b bs pending in
-      let others : All (AsksAtOnce s) bs = All-tail (AsksAtOnce s) b bs asks in
-      let later : All (IsLaterBid b.job) bs = λ k d lt. ascending 0 (suc k) d (omega arith) (omega (arith, lt)) in
-      run_step s sound sets held at_once b own.leaf (asked_leaf s sound b own here) here bs later others
-      (first_fit_run bs (All-tail (Contains s.bids) b bs pending) (λ i j d lt within. ascending (suc i) (suc j) d (omega (arith, lt)) (omega (arith, within))) others)
+  first_fit_run (b ∷ bs) pending ascending numbered held =
+      run_step held b bs (All-head (Contains s.bids) b bs pending) (All-head HasAscendingLeaves b bs numbered)
+      (λ k d lt. ascending 0 (suc k) d (omega arith) (omega (arith, lt))) (first_fit_from s (held ++ placed s held b) bs)
+      (first_fit_run bs (All-tail (Contains s.bids) b bs pending) (λ i j d lt within. ascending (suc i) (suc j) d (omega (arith, lt)) (omega (arith, within)))
+      (All-tail HasAscendingLeaves b bs numbered) (held ++ placed s held b))
 
-apart_from : (s : Space) (g h : Grant) → GoesBefore g h → AreApart s g h
-apart_from s g h before = record {
-  other_leaf = λ same_job same_leaf. absurd (omega (arith, before.earlier, same_job));
-  other_slots = λ n mine theirs. absurd (before.no_common n mine theirs);
-}
-
-module _ (s : Space) (sound : IsSound s) (at_once : AllAskAtOnce s) (sets : All IsStrictlyIncreasing s.sets) where
+module _ (s : Space) (sound : IsSound s) (sets : All IsStrictlyIncreasing s.sets) (numbered : All HasAscendingLeaves s.bids) where
   whole_run : IsRun s [] s.bids (first_fit s)
-  whole_run = first_fit_run s sound sets s.bids (All-contains_itself s.bids) sound.ascending at_once [] (All-nil (IsAtOnce s))
+  whole_run = first_fit_run s sound sets s.bids (All-contains_itself s.bids) sound.ascending numbered []
 
   pub first_fit_lawful : IsLawful s (first_fit s)
-  first_fit_lawful = record {
-    grants = whole_run.grants;
-    apart = λ i j d lt within. apart_from s _ _ (whole_run.ascending i j d lt within);
-  }
+  first_fit_lawful = record { grants = whole_run.grants; apart = whole_run.apart }
 
   pub first_fit_thrifty : IsThriftyForAll s (first_fit s)
   first_fit_thrifty = whole_run.thrifty
 
-  -- a job has one grant at most, and the jobs ascend
-  pub first_fit_by_job : AllPairs (λ g h. g.job < h.job) (first_fit s)
-  first_fit_by_job i j d lt within = (whole_run.ascending i j d lt within).earlier
-
   pub first_fit_ordered : AllPairs ComesBefore (first_fit s)
-  first_fit_ordered i j d lt within = inl (first_fit_by_job i j d lt within)
+  first_fit_ordered = whole_run.ordered

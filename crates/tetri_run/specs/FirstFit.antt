@@ -1,13 +1,15 @@
--- First fit: each job in order gets its fit beside what earlier jobs hold.
-use Rattle.std.specs.Prelude.{◌≡◌, ℕ, ◌==◌, List, [], ◌∷◌, ◌++◌, if◌then◌else◌}
+-- First fit: each job in order gets its fit beside what earlier jobs hold, without what earns nothing.
+use Rattle.std.specs.Prelude.{◌≡◌, ◌<◌, ℕ, AllPairs, List, [], ◌∷◌, ◌++◌, filter}
 use Rattle.tetri_strl.specs.declared.grants.Grant.{Grant}
+use Rattle.tetri_strl.specs.Tree.{leaves}
+use Rattle.tetri_strl.specs.Trim.{earns, idle}
+use Rattle.tetri_strl.specs.Worth.{leaf_worth}
 use Rattle.tetri_space.specs.Space.{Bid, Space}
-use Rattle.tetri_advice.specs.Fit.{Placement, fit, fit_worth, grants_of}
-use Rattle.tetri_greedy.specs.Open.{IsOpenBeside}
+use Rattle.tetri_advice.specs.Fit.{Placement, fit, grant_of, grants_of}
 
--- A fit that is worth nothing is given up. For a job of one leaf these are the grants that earn nothing.
+-- the placements whose grants trimming leaves
 abbrev pub earning : Bid → List Placement → List Placement
-earning b ps = if fit_worth b.job b.expr ps == 0 then [] else ps
+earning b ps = filter (λ p. earns b.job (idle (leaf_worth (grants_of b.job ps) b.job) b.expr) (grant_of b.job p)) ps
 
 module _ (s : Space) where
   abbrev pub placed : List Placement → Bid → List Placement
@@ -21,7 +23,6 @@ module _ (s : Space) where
 abbrev pub first_fit : Space → List Grant
 first_fit s = first_fit_from s [] s.bids
 
--- A job got its fit beside what is held, and these nodes are left beside that.
-pub record GotFit (s : Space) (held : List Placement) (b : Bid) (left : List ℕ) (before after : List Grant) : Type 0 where
-  pub grants : after ≡ before ++ grants_of b.job (placed s held b)
-  pub open_beside : IsOpenBeside s 0 (held ++ placed s held b) left
+-- the leaves are numbered in the order of the text
+abbrev pub HasAscendingLeaves : Bid → Type 0
+HasAscendingLeaves b = AllPairs (λ l m. l.num < m.num) (leaves b.expr)

@@ -8,7 +8,7 @@ use Rattle.tetri_space.specs.Space.{Space}
 use Rattle.tetri_space.specs.Lawful.{IsLawfulGrant, AreApart, IsLawful}
 
 module _ {X : Type 0} (R : X → X → Type 0) where
-  AllPairs-append : (xs ys : List X) → AllPairs R xs → AllPairs R ys → ((x y : X) → Contains xs x → Contains ys y → R x y) → AllPairs R (xs ++ ys)
+  pub AllPairs-append : (xs ys : List X) → AllPairs R xs → AllPairs R ys → ((x y : X) → Contains xs x → Contains ys y → R x y) → AllPairs R (xs ++ ys)
   AllPairs-append [] ys left right across = right
   AllPairs-append (x ∷ xs) ys left right across =
       AllPairs-cons R x (xs ++ ys)

@@ -38,7 +38,8 @@ pub fn leaf_numbered(e: &Expr, num: u32) -> Option<Leaf>
     }
 }
 
-// The leaf that a pending job offers under this number.
+/// The leaf that a pending job offers under this number: a binary search and a walk over its
+/// expression.
 pub fn leaf_of(inst: &Instance, job: u32, num: u32) -> Option<Leaf>
     requires { IsSound (space inst.now) }
     ensures { result ≡ leaf_in (space inst.entry.now).bids job num }

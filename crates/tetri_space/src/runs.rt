@@ -17,7 +17,7 @@ pub fn ascends_by_job(grants: &[Grant]) -> bool
     true
 }
 
-// How many grants stand before those of the jobs above `job`.
+/// How many of the grants, which ascend by job, stand before those of the jobs above `job`.
 pub fn run_len(grants: &[Grant], job: u32) -> usize
     requires { IsNonDecreasingBy (λ g. g.job) grants.now }
     ensures bound { result ≤ length grants.now }

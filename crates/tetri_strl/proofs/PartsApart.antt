@@ -25,21 +25,21 @@ module _ {X : Type 0} (R : X → X → Type 0) (xs ys : List X) (h : AllPairs R 
   long : length (xs ++ ys) ≡ length xs + length ys
   long = length-append xs ys
 
-  left_pairs : AllPairs R xs
+  pub left_pairs : AllPairs R xs
   left_pairs i j d lt within =
       let p : i < length xs = omega arith in
       let q : j < length (xs ++ ys) = omega (arith, long) in
       subst (λ x. R x (get_or xs j d)) (get_or_append_left xs ys d i p)
       (subst (λ y. R (get_or (xs ++ ys) i d) y) (get_or_append_left xs ys d j within) (h i j d lt q))
 
-  right_pairs : AllPairs R ys
+  pub right_pairs : AllPairs R ys
   right_pairs i j d lt within =
       let p : length xs + i < length xs + j = omega arith in
       let q : length xs + j < length (xs ++ ys) = omega (arith, long) in
       subst (λ x. R x (get_or ys j d)) (get_or-append-add xs ys i d)
       (subst (λ y. R (get_or (xs ++ ys) (length xs + i) d) y) (get_or-append-add xs ys j d) (h (length xs + i) (length xs + j) d p q))
 
-  across_pairs : (x y : X) → Contains xs x → Contains ys y → R x y
+  pub across_pairs : (x y : X) → Contains xs x → Contains ys y → R x y
   across_pairs x y at bt =
       let p : at.0 < length xs + bt.0 = omega (arith, at.1) in
       let q : length xs + bt.0 < length (xs ++ ys) = omega (arith, long, bt.1) in
