@@ -49,7 +49,7 @@ increasing_take n xs ascends k lt =
     omega (arith, here, next, order)
 
 -- what passes no test
-none_any : {X : Type 0} (test : X → Bool) (xs : List X) → list_any test xs ≡ false → All (λ x. test x ≡ false) xs
+pub none_any : {X : Type 0} (test : X → Bool) (xs : List X) → list_any test xs ≡ false → All (λ x. test x ≡ false) xs
 none_any test [] e = All-nil (λ x. test x ≡ false)
 none_any test (x ∷ xs) e = All-cons (λ y. test y ≡ false) x xs (or_left (test x) (list_any test xs) e) (none_any test xs (or_right (test x) (list_any test xs) e))
 

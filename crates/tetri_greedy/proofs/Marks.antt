@@ -67,7 +67,7 @@ marked_meets slots c n bound (m ∷ ms) masks known lt =
         (get_or-set_same masks m (bit_or (get_or masks m 0) slots) 0 (All-head (λ j. j < length masks) m ms known))
 
 module _ (s : Space) (few : s.window ≤ 64) where
-  in_window : (l : Leaf) → is_live s l ≡ true → 1 ≤ l.dur → IsInWindow s.now l
+  pub in_window : (l : Leaf) → is_live s l ≡ true → 1 ≤ l.dur → IsInWindow s.now l
   in_window l live some = record {
     live = le_from s.now l.start (and_left (nat_le s.now l.start) (nat_lt l.start (s.now + s.window)) live);
     window = below_from l.start (s.now + s.window) (s.now + 64) (and_right (nat_le s.now l.start) (nat_lt l.start (s.now + s.window)) live) (omega (arith, few));

@@ -1,10 +1,10 @@
 -- First fit is lawful, thrifty and in order.
-use Rattle.std.proofs.Common.{◌≡◌, ◌≢◌, ℕ, ◌+◌, ◌<◌, ◌≤◌, ◌==◌, ◌&&◌, ◌||◌, inl, inr, Bool, true, false, cond, List, [], ◌∷◌, ◌++◌, length, map, get_or, suc, All, AllPairs, Contains, refl, sym, ap, ◌∙◌, subst, arith, nat_le, nat_lt}
+use Rattle.std.proofs.Common.{◌≡◌, ◌≢◌, ℕ, ◌+◌, ◌<◌, ◌≤◌, ◌==◌, ◌&&◌, ◌||◌, inl, inr, Bool, true, false, not, cond, List, [], ◌∷◌, ◌++◌, length, map, get_or, suc, All, AllPairs, Contains, refl, sym, ap, ◌∙◌, subst, arith, nat_le, nat_lt}
 use Rattle.std.specs.Prelude.{filter, Option, None, Some}
 use Rattle.std.specs.List.{list_any}
 use Rattle.std.specs.Option.{ForSome, IsSomeAnd}
-use Rattle.std.specs.List.Sorted.{IsStrictlyIncreasing}
-use Rattle.std.proofs.lemmas.Bool.{true≢false}
+use Rattle.std.specs.List.Sorted.{IsNonDecreasingBy, IsStrictlyIncreasing}
+use Rattle.std.proofs.lemmas.Bool.{cases_eq, true≢false}
 use Rattle.std.proofs.lemmas.Bool.Decides.{nat_tests}
 use Rattle.std.proofs.lemmas.List.Elements.{All-nil, All-cons, All-head, All-tail, All-append, All-contains, All-contains_itself, All-map, All-weaker, Contains-append_cases}
 use Rattle.std.proofs.lemmas.List.Folds.{list_any-append, list_any_at}
@@ -31,6 +31,7 @@ use Rattle.tetri_space.proofs.LeafLemmas.{leaf_in-found}
 use Rattle.tetri_advice.specs.Fit.{Placement, fit, grant_of, grants_of, is_free_from, is_held, is_held_by, is_live, overlap}
 use Rattle.tetri_advice.proofs.FitLaws.{AreFit, Follows, IsBeside, IsPlain, IsRight, are_fit, fit-filter, none_any}
 use Rattle.tetri_claims.specs.Good.{IsThriftyForAll}
+use Rattle.tetri_greedy.specs.Held.{but_leaves}
 use Rattle.tetri_greedy.proofs.Free.{free_from_test}
 use Rattle.tetri_run.specs.OneCycle.{ComesBefore}
 use Rattle.tetri_run.specs.FirstFit.{HasAscendingLeaves, earning, first_fit, first_fit_from, placed}
@@ -49,21 +50,26 @@ AllPairs-map f Q R S each (x ∷ xs) all pairs =
     AllPairs-cons S (f x) (map f xs) (All-map (S (f x)) f xs (λ k d lt. each x (get_or xs k d) here (rest k d lt) (later k d lt)))
     (AllPairs-map f Q R S each xs rest (λ i j d lt within. pairs (suc i) (suc j) d (omega (arith, lt)) (omega (arith, within))))
 
+same_number : (x : ℕ) → (x == x) ≡ true
+same_number x = grind (arith, nat_tests)
+
 -- trimming takes the same grants whether it looks at them or at the placements
-grants_filter : (job : ℕ) (keeps : Grant → Bool) (ps : List Placement) → grants_of job (filter (λ p. keeps (grant_of job p)) ps) ≡ filter keeps (grants_of job ps)
-grants_filter job keeps [] = refl
-grants_filter job keeps (p ∷ ps) = by_test (keeps (grant_of job p)) (grants_filter job keeps ps)
+pub grants_but : (job : ℕ) (ns : List ℕ) (ps : List Placement) → grants_of job (but_leaves ns ps) ≡ filter (earns job ns) (grants_of job ps)
+grants_but job ns [] = refl
+grants_but job ns (p ∷ ps) =
+    by_test (not (list_any (λ n. n == p.leaf.num) ns)) (grants_but job ns ps)
+    ∙ ap (λ b. cond (b && not (list_any (λ n. n == p.leaf.num) ns)) (grant_of job p ∷ filter (earns job ns) (grants_of job ps)) (filter (earns job ns) (grants_of job ps)))
+    (sym (same_number job))
   where
-    by_test : (b : Bool) → grants_of job (filter (λ q. keeps (grant_of job q)) ps) ≡ filter keeps (grants_of job ps) →
-        grants_of job (cond b (p ∷ filter (λ q. keeps (grant_of job q)) ps) (filter (λ q. keeps (grant_of job q)) ps)) ≡
-        cond b (grant_of job p ∷ filter keeps (grants_of job ps)) (filter keeps (grants_of job ps))
+    by_test : (b : Bool) → grants_of job (but_leaves ns ps) ≡ filter (earns job ns) (grants_of job ps) →
+        grants_of job (cond b (p ∷ but_leaves ns ps) (but_leaves ns ps)) ≡
+        cond b (grant_of job p ∷ filter (earns job ns) (grants_of job ps)) (filter (earns job ns) (grants_of job ps))
     by_test true e = ap (λ gs. grant_of job p ∷ gs) e
     by_test false e = e
 
 pub placed_grants : (s : Space) (held : List Placement) (b : Bid) →
     grants_of b.job (placed s held b) ≡ trimmed (grants_of b.job (fit s b.job held b.expr)) b.job b.expr
-placed_grants s held b =
-    grants_filter b.job (earns b.job (idle (leaf_worth (grants_of b.job (fit s b.job held b.expr)) b.job) b.expr)) (fit s b.job held b.expr)
+placed_grants s held b = grants_but b.job (idle (leaf_worth (grants_of b.job (fit s b.job held b.expr)) b.job) b.expr) (fit s b.job held b.expr)
 
 and_true : (a b : Bool) → (a && b) ≡ true → (a ≡ true) × (b ≡ true)
 and_true true true e = (refl, refl)
@@ -77,9 +83,6 @@ not_both false b e f = absurd (true≢false (sym e))
 or_false : (a b : Bool) → (a || b) ≡ false → (a ≡ false) × (b ≡ false)
 or_false true b e = absurd (true≢false e)
 or_false false b e = (refl, e)
-
-same_number : (x : ℕ) → (x == x) ≡ true
-same_number x = grind (arith, nat_tests)
 
 live_from : (s : Space) (l : Leaf) → is_live s l ≡ true → IsLive s l
 live_from s l e =
@@ -143,7 +146,7 @@ module _ (s : Space) (sound : IsSound s) (sets : All IsStrictlyIncreasing s.sets
   good_bid : IsSoundBid s b
   good_bid = All-contains (IsSoundBid s) s.bids b sound.sound_bids pending
 
-  plain_bid : EachLeaf (IsPlain s) b.expr
+  pub plain_bid : EachLeaf (IsPlain s) b.expr
   plain_bid =
       plain_leaves s sets b.expr good_bid.well_made.sound
       (EachLeaf-from (HasKnownSet s) b.expr (λ l at. All-contains (HasKnownSet s) (leaves b.expr) l good_bid.known_sets at))
@@ -153,7 +156,7 @@ module _ (s : Space) (sound : IsSound s) (sets : All IsStrictlyIncreasing s.sets
 
   pub placed_is : AreFit s b.job (is_held held) IsBefore [] (leaves b.expr) (placed s held b)
   placed_is =
-      fit-filter s b.job (is_held held) IsBefore (λ p. earns b.job (idle (leaf_worth (grants_of b.job (fit s b.job held b.expr)) b.job) b.expr) (grant_of b.job p))
+      fit-filter s b.job (is_held held) IsBefore (λ p. not (list_any (λ n. n == p.leaf.num) (idle (leaf_worth (grants_of b.job (fit s b.job held b.expr)) b.job) b.expr)))
       [] (leaves b.expr) (fit s b.job held b.expr) fit_is
 
   -- a placement of one of the job's leaves
@@ -180,8 +183,8 @@ module _ (s : Space) (sound : IsSound s) (sets : All IsStrictlyIncreasing s.sets
           free =
               All-weaker (λ n. is_free_from s p.leaf.start n ≡ true) (λ n. (slot : ℕ) → Covers p.leaf slot → IsFree s n slot)
               (λ n e slot covers.
-                let free = free_from_test s p.leaf.start n e in
-                record { there = free.there; not_drained = free.not_drained; idle = omega (arith, free.idle, covers.begun) })
+              let free = free_from_test s p.leaf.start n e in
+              record { there = free.there; not_drained = free.not_drained; idle = omega (arith, free.idle, covers.begun) })
               p.nodes own.right.free;
         };
       })
@@ -244,45 +247,39 @@ module _ (s : Space) (sound : IsSound s) (sets : All IsStrictlyIncreasing s.sets
   run_step : (held : List Placement) (b : Bid) (bs : List Bid) → Contains s.bids b → HasAscendingLeaves b → All (IsLaterBid b.job) bs →
       (a : List Grant) → IsRun s (held ++ placed s held b) bs a → IsRun s held (b ∷ bs) (grants_of b.job (placed s held b) ++ a)
   run_step held b bs pending numbered later a run = record {
-    grants = All-append (IsLawfulGrant s) own a (All-map (IsLawfulGrant s) (grant_of b.job) ps (λ k d lt. own_lawful s sound sets held b pending numbered (get_or ps k d) (mine k d lt))) run.grants;
+    grants = All-append (IsLawfulGrant s) (grants_of b.job (placed s held b)) a (All-map (IsLawfulGrant s) (grant_of b.job) (placed s held b) (λ k d lt. own_lawful s sound sets held b pending numbered (get_or (placed s held b) k d) (mine k d lt))) run.grants;
     apart =
-        AllPairs-append (AreApart s) own a
+        AllPairs-append (AreApart s) (grants_of b.job (placed s held b)) a
         (AllPairs-map (grant_of b.job) (IsOwn s sound sets held b pending numbered) (Follows s b.job (is_held held) IsBefore) (AreApart s)
-        (own_apart s sound sets held b pending numbered) ps mine fit.pairs) run.apart
+        (own_apart s sound sets held b pending numbered) (placed s held b) mine fit.pairs) run.apart
         (λ g h at bt.
-          let w = of_placement b.job ps g at in
-          subst (λ x. AreApart s x h) (sym w.2)
-          (own_apart_later s sound sets held b pending numbered w.0 w.1 (All-contains (IsOwn s sound sets held b pending numbered) ps w.0 mine w.1) h
-          (All-contains (IsLater b.job) a h after bt) (All-contains (IsBesideHeld s (held ++ ps)) a h run.beside bt)));
+        let w = of_placement b.job (placed s held b) g at in
+        subst (λ x. AreApart s x h) (sym w.2)
+        (own_apart_later s sound sets held b pending numbered w.0 w.1 (All-contains (IsOwn s sound sets held b pending numbered) (placed s held b) w.0 mine w.1) h
+        (All-contains (IsLater b.job) a h after bt) (All-contains (IsBesideHeld s (held ++ (placed s held b))) a h run.beside bt)));
     ordered =
-        AllPairs-append ComesBefore own a
+        AllPairs-append ComesBefore (grants_of b.job (placed s held b)) a
         (AllPairs-map (grant_of b.job) (IsOwn s sound sets held b pending numbered) (Follows s b.job (is_held held) IsBefore) ComesBefore
-        (own_before s sound sets held b pending numbered) ps mine fit.pairs) run.ordered
+        (own_before s sound sets held b pending numbered) (placed s held b) mine fit.pairs) run.ordered
         (λ g h at bt.
-          let w = of_placement b.job ps g at in
-          let lt : b.job < h.job = All-contains (IsLater b.job) a h after bt in
-          subst (λ x. ComesBefore x h) (sym w.2) (inl lt));
+        let w = of_placement b.job (placed s held b) g at in
+        let lt : b.job < h.job = All-contains (IsLater b.job) a h after bt in
+        subst (λ x. ComesBefore x h) (sym w.2) (inl lt));
     beside =
-        All-append (IsBesideHeld s held) own a
-        (All-map (IsBesideHeld s held) (grant_of b.job) ps (λ k d lt. own_beside s sound sets held b pending numbered (get_or ps k d) (mine k d lt)))
-        (All-weaker (IsBesideHeld s (held ++ ps)) (IsBesideHeld s held) (λ h. beside_less h (leaf_in s.bids h.job h.leaf)) a run.beside);
+        All-append (IsBesideHeld s held) (grants_of b.job (placed s held b)) a
+        (All-map (IsBesideHeld s held) (grant_of b.job) (placed s held b) (λ k d lt. own_beside s sound sets held b pending numbered (get_or (placed s held b) k d) (mine k d lt)))
+        (All-weaker (IsBesideHeld s (held ++ (placed s held b))) (IsBesideHeld s held) (λ h. beside_less h (leaf_in s.bids h.job h.leaf)) a run.beside);
     of_jobs = λ job above.
-        All-append (IsLater job) own a (All-map (IsLater job) (grant_of b.job) ps (λ k d lt. All-head (IsLaterBid job) b bs above))
+        All-append (IsLater job) (grants_of b.job (placed s held b)) a (All-map (IsLater job) (grant_of b.job) (placed s held b) (λ k d lt. All-head (IsLaterBid job) b bs above))
         (run.of_jobs job (All-tail (IsLaterBid job) b bs above));
     thrifty =
-        All-cons (λ c. IsThriftyFor (own ++ a) c.job c.expr) b bs
-        (thrifty-append_left own a b.job b.expr (names_not b.job a after) (own_thrifty s sound sets held b pending numbered))
+        All-cons (λ c. IsThriftyFor ((grants_of b.job (placed s held b)) ++ a) c.job c.expr) b bs
+        (thrifty-append_left (grants_of b.job (placed s held b)) a b.job b.expr (names_not b.job a after) (own_thrifty s sound sets held b pending numbered))
         (λ k d lt.
-          let c = get_or bs k d in
-          thrifty-append_right own a c.job c.expr (own_names_not c.job b ps (λ same. absurd (omega (arith, later k d lt, same)))) (run.thrifty k d lt));
+        let c = get_or bs k d in
+        thrifty-append_right (grants_of b.job (placed s held b)) a c.job c.expr (own_names_not c.job b (placed s held b) (λ same. absurd (omega (arith, later k d lt, same)))) (run.thrifty k d lt));
   }
     where
-      abbrev ps : List Placement
-      ps = placed s held b
-
-      abbrev own : List Grant
-      own = grants_of b.job (placed s held b)
-
       fit : AreFit s b.job (is_held held) IsBefore [] (leaves b.expr) (placed s held b)
       fit = placed_is s sound sets held b pending numbered
 
@@ -327,3 +324,13 @@ module _ (s : Space) (sound : IsSound s) (sets : All IsStrictlyIncreasing s.sets
 
   pub first_fit_ordered : AllPairs ComesBefore (first_fit s)
   first_fit_ordered = whole_run.ordered
+
+-- in order, grants ascend by job
+pub by_job : (a : List Grant) → AllPairs ComesBefore a → IsNonDecreasingBy (λ (g : Grant). g.job) a
+by_job a ordered i j d le within = elim (cases_eq i j) [
+  | inl same ↦ omega (arith, ap (λ k. (get_or a k d).job) same)
+  | inr other ↦ elim (ordered i j d (omega (arith, le, other)) within) [
+    | inl lt ↦ omega (arith, lt)
+    | inr same ↦ omega (arith, same.0)
+  ]
+]

@@ -1,10 +1,6 @@
 pub mod FirstCycles
 pub mod FirstFitLaw
 pub mod FirstFits
-pub mod GivenLeaf
-pub mod LaunchLemmas
 pub mod OpeningLemmas
-pub mod Placed
 pub mod PrintLemmas
 pub mod Reported
-pub mod ThriftOfOne

@@ -1,5 +1,5 @@
 -- The instance of a trace at slot 0 is sound.
-use Rattle.std.proofs.Common.{◌≡◌, ℕ, ◌+◌, ◌<◌, ◌≤◌, List, [], ◌∷◌, length, get_or, All, AllPairs, false, zero, suc, refl, ap, arith}
+use Rattle.std.proofs.Common.{◌≡◌, ℕ, ◌+◌, ◌<◌, ◌≤◌, List, [], ◌∷◌, length, get_or, All, AllPairs, false, zero, suc, refl, ap, sym, subst, arith}
 use Rattle.std.proofs.lemmas.List.{length-replicate}
 use Rattle.std.proofs.lemmas.List.Elements.{All-nil, All-cons, All-head, All-tail, All-replicate, All-weaker}
 use Rattle.tetri_strl.specs.declared.expr.Leaf.{Leaf}
@@ -9,7 +9,8 @@ use Rattle.tetri_space.specs.Sound.{HasKnownSet, IsSoundBid, IsSound}
 use Rattle.tetri_trace.specs.Scenario.{Submission, Scenario, expr_of}
 use Rattle.tetri_trace.specs.Sound as trace
 use Rattle.tetri_trace.specs.Opening.{IsOpening, IsOpeningSubmission}
-use Rattle.tetri_run.specs.Opening.{bids_from, opening_space, AsksAtOnce, AllAskAtOnce}
+use Rattle.tetri_run.specs.Opening.{bids_from, opening_space}
+use Rattle.tetri_run.specs.FirstFit.{HasAscendingLeaves}
 
 pub length-bids_from : (first : ℕ) (js : List Submission) → length (bids_from first js) ≡ length js
 length-bids_from first [] = refl
@@ -62,14 +63,9 @@ opening_space_sound t sound = record {
   sound_bids = each_bid (trace.IsSoundSubmission t) (IsSoundBid (opening_space t)) (sound_bid t sound) 0 t.submissions sound.jobs;
 }
 
-asks_at_once : (t : Scenario) (job : ℕ) (j : Submission) → IsOpeningSubmission j → AsksAtOnce (opening_space t) (record { job = job; expr = expr_of j.demand })
-asks_at_once t job j opening = record {
-  leaf = opening.leaf;
-  expr = ap expr_of opening.demand;
-  over_first = opening.asks.over_all;
-  at_once = opening.asks.at_once;
-  exact = opening.asks.exact;
-}
+ascending_leaves : (job : ℕ) (j : Submission) → IsOpeningSubmission j → HasAscendingLeaves (record { job = job; expr = expr_of j.demand })
+ascending_leaves job j opening =
+    subst (λ d. AllPairs (λ l m. l.num < m.num) (leaves (expr_of d))) (sym opening.demand) (λ i k d lt within. absurd (omega (arith, lt, within)))
 
-pub opening_asks_at_once : (t : Scenario) → IsOpening t → AllAskAtOnce (opening_space t)
-opening_asks_at_once t opening = each_bid IsOpeningSubmission (AsksAtOnce (opening_space t)) (asks_at_once t) 0 t.submissions opening.jobs
+pub opening_ascends : (t : Scenario) → IsOpening t → All HasAscendingLeaves (opening_space t).bids
+opening_ascends t opening = each_bid IsOpeningSubmission HasAscendingLeaves ascending_leaves 0 t.submissions opening.jobs

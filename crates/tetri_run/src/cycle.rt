@@ -1,10 +1,10 @@
 // The plan of the first cycle.
-ghost use Rattle.std.specs.Prelude.{◌≡◌, ◌<◌, ◌^◌, ◌↔◌, ◌⊎◌, All, IfOk, map, replicate};
+ghost use Rattle.std.specs.Prelude.{◌≡◌, ◌<◌, ◌^◌, ◌↔◌, ◌⊎◌, All, IfOk};
 ghost use Rattle.std.specs.List.Sorted.{IsStrictlyIncreasing};
 ghost use Rattle.tetri_cert.specs.declared.mark.PlanMark.TheVariants as marks;
 ghost use Rattle.tetri_report.specs.Block.{block};
+ghost use Rattle.tetri_run.specs.FirstFit.{HasAscendingLeaves};
 ghost use Rattle.tetri_run.specs.OneCycle.{IsFirstCycle, optimal_count, summary_of};
-ghost use Rattle.tetri_run.specs.Opening.{AllAskAtOnce};
 ghost use Rattle.tetri_space.specs.Space.{Space, space};
 ghost use Rattle.tetri_space.specs.Sound.{IsSound};
 ghost use Rattle.tetri_state.specs.Launch.{worth_launched};
@@ -14,8 +14,7 @@ use std::alloc::{AllocError, Global};
 use tetri_cert::{Certificate, PlanMark};
 use tetri_report::{Cycle, Summary};
 use tetri_space::{Instance, tops, tops_bound_every_lawful_total, total};
-use tetri_state::Happened;
-use tetri_strl::Grant;
+use tetri_state::{Happened, launch_of, starts_of};
 
 fn mark_of(value: u64, bound: u64) -> PlanMark
     ensures optimal { (result ≡ marks.Optimal) ↔ (value ≡ bound) }
@@ -28,39 +27,28 @@ fn mark_of(value: u64, bound: u64) -> PlanMark
     }
 }
 
-// The jobs of grants, in their order.
-fn jobs_of(alloc: Global, grants: &[Grant]) -> Result<Vec<u32>, AllocError>
-    ensures { IfOk result (λ v. v.items ≡ map (λ g. g.job) grants.now) }
-{
-    let mut jobs = Vec::new(alloc);
-    for grant in grants {
-        jobs.push(grant.job)?;
-    }
-    Ok(jobs)
+/// A cycle, and what its launched jobs are worth.
+#[derive(Drop)]
+pub(crate) struct Told {
+    pub(crate) cycle: Cycle,
+    pub(crate) launched_worth: u64,
 }
 
-// One start for each grant.
-fn same_starts(alloc: Global, start: u32, count: usize) -> Result<Vec<u32>, AllocError>
-    ensures { IfOk result (λ v. v.items ≡ replicate count start) }
-{
-    vec![in alloc; start; count]
-}
-
-/// The first cycle: first fit is planned, and launched as a whole.
-pub(crate) fn first_cycle(alloc: Global, inst: &Instance) -> Result<Cycle, AllocError>
+/// The first cycle: first fit is planned.
+pub(crate) fn first_cycle(alloc: Global, inst: &Instance) -> Result<Told, AllocError>
     requires sound { IsSound (space inst.now) }
-    requires at_once { AllAskAtOnce (space inst.now) }
     requires sets { All IsStrictlyIncreasing (space inst.now).sets }
-    ensures first { IfOk result (λ c. IsFirstCycle (space inst.entry.now) (block c)) }
-    ensures worth { IfOk result (λ c. worth_launched (space inst.entry.now) c.grants ≡ c.value) }
+    requires numbered { All HasAscendingLeaves (space inst.now).bids }
+    ensures first { IfOk result (λ t. IsFirstCycle (space inst.entry.now) (block t.cycle)) }
+    ensures worth { IfOk result (λ t. worth_launched (space inst.entry.now) t.cycle.grants ≡ t.launched_worth) }
 {
     let grants = first_fit(alloc, inst)?;
     let value = total(inst, &grants);
     let bound = tops(inst);
     tops_bound_every_lawful_total(inst);
-    let starts = same_starts(alloc, inst.now, grants.as_slice().len())?;
-    let launched = jobs_of(alloc, grants.as_slice())?;
-    Ok(Cycle {
+    let starts = starts_of(alloc, inst, grants.as_slice())?;
+    let launch = launch_of(alloc, inst, grants.as_slice())?;
+    let cycle = Cycle {
         number: 0,
         happened: Happened {
             ended: Vec::new(alloc),
@@ -78,7 +66,11 @@ pub(crate) fn first_cycle(alloc: Global, inst: &Instance) -> Result<Cycle, Alloc
             columns: 0,
             rows: 0,
         },
-        launched,
+        launched: launch.jobs,
+    };
+    Ok(Told {
+        cycle,
+        launched_worth: launch.worth,
     })
 }
 
@@ -92,10 +84,10 @@ fn optimal_count(mark: PlanMark) -> u64
     }
 }
 
-/// The summary of a run of one cycle, whose value was launched as a whole.
-pub(crate) fn summary_of(cycle: &Cycle) -> Summary
+/// The summary of a run of one cycle, whose launched jobs are worth this much.
+pub(crate) fn summary_of(cycle: &Cycle, launched_worth: u64) -> Summary
     ensures small { result.worth < 2 ^ 64 }
-    ensures counts { (s : Space) → worth_launched s cycle.entry.now.grants ≡ cycle.entry.now.value
+    ensures counts { (s : Space) → worth_launched s cycle.entry.now.grants ≡ launched_worth
         → result ≡ summary_of s (block cycle.entry.now) }
 {
     Summary {
@@ -104,7 +96,7 @@ pub(crate) fn summary_of(cycle: &Cycle) -> Summary
         ended: 0,
         cancelled: 0,
         expired: 0,
-        worth: u128::from(cycle.value),
+        worth: u128::from(launched_worth),
         optimal: optimal_count(cycle.mark),
     }
 }

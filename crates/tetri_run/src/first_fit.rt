@@ -1,61 +1,84 @@
 // First fit, until an exact planner is built.
-ghost use Rattle.std.specs.Prelude.{◌≡◌, ◌≤◌, List, IfOk, OnOk};
+ghost use Rattle.std.specs.Prelude.{◌≡◌, ◌==◌, ◌++◌, All, Contains, List, length, filter, IfOk, OnOk};
+ghost use Rattle.std.specs.List.{list_any};
 ghost use Rattle.std.specs.List.Sorted.{IsStrictlyIncreasing};
 ghost use Rattle.tetri_advice.specs.Fit.{Placement};
-ghost use Rattle.tetri_greedy.specs.Open.{IsOpenBeside};
-ghost use Rattle.tetri_run.specs.FirstFit.{first_fit, GotFit};
-ghost use Rattle.tetri_run.specs.Opening.{AsksAtOnce, AllAskAtOnce, AsksExactLeaf};
+ghost use Rattle.tetri_greedy.specs.Held.{TellsOf};
+ghost use Rattle.tetri_run.specs.FirstFit.{GotFit, HasAscendingLeaves, first_fit};
 ghost use Rattle.tetri_space.specs.Space.{Space, bid, space};
 ghost use Rattle.tetri_space.specs.Sound.{IsSound};
-ghost use Rattle.tetri_strl.specs.Tree.{tree};
+ghost use Rattle.tetri_strl.specs.Trim.{earns};
 
 use std::alloc::{AllocError, Global};
-use tetri_greedy::OpenNodes;
+use tetri_greedy::{HeldSlots, Placements, fit};
 use tetri_space::{Instance, Offer};
-use tetri_strl::{Allotment, Expr, Grant};
+use tetri_strl::{Allotment, Grant, idle_leaves};
 
-// Grants a job its fit, where that is worth something.
-fn grant_fit(
-    alloc: Global,
-    offer: &Offer,
-    nodes: &mut OpenNodes,
+// Whether the grant is the job's, and its leaf is none of these.
+fn is_earning(grant: &Grant, job: u32, idle: &[u32]) -> bool
+    ensures { result ≡ earns job idle.now grant.now }
+{
+    grant.job == job && !has_number(idle, grant.leaf)
+}
+
+fn has_number(numbers: &[u32], number: u32) -> bool
+    ensures { result ≡ list_any (λ n. n == number) numbers.now }
+{
+    numbers.iter().any(|n| *n == number)
+}
+
+// Puts the grants that earn something last.
+fn push_earning(
+    own: Vec<Grant>,
+    job: u32,
+    idle: &[u32],
     grants: &mut Allotment,
 ) -> Result<(), AllocError>
-    requires asks { AsksExactLeaf (tree offer.now.expr) }
-    requires ascending { IsStrictlyIncreasing nodes.old }
-    ensures ascending { OnOk result (IsStrictlyIncreasing nodes.new) }
-    ensures fit { OnOk result ((s : Space) (held : List Placement) → AsksAtOnce s (bid offer.entry.now) → 1 ≤ s.window
-        → IsOpenBeside s 0 held nodes.old → GotFit s held (bid offer.entry.now) nodes.new grants.old grants.new) }
+    ensures { OnOk result (grants.new ≡ grants.old ++ filter (earns job idle.now) own.items) }
 {
-    let Expr::One(leaf) = &offer.expr else {
-        unreachable!()
-    };
-    if leaf.v == 0 {
-        return Ok(());
-    }
-    if let Some(nodes) = nodes.fit(alloc, leaf)? {
-        grants.push(Grant {
-            job: offer.job,
-            leaf: leaf.num,
-            nodes,
-        })?;
+    for grant in own {
+        if is_earning(&grant, job, idle) {
+            grants.push(grant)?;
+        }
     }
     Ok(())
 }
 
-/// Each job in order gets the lowest nodes that earlier jobs left, where they are worth something.
+// Grants a job its fit without what earns nothing, and holds its nodes.
+fn place_job(
+    alloc: Global,
+    inst: &Instance,
+    offer: &Offer,
+    held: &mut HeldSlots,
+    grants: &mut Allotment,
+) -> Result<(), AllocError>
+    requires sound { IsSound (space inst.now) }
+    requires sets { All IsStrictlyIncreasing (space inst.now).sets }
+    requires pending { Contains (space inst.now).bids (bid offer.now) }
+    requires numbered { HasAscendingLeaves (bid offer.now) }
+    requires as_many { length held.old ≡ (space inst.now).nodes }
+    ensures as_many { OnOk result (length held.new ≡ (space inst.entry.now).nodes) }
+    ensures fit { OnOk result ((before : List Placement) → TellsOf (space inst.entry.now) before held.old
+        → GotFit (space inst.entry.now) before (bid offer.entry.now) held.new grants.old grants.new) }
+{
+    let mut own = Placements::new(alloc, offer.job);
+    fit(alloc, inst, held, &offer.expr, &mut own)?;
+    let idle = idle_leaves(alloc, &offer.expr, offer.job, own.grants())?;
+    own.hold_but(&idle, inst.now, held);
+    push_earning(own.into_grants(), offer.job, &idle, grants)
+}
+
+/// Each job in order gets its fit beside what earlier jobs hold, without what earns nothing.
 pub(crate) fn first_fit(alloc: Global, inst: &Instance) -> Result<Allotment, AllocError>
     requires sound { IsSound (space inst.now) }
-    requires at_once { AllAskAtOnce (space inst.now) }
+    requires sets { All IsStrictlyIncreasing (space inst.now).sets }
+    requires numbered { All HasAscendingLeaves (space inst.now).bids }
     ensures { IfOk result (λ a. a ≡ first_fit (space inst.entry.now)) }
 {
     let mut grants = Allotment::new(alloc);
-    if inst.jobs.is_empty() {
-        return Ok(grants);
-    }
-    let mut nodes = OpenNodes::new(alloc, inst, 0)?;
+    let mut held = HeldSlots::new(alloc, inst.nodes)?;
     for offer in &inst.jobs {
-        grant_fit(alloc, offer, &mut nodes, &mut grants)?;
+        place_job(alloc, inst, offer, &mut held, &mut grants)?;
     }
     Ok(grants)
 }

@@ -26,10 +26,10 @@ pub(crate) fn make_report(alloc: Global, trace: &Trace) -> Result<Report, AllocE
     ensures { IfOk result (IsReportOf (scenario trace.entry.now)) }
 {
     let inst = opening_instance(alloc, trace)?;
-    let cycle = first_cycle(alloc, &inst)?;
-    let summary = summary_of(&cycle);
+    let told = first_cycle(alloc, &inst)?;
+    let summary = summary_of(&told.cycle, told.launched_worth);
     Ok(Report {
-        cycle: print_cycle(alloc, trace, &cycle)?,
+        cycle: print_cycle(alloc, trace, &told.cycle)?,
         summary: print_summary(alloc, &summary)?,
     })
 }
