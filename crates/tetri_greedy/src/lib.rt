@@ -8,3 +8,6 @@ mod held;
 pub use fits::fit;
 pub use fitted::Placements;
 pub use held::HeldSlots;
+
+#[cfg(test)]
+mod tests;
