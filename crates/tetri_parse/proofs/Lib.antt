@@ -1,4 +1,5 @@
 mod Added
+mod Every
 mod Grammars
 mod NodeSets
 mod Outcomes
@@ -6,3 +7,7 @@ mod Rows
 mod Settled
 mod Spelled
 mod Steps
+mod TokensBack
+mod SetsBack
+mod LeavesBack
+mod TreesBack

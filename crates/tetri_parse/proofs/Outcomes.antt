@@ -6,7 +6,7 @@ use Rattle.tetri_strl.specs.Tree.{tree}
 use Rattle.tetri_parse.specs.declared.fault.Stop.{Stop}
 use Rattle.tetri_parse.specs.Answers.{Gives}
 use Rattle.tetri_parse.specs.Phrase.{Phrase}
-use Rattle.tetri_parse.specs.ReadTree.{AreWithin, IsReadTree}
+use Rattle.tetri_parse.specs.TextTree.{AreWithin, IsTextTree}
 use Rattle.tetri_parse.specs.SetText.{IsNodeSet}
 use Rattle.tetri_parse.specs.Settling.{settled, settled_set}
 use Rattle.tetri_parse.specs.Written.{IsSpelled}
@@ -15,7 +15,7 @@ use Rattle.tetri_parse.proofs.Settled.{is_read}
 use Rattle.tetri_parse.proofs.Steps.{set_found}
 
 module _ (unit arrival count : ℕ) (early : arrival ≤ 10000) (p : Phrase) (to : ℕ) (spelled : IsSpelled count 64 0 p to) (sets after : List (List ℕ)) where
-  pub read_tree : (r : Result Expr Stop) → Gives (λ e. (tree e, after)) r (settled unit arrival None p sets) → IfOk r (λ e. IsReadTree arrival (length after) (tree e))
+  pub read_tree : (r : Result Expr Stop) → Gives (λ e. (tree e, after)) r (settled unit arrival None p sets) → IfOk r (λ e. IsTextTree arrival (length after) (tree e))
   read_tree (Ok e) h = (is_read unit arrival count early p to sets (tree e, after) spelled h).0
   read_tree (Err e) h = tt
 

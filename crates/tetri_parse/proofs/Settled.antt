@@ -15,7 +15,7 @@ use Rattle.tetri_parse.specs.declared.fault.Fault.TheVariants.{Mixed, Uneven}
 use Rattle.tetri_parse.specs.declared.syntax.LeafText.{LeafText}
 use Rattle.tetri_parse.specs.Answers.{◌>>=◌}
 use Rattle.tetri_parse.specs.Phrase.{Phrase, Phrases, asked, joined, scaled, barred, nothing, followed}
-use Rattle.tetri_parse.specs.ReadTree.{AreWithin, IsReadTree}
+use Rattle.tetri_parse.specs.TextTree.{AreWithin, IsTextTree}
 use Rattle.tetri_parse.specs.Settling.{first_start, first_start_of, wanted_below, is_mixed, settled_set, unless_rich, made_of, peak_of, peaks_of, leaf_with, settled_value, settled_leaf, settled, settled_all}
 use Rattle.tetri_parse.specs.Written.{IsWrittenLeaf, HasPart, IsLeafFrom, IsBody, AreSpelled, IsSpelled}
 use Rattle.tetri_parse.proofs.Added.{added_all, added_grown, added_number}
@@ -269,7 +269,7 @@ module _ (unit arrival count : ℕ) where
           })
 
     -- the tree that was made, and the sets afterwards
-    pub is_read : (p : Phrase) (to : ℕ) (sets : List (List ℕ)) (x : Tree × List (List ℕ)) → IsSpelled count 64 0 p to → settled unit arrival None p sets ≡ Ok x → IsReadTree arrival (length x.1) x.0 × (AreWithin count sets → AreWithin count x.1)
+    pub is_read : (p : Phrase) (to : ℕ) (sets : List (List ℕ)) (x : Tree × List (List ℕ)) → IsSpelled count 64 0 p to → settled unit arrival None p sets ≡ Ok x → IsTextTree arrival (length x.1) x.0 × (AreWithin count sets → AreWithin count x.1)
     is_read p to sets x good h =
         let a = is_settled 63 0 None p to sets x good.1 h in
         let leaf_numbers : map (λ l. l.num) (leaves x.0) ≡ range_with_len 0 a.leaf_count = sym (numbers_of_leaves x.0) ∙ a.numbered in

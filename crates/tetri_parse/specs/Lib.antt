@@ -7,4 +7,5 @@ pub mod Grammar
 pub mod Settling
 pub mod Expression
 pub mod Written
-pub mod ReadTree
+pub mod TextTree
+pub mod Printing

@@ -5,6 +5,8 @@ mod fault;
 mod nodes;
 mod number;
 mod peak;
+mod print;
+mod printing;
 mod read;
 mod reading;
 mod set_text;
@@ -13,4 +15,8 @@ mod syntax;
 mod token;
 
 pub use fault::{Fault, ParseFault};
+pub use print::print_expr;
 pub use read::{read_expr, read_set};
+
+#[cfg(test)]
+mod tests;

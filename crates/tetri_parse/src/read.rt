@@ -6,7 +6,7 @@ ghost use Rattle.tetri_strl.specs.Tree.{tree, numbers, leaves};
 ghost use Rattle.tetri_strl.specs.WellMade.{IsWellMade};
 ghost use Rattle.tetri_parse.specs.Answers.{Gives, Answers, fault_in};
 ghost use Rattle.tetri_parse.specs.Expression.{expression, expression_left, node_set, node_set_left};
-ghost use Rattle.tetri_parse.specs.ReadTree.{AreWithin, IsReadTree};
+ghost use Rattle.tetri_parse.specs.TextTree.{AreWithin, IsTextTree};
 
 use crate::fault::{Fault, ParseFault, Stop};
 use crate::reading::whole;
@@ -40,7 +40,7 @@ fn read_parts(
     requires { (terms.unit ≤ 1000000) × (terms.arrival ≤ 10000) }
     ensures value { Gives (λ e. (tree e, sets.new)) result (expression_left text.entry.now terms.unit terms.arrival cluster.entry.now sets.old) }
     ensures kept { take (length sets.old) sets.new ≡ sets.old }
-    ensures good { IfOk result (λ e. IsReadTree terms.arrival (length sets.new) (tree e)) }
+    ensures good { IfOk result (λ e. IsTextTree terms.arrival (length sets.new) (tree e)) }
     ensures within { IfOk result (λ _. AreWithin (length cluster.entry.now) sets.old → AreWithin (length cluster.entry.now) sets.new) }
 {
     let syntax = whole(alloc, cluster, text)?;
@@ -68,6 +68,7 @@ pub fn read_expr(
     ensures starts { IfOk result (λ e. EachLeaf (λ l. (arrival ≤ l.start) × (l.start ≤ arrival + 10000)) (tree e)) }
     ensures numbered { IfOk result (λ e. numbers (tree e) ≡ range_with_len 0 (length (leaves (tree e)))) }
     ensures known { IfOk result (λ e. EachLeaf (λ l. l.set < length sets.new) (tree e)) }
+    ensures text_tree { IfOk result (λ e. IsTextTree arrival (length sets.new) (tree e)) }
     ensures within { AreWithin (length cluster.entry.now) sets.old → AreWithin (length cluster.entry.now) sets.new }
 {
     let held = sets.len();

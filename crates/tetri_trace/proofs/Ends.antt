@@ -4,7 +4,7 @@ use Rattle.std.proofs.lemmas.List.{drop_all}
 use Rattle.std.proofs.Common.{lt-ltb}
 use Rattle.tetri_io.specs.Lines.{line_of, lines_from, onto}
 use Rattle.tetri_io.proofs.Lines.{line_of-le, first_line}
-use Rattle.tetri_trace.specs.Answers.{Stops, Fails, fault_at_zero}
+use Rattle.tetri_trace.specs.Answers.{◌>>=◌, Stops, Fails, fault_at_zero}
 use Rattle.tetri_trace.specs.Draft.{Part}
 use Rattle.tetri_trace.specs.Lines.{add_line, from_lines, ended, at_line_zero}
 use Rattle.tetri_trace.specs.Scenario.{Scenario}
@@ -14,16 +14,17 @@ use Rattle.tetri_trace.specs.declared.fault.TraceWhy.{TraceWhy}
 use Rattle.tetri_trace.specs.declared.fault.TraceWhy.TheVariants.{NotBuilt}
 
 -- no line is left
-pub at_end : (p : Part) (content : List ℕ) (offset : ℕ) → length content ≤ offset → from_lines p (lines_from offset (drop offset content)) ≡ ended p.head p.submissions
+pub at_end : (p : Part) (content : List ℕ) (offset : ℕ) → length content ≤ offset → from_lines p (lines_from offset (drop offset content)) ≡ ended p.head p.arrivals
 at_end p content offset h = ap (λ rest. from_lines p (lines_from offset rest)) (drop_all offset content h)
 
 -- what a step stopped for is a fault at line 0
-pub fails_at_zero : (stop : Stop) (reading : Result Scenario TraceWhy) → Stops stop reading → Fails (fault_at_zero stop) (at_line_zero reading)
-fails_at_zero (stops.Because why) reading h = ap at_line_zero h
-fails_at_zero stops.NoMemory reading h = tt
+pub fails_at_zero : (stop : Stop) (reading : Result Part TraceWhy) (next : Part → Result Scenario (ℕ × TraceWhy)) → Stops stop reading →
+    Fails (fault_at_zero stop) (at_line_zero reading >>= next)
+fails_at_zero (stops.Because why) reading next h = ap (λ r. at_line_zero r >>= next) h
+fails_at_zero stops.NoMemory reading next h = tt
 
 -- a line with too many bytes is refused
-too_long : (p : Part) (line : List ℕ × ℕ) (others : List (List ℕ × ℕ)) → 1048576 < length line.0 → from_lines p (line ∷ others) ≡ Err NotBuilt
+too_long : (p : Part) (line : List ℕ × ℕ) (others : List (List ℕ × ℕ)) → 1048576 < length line.0 → from_lines p (line ∷ others) ≡ Err (0, NotBuilt)
 unfolding add_line
 too_long p line others h = rw (lt-ltb 1048576 (length line.0) h) refl
 
@@ -43,7 +44,7 @@ some_line at (x ∷ xs) h =
     ]
 
 -- the next line has too many bytes
-pub goes_too_long : (p : Part) (content : List ℕ) (offset : ℕ) → 1048576 < length (line_of (drop offset content)) → from_lines p (lines_from offset (drop offset content)) ≡ Err NotBuilt
+pub goes_too_long : (p : Part) (content : List ℕ) (offset : ℕ) → 1048576 < length (line_of (drop offset content)) → from_lines p (lines_from offset (drop offset content)) ≡ Err (0, NotBuilt)
 goes_too_long p content offset h =
     let found = some_line offset (drop offset content) (omega (arith, h, line_of-le (drop offset content))) in
     let first = first_line offset (drop offset content) found.0.0 found.0.1 found.1 found.2 in

@@ -23,15 +23,18 @@ abbrev pub Gives : {X Y : Type 0} → (X → Y) → Result X Stop → Result Y T
 Gives view (Ok x) reading = reading ≡ Ok (view x)
 Gives view (Err e) reading = Stops e reading
 
--- the same of a whole trace, unless a read failed
-abbrev pub Fails : TraceFault → Result Scenario (ℕ × TraceWhy) → Type 0
+-- the same of what has the number of a line, unless a read failed
+abbrev pub Fails : {Y : Type 0} → TraceFault → Result Y (ℕ × TraceWhy) → Type 0
 Fails faults.Read reading = Unit {0}
 Fails (faults.Bad line why) reading = reading ≡ Err (line, why)
 Fails faults.NoMemory reading = Unit {0}
 
+abbrev pub GivesAt : {X Y : Type 0} → (X → Y) → Result X TraceFault → Result Y (ℕ × TraceWhy) → Type 0
+GivesAt view (Ok x) reading = reading ≡ Ok (view x)
+GivesAt view (Err e) reading = Fails e reading
+
 abbrev pub AnswersTrace : Result Trace TraceFault → Result Scenario (ℕ × TraceWhy) → Type 0
-AnswersTrace (Ok t) reading = reading ≡ Ok (scenario t)
-AnswersTrace (Err e) reading = Fails e reading
+AnswersTrace = GivesAt scenario
 
 -- input that is not built yet is refused at line 0
 abbrev pub fault_at_zero : Stop → TraceFault

@@ -4,15 +4,11 @@ use Rattle.std.specs.Str.{is_utf8}
 use Rattle.serde_json.specs.Data.{Data, null, boolean, number, string, array, object, Items, no_items, item}
 use Rattle.serde_json.specs.Read.{read}
 use Rattle.serde_json.specs.Find.{get, as_number, as_i64, as_str, as_array}
-use Rattle.tetri_strl.specs.Tree.{one}
-use Rattle.tetri_strl.specs.declared.expr.Leaf.{Leaf}
 use Rattle.tetri_cluster.specs.Names.{is_name, first_repeated}
 use Rattle.tetri_cluster.specs.Cluster.{names_of}
 use Rattle.tetri_cluster.specs.declared.cluster.NodeText.{NodeText}
 use Rattle.tetri_trace.specs.Answers.{◌>>=◌}
-use Rattle.tetri_trace.specs.LeafText.{leaf_in_text}
-use Rattle.tetri_trace.specs.Scenario.{Submission, strl}
-use Rattle.tetri_trace.specs.Draft.{HeadData}
+use Rattle.tetri_trace.specs.Draft.{Arrival, HeadData}
 use Rattle.tetri_trace.specs.declared.fault.TraceWhy.{TraceWhy}
 use Rattle.tetri_trace.specs.declared.fault.TraceWhy.TheVariants.{NotBuilt}
 
@@ -44,9 +40,23 @@ is_absent key d = is_nothing (get key d)
 abbrev pub has_key : List ℕ → Data → Bool
 has_key key d = is_some (get key d)
 
--- a node, which has a name and no tags
+-- each item of a list as a name
+abbrev pub names_in : Items → Option (List (List ℕ))
+names_in no_items = Some []
+names_in (item d ds) = option_and_then (λ name. option_map (λ names. name ∷ names) (names_in ds)) (name_in d)
+
+-- names, and then those that were found
+abbrev pub after_names : List (List ℕ) → Option (List (List ℕ)) → Option (List (List ℕ))
+after_names front found = option_map (λ names. front ++ names) found
+
+-- the tags of a node, which may be left out
+abbrev pub tags_in : Data → Option (List (List ℕ))
+tags_in d = if is_absent (codes "tags") d then Some [] else option_and_then names_in (option_and_then as_array (get (codes "tags") d))
+
+-- a node, which has a name and may have tags
 abbrev pub node_in : Data → Option NodeText
-node_in d = if is_absent (codes "tags") d then option_map (λ name. record { name = name; tags = [] }) (option_and_then name_in (get (codes "name") d)) else None
+node_in d =
+    option_and_then (λ name. option_map (λ tags. record { name = name; tags = tags }) (tags_in d)) (option_and_then name_in (get (codes "name") d))
 
 -- each item of a list as a node
 abbrev pub nodes_in : Items → Option (List NodeText)
@@ -70,6 +80,10 @@ make_cluster nodes = nat_le 1 (length nodes) && nat_le (length nodes) 4096 && is
 abbrev pub cluster_in : Data → Result (List NodeText) TraceWhy
 cluster_in d = ok_or (option_and_then (λ ns. if make_cluster ns then Some ns else None) (option_and_then nodes_in (as_array d))) NotBuilt
 
+-- what written worths are multiplied by, 1 where it is left out
+abbrev pub unit_in : Data → Result ℕ TraceWhy
+unit_in d = if is_absent (codes "unit") d then Ok 1 else required_number (codes "unit") 1 1000000 d
+
 unfoldable pub head_in : Data → Result HeadData TraceWhy
 head_in d = do
   value ← required (codes "nodes") d
@@ -77,27 +91,25 @@ head_in d = do
   window ← required_number (codes "window") 1 64 d
   budget ← required_number (codes "budget") 1 10000 d
   until ← required_number (codes "until") 1 1 d
-  if is_absent (codes "unit") d then Ok (record { header = record { window = window; budget = budget; until = until; unit = 1 }; nodes = nodes }) else Err NotBuilt
+  unit ← unit_in d
+  Ok (record { header = record { window = window; budget = budget; until = until; unit = unit }; nodes = nodes })
 
 -- none of the keys that are not built yet
 abbrev pub is_plain_arrival : Data → Bool
 is_plain_arrival d = is_absent (codes "late") d && not (has_key (codes "ask") d) && not (has_key (codes "cancel") d) && not (has_key (codes "drain") d) && not (has_key (codes "undrain") d)
 
-abbrev pub submitted : List ℕ → Leaf → Submission
-submitted name leaf = record { name = name; arrival = 0; late = pos 0; demand = strl (one leaf) }
+abbrev pub text_of_value : Data → Result (List ℕ) TraceWhy
+text_of_value value = ok_or (as_str value) NotBuilt
 
-abbrev pub leaf_of_value : Data → Result Leaf TraceWhy
-leaf_of_value value = ok_or (option_and_then leaf_in_text (as_str value)) NotBuilt
-
--- the job that arrives
-unfoldable pub submission_in : Data → Result Submission TraceWhy
-submission_in d = do
+-- the job that arrives in this line
+unfoldable pub arrival_in : ℕ → Data → Result Arrival TraceWhy
+arrival_in line d = do
   at ← required_number (codes "at") 0 0 d
   arrive ← required (codes "arrive") d
   name ← ok_or (name_in arrive) NotBuilt
   value ← required (codes "strl") d
-  leaf ← leaf_of_value value
-  if is_plain_arrival d then Ok (submitted name leaf) else Err NotBuilt
+  text ← text_of_value value
+  if is_plain_arrival d then Ok (record { name = name; text = text; line = line }) else Err NotBuilt
 
 abbrev pub object_or : Data → Result Data TraceWhy
 object_or null = Err NotBuilt

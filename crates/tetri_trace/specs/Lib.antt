@@ -3,6 +3,5 @@ pub mod Sound
 pub mod Answers
 pub mod Draft
 pub mod Opening
-pub mod LeafText
 pub mod Fields
 pub mod Lines

@@ -1,31 +1,25 @@
--- Input of the form that is built so far: one cycle, and single `nCk` leaves over all nodes that start at once.
-use Rattle.std.specs.Prelude.{◌≡◌, ◌≤◌, pos, false, true, All, length}
+-- Input of the form that is built so far: one cycle, to which each job brings the text of an expression.
+use Rattle.std.specs.Prelude.{◌≡◌, ◌<◌, ◌≤◌, ℕ, pos, true, All, length, map}
+use Rattle.std.specs.List.{range_with_len}
 use Rattle.std.specs.Option.{ForSome}
-use Rattle.tetri_strl.specs.declared.expr.Leaf.{Leaf}
-use Rattle.tetri_strl.specs.Tree.{one}
-use Rattle.tetri_strl.specs.WellMade.{IsSound}
+use Rattle.tetri_strl.specs.Aligned.{EachLeaf}
+use Rattle.tetri_strl.specs.Tree.{leaves, numbers}
+use Rattle.tetri_strl.specs.WellMade.{IsWellMade}
 use Rattle.tetri_cluster.specs.Names.{is_name, differ}
 use Rattle.tetri_cluster.specs.Cluster.{names_of}
-use Rattle.tetri_trace.specs.Draft.{HeadData, Part, part}
+use Rattle.tetri_trace.specs.Draft.{Arrival, HeadData, Part, names_of_arrivals, part}
 use Rattle.tetri_trace.specs.declared.draft.Draft.{Draft}
-use Rattle.tetri_trace.specs.Scenario.{Submission, Scenario, strl, job_names}
+use Rattle.tetri_trace.specs.Scenario.{Submission, expr_of}
 use Rattle.tetri_trace.specs.Sound.{IsSoundHeader}
 
-pub record IsOpeningLeaf (l : Leaf) : Type 0 where
-  pub first : l.num ≡ 0
-  pub over_all : l.set ≡ 0
-  pub at_once : l.start ≡ 0
-  pub exact : l.linear ≡ false
-  pub sound : IsSound (one l)
-
--- a job that asks for one such leaf
-pub record IsOpeningSubmission (j : Submission) : Type 0 where
+-- a job that arrives at slot 0, whose expression names some of the first sets
+pub record IsOpeningSubmission (sets : ℕ) (j : Submission) : Type 0 where
   pub named : is_name j.name ≡ true
   pub arrival : j.arrival ≡ 0
   pub late : j.late ≡ pos 0
-  pub leaf : Leaf
-  pub demand : j.demand ≡ strl (one leaf)
-  pub asks : IsOpeningLeaf leaf
+  pub well_made : IsWellMade (expr_of j.demand)
+  pub numbered : numbers (expr_of j.demand) ≡ range_with_len 0 (length (leaves (expr_of j.demand)))
+  pub known : EachLeaf (λ l. l.set < sets) (expr_of j.demand)
 
 pub record IsSoundHead (h : HeadData) : Type 0 where
   pub header : IsSoundHeader h.header
@@ -37,16 +31,11 @@ pub record IsSoundHead (h : HeadData) : Type 0 where
 
 pub record IsSoundPart (p : Part) : Type 0 where
   pub head : ForSome p.head IsSoundHead
-  pub few : length p.submissions ≤ 100000
-  pub differ : differ (job_names p.submissions) ≡ true
-  pub opening : All IsOpeningSubmission p.submissions
+  pub few : length p.arrivals ≤ 100000
+  pub differ : differ (names_of_arrivals p.arrivals) ≡ true
+  pub named : All (λ name. is_name name ≡ true) (names_of_arrivals p.arrivals)
 
 -- a draft that has an index of its jobs' names
 pub record IsSoundDraft (d : Draft) : Type 0 where
-  pub named : d.names ≡ job_names (part d).submissions
+  pub indexed : d.names ≡ names_of_arrivals (part d).arrivals
   pub sound : IsSoundPart (part d)
-
--- a whole trace of this form
-pub record IsOpening (s : Scenario) : Type 0 where
-  pub one_cycle : s.header.until ≡ 1
-  pub jobs : All IsOpeningSubmission s.submissions

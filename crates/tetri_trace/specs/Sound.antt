@@ -1,7 +1,7 @@
 -- Which traces are sound.
 use Rattle.std.specs.Prelude.{◌≡◌, ◌<◌, ◌≤◌, ℕ, pos, negsuc, ◌≤ℤ◌, true, map, All, AllPairs, length, Option, Some, None}
 use Rattle.std.specs.List.{filter_map, zip, range_with_len}
-use Rattle.tetri_strl.specs.Tree.{leaves}
+use Rattle.tetri_strl.specs.Tree.{leaves, numbers}
 use Rattle.tetri_strl.specs.WellMade.{IsWellMade}
 use Rattle.tetri_cluster.specs.Names.{is_name, differ}
 use Rattle.tetri_cluster.specs.Cluster.{names_of}
@@ -28,6 +28,7 @@ pub record IsSoundSubmission (s : Scenario) (j : Submission) : Type 0 where
   pub not_too_early : negsuc 9999 ≤ℤ j.late
   pub not_too_late : j.late ≤ℤ pos 10000
   pub well_made : IsWellMade (expr_of j.demand)
+  pub numbered : numbers (expr_of j.demand) ≡ range_with_len 0 (length (leaves (expr_of j.demand)))
   pub known_sets : All (λ l. l.set < length s.sets) (leaves (expr_of j.demand))
 
 -- the number names a job or a node that is there

@@ -1,11 +1,14 @@
 // Why a trace is not read.
 use std::alloc::{AllocError, AllocFailed};
+use tetri_parse::Fault;
 
 /// Why a line of a trace is faulty.
 #[derive(Clone, Copy, Debug, PartialEq, Eq)]
 pub enum TraceWhy {
     /// The input is not of the form that is built so far, at line 0.
     NotBuilt,
+    /// The text of an expression has this fault behind so many bytes.
+    BadStrl { offset: u64, fault: Fault },
 }
 
 /// Why a trace is not read. Lines count from 1.

@@ -2,18 +2,15 @@
 ghost use Rattle.std.specs.Prelude.{◌≡◌, ◌<◌, ◌≤◌, ◌^◌, true, IfOk, IsOkUnless, option_and_then, option_map, ok_or};
 ghost use Rattle.serde_json.specs.View.{view};
 ghost use Rattle.serde_json.specs.Find.{as_str};
-ghost use Rattle.tetri_trace.specs.Opening.{IsOpeningLeaf};
 ghost use Rattle.tetri_cluster.specs.Names.{is_name};
 ghost use Rattle.tetri_trace.specs.Answers.{Gives};
-ghost use Rattle.tetri_trace.specs.Fields.{required, required_number, number_in, name_in, is_absent, has_key, leaf_of_value, object_in};
+ghost use Rattle.tetri_trace.specs.Fields.{required, required_number, number_in, name_in, is_absent, has_key, text_of_value, object_in};
 ghost use Rattle.tetri_trace.specs.declared.fault.TraceWhy.TheVariants as whys;
 
 use crate::fault::{Stop, TraceWhy};
-use crate::leaf_text::leaf_in_text;
 use serde_json::Value;
 use std::alloc::Global;
 use tetri_cluster::{Name, NameFault, is_name};
-use tetri_strl::Leaf;
 
 /// The value of a key that must be there.
 pub(crate) fn required<'v>(object: &'v Value, key: &str) -> Result<&'v Value, Stop>
@@ -86,16 +83,12 @@ pub(crate) fn has_key(object: &Value, key: &str) -> bool
     object.get(key).is_some()
 }
 
-/// The leaf whose text a value is.
-pub(crate) fn leaf_of_value(value: &Value) -> Result<Leaf, Stop>
-    ensures gives { Gives (λ l. l) result (leaf_of_value (view value.now)) }
-    ensures opening { IfOk result IsOpeningLeaf }
+/// The text that a value is.
+pub(crate) fn text_of_value(value: &Value) -> Result<&str, Stop>
+    ensures { Gives (λ s. s.now) result (text_of_value (view value.now)) }
 {
-    let Some(text) = value.as_str() else {
-        return Err(Stop::Because(TraceWhy::NotBuilt));
-    };
-    match leaf_in_text(text.as_bytes()) {
-        Some(leaf) => Ok(leaf),
+    match value.as_str() {
+        Some(text) => Ok(text),
         None => Err(Stop::Because(TraceWhy::NotBuilt)),
     }
 }

@@ -1,12 +1,12 @@
 // The header of a trace.
 ghost use Rattle.std.specs.Prelude.{◌≡◌, ◌≤◌, length, true, All, Ok, Err, if◌then◌else◌, IfOk, IsOkUnless, option_and_then, option_map, ok_or};
-ghost use Rattle.serde_json.specs.View.{view};
+ghost use Rattle.serde_json.specs.View.{items_view, view};
 ghost use Rattle.serde_json.specs.Find.{as_array};
 ghost use Rattle.tetri_cluster.specs.Cluster.{names_of};
 ghost use Rattle.tetri_cluster.specs.Names.{differ, is_name};
 ghost use Rattle.tetri_trace.specs.Answers.{Gives};
 ghost use Rattle.tetri_trace.specs.Draft.{head};
-ghost use Rattle.tetri_trace.specs.Fields.{node_in, nodes_in, cluster_in, make_cluster, head_in};
+ghost use Rattle.tetri_trace.specs.Fields.{node_in, nodes_in, names_in, tags_in, unit_in, cluster_in, make_cluster, head_in};
 ghost use Rattle.tetri_trace.specs.declared.fault.TraceWhy.TheVariants as whys;
 ghost use Rattle.tetri_trace.specs.Opening.{IsSoundHead};
 
@@ -28,17 +28,43 @@ fn node_in(alloc: Global, value: &Value) -> Result<NodeText, Stop>
     ensures named { IfOk result (λ n. is_name n.name ≡ true) }
     ensures gives { Gives (λ n. n) result (ok_or (node_in (view value.now)) whys.NotBuilt) }
 {
-    if !is_absent(value, "tags") {
-        return Err(Stop::Because(TraceWhy::NotBuilt));
-    }
     let Some(name) = value.get("name").and_then(name_in) else {
         return Err(Stop::Because(TraceWhy::NotBuilt));
     };
     let name = read_name(alloc, name)?;
-    Ok(NodeText {
-        name,
-        tags: NameList::new(alloc),
-    })
+    let tags = tags_in(alloc, value)?;
+    Ok(NodeText { name, tags })
+}
+
+fn tags_in(alloc: Global, value: &Value) -> Result<NameList, Stop>
+    ensures { Gives (λ l. l) result (ok_or (tags_in (view value.now)) whys.NotBuilt) }
+{
+    if is_absent(value, "tags") {
+        return Ok(NameList::new(alloc));
+    }
+    let Some(list) = value.get("tags").and_then(array_in) else {
+        return Err(Stop::Because(TraceWhy::NotBuilt));
+    };
+    names_in(alloc, list)
+}
+
+fn array_in(value: &Value) -> Option<&Vec<Value>>
+    ensures { option_map (λ v. items_view v.now.items) result ≡ as_array (view value.now) }
+{
+    value.as_array()
+}
+
+fn names_in(alloc: Global, list: &[Value]) -> Result<NameList, Stop>
+    ensures { Gives (λ l. l) result (ok_or (names_in (items_view list.now)) whys.NotBuilt) }
+{
+    let mut names = NameList::new(alloc);
+    for item in list {
+        let Some(name) = name_in(item) else {
+            return Err(Stop::Because(TraceWhy::NotBuilt));
+        };
+        names.push(read_name(alloc, name)?)?;
+    }
+    Ok(names)
 }
 
 fn nodes_in(alloc: Global, value: &Value) -> Result<Vec<NodeText>, Stop>
@@ -86,14 +112,23 @@ pub(crate) fn head_in(alloc: Global, object: &Value) -> Result<Head, Stop>
     let window = required_number(object, "window", 1, 64)?;
     let budget = required_number(object, "budget", 1, 10_000)?;
     let until = required_number(object, "until", 1, 1)?;
-    if !is_absent(object, "unit") {
-        return Err(Stop::Because(TraceWhy::NotBuilt));
-    }
+    let unit = u64::from(unit_in(object)?);
     let header = Header {
         window,
         budget,
         until,
-        unit: 1,
+        unit,
     };
     Ok(Head { header, cluster })
+}
+
+// What written worths are multiplied by, 1 where it is left out.
+fn unit_in(object: &Value) -> Result<u32, Stop>
+    ensures gives { Gives (λ n. n) result (unit_in (view object.now)) }
+    ensures within { IfOk result (λ n. (1 ≤ n) × (n ≤ 1000000)) }
+{
+    if is_absent(object, "unit") {
+        return Ok(1);
+    }
+    required_number(object, "unit", 1, 1_000_000)
 }

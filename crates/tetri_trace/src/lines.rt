@@ -1,19 +1,17 @@
 // A trace, line by line.
-ghost use Rattle.std.specs.Prelude.{◌≡◌, ◌≤◌, OnOk, IfOk};
+ghost use Rattle.std.specs.Prelude.{◌≡◌, ◌<◌, ◌≤◌, ◌+◌, OnOk, IfOk, true};
 ghost use Rattle.serde_json.specs.View.{view};
 ghost use Rattle.tetri_trace.specs.Answers.{Gives};
-ghost use Rattle.tetri_trace.specs.Draft.{part};
+ghost use Rattle.tetri_cluster.specs.Names.{is_name};
+ghost use Rattle.tetri_trace.specs.Draft.{arrival, part};
 ghost use Rattle.tetri_trace.specs.Opening.{IsSoundDraft};
-ghost use Rattle.tetri_trace.specs.Scenario.{submission};
-ghost use Rattle.tetri_trace.specs.Opening.{IsOpeningSubmission};
-ghost use Rattle.tetri_trace.specs.Lines.{with_submission, add_object, add_line, is_blank, is_blank_byte};
+ghost use Rattle.tetri_trace.specs.Lines.{add_line, add_object, counted, is_blank, is_blank_byte, with_arrival};
 
-use crate::draft::Draft;
+use crate::arrival::arrival_in;
+use crate::draft::{Arriving, Draft};
 use crate::fault::{Stop, TraceWhy};
 use crate::field::object_in;
 use crate::header::head_in;
-use crate::submission::submission_in;
-use crate::trace::Job;
 use serde_json::Value;
 use std::alloc::Global;
 
@@ -36,48 +34,74 @@ fn is_blank(line: &[u8]) -> bool
     line.iter().all(|b| is_blank_byte(*b))
 }
 
-fn add_job(draft: Draft, job: Job) -> Result<Draft, Stop>
+fn add_arriving(draft: Draft, job: Arriving) -> Result<Draft, Stop>
     requires so_far { IsSoundDraft draft }
-    requires opening { IsOpeningSubmission (submission job) }
-    ensures gives { Gives part result (with_submission (part draft) (submission job)) }
+    requires named { is_name job.name ≡ true }
+    ensures gives { Gives part result (with_arrival (part draft) (arrival job)) }
     ensures sound { IfOk result IsSoundDraft }
+    ensures lines { IfOk result (λ d. d.lines ≡ draft.lines) }
 {
     let Draft {
         head,
         mut names,
-        mut jobs,
+        mut arriving,
+        lines,
     } = draft;
-    if jobs.len() >= JOBS_MOST {
+    if arriving.len() >= JOBS_MOST {
         return Err(Stop::Because(TraceWhy::NotBuilt));
     }
     if !names.add(job.name.bytes())? {
         return Err(Stop::Because(TraceWhy::NotBuilt));
     }
-    jobs.push(job)?;
-    Ok(Draft { head, names, jobs })
+    arriving.push(job)?;
+    Ok(Draft {
+        head,
+        names,
+        arriving,
+        lines,
+    })
 }
 
 fn add_object(alloc: Global, draft: Draft, object: &Value) -> Result<Draft, Stop>
     requires { IsSoundDraft draft }
     ensures gives { Gives part result (add_object (part draft) (view object.now)) }
     ensures sound { IfOk result IsSoundDraft }
+    ensures lines { IfOk result (λ d. d.lines ≡ draft.lines) }
 {
-    let Draft { head, names, jobs } = draft;
+    let Draft {
+        head,
+        names,
+        arriving,
+        lines,
+    } = draft;
     if head.is_none() {
         let head = Some(head_in(alloc, object)?);
-        return Ok(Draft { head, names, jobs });
+        return Ok(Draft {
+            head,
+            names,
+            arriving,
+            lines,
+        });
     }
-    let job = submission_in(alloc, object)?;
-    add_job(Draft { head, names, jobs }, job)
+    let job = arrival_in(alloc, object, lines)?;
+    let draft = Draft {
+        head,
+        names,
+        arriving,
+        lines,
+    };
+    add_arriving(draft, job)
 }
 
 /// Adds a line, where `next` is the offset behind it and its line feed.
 #[tactic(auto, unfolding(crate::specs::Lines::add_line))]
 pub(crate) fn add_line(alloc: Global, draft: Draft, line: &[u8], next: u64) -> Result<Draft, Stop>
-    requires { IsSoundDraft draft }
+    requires so_far { IsSoundDraft draft }
+    requires lines { draft.lines < next }
     ensures gives { Gives part result (add_line (part draft) (line.now, next)) }
     ensures sound { IfOk result IsSoundDraft }
     ensures short { OnOk result (next ≤ 67108864) }
+    ensures lines { IfOk result (λ d. d.lines ≤ next) }
 {
     if line.len() > LINE_MOST {
         return Err(Stop::Because(TraceWhy::NotBuilt));
@@ -85,9 +109,32 @@ pub(crate) fn add_line(alloc: Global, draft: Draft, line: &[u8], next: u64) -> R
     if next > TRACE_MOST {
         return Err(Stop::Because(TraceWhy::NotBuilt));
     }
+    let draft = counted(draft);
     if is_blank(line) {
         return Ok(draft);
     }
     let object = object_in(alloc, line)?;
     add_object(alloc, draft, &object)
+}
+
+// One line more.
+fn counted(draft: Draft) -> Draft
+    requires few { draft.lines < 67108864 }
+    requires so_far { IsSoundDraft draft }
+    ensures part { part result ≡ counted (part draft) }
+    ensures sound { IsSoundDraft result }
+    ensures lines { result.lines ≡ draft.lines + 1 }
+{
+    let Draft {
+        head,
+        names,
+        arriving,
+        lines,
+    } = draft;
+    Draft {
+        head,
+        names,
+        arriving,
+        lines: lines + 1,
+    }
 }

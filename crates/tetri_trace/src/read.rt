@@ -3,7 +3,6 @@ ghost use Rattle.std.specs.Prelude.{◌≡◌, ◌≤◌, List, ℕ, Some, IsErr
 ghost use Rattle.tetri_algebra.specs.Counts.{Rose};
 ghost use Rattle.tetri_trace.specs.Answers.{AnswersTrace, fault_at_zero};
 ghost use Rattle.tetri_trace.specs.Lines.{scenario_in};
-ghost use Rattle.tetri_trace.specs.Opening.{IsOpening};
 ghost use Rattle.tetri_trace.specs.Scenario.{scenario};
 ghost use Rattle.tetri_trace.specs.Sound.{IsSound};
 
@@ -16,13 +15,13 @@ use std::alloc::Global;
 use tetri_cluster::NameTable;
 use tetri_io::{Line, LineFault, Shelf, read_line_at};
 
-/// The trace that a name holds. `Read` comes only where the count of the name's faults rose, `Bad` exactly
-/// where the content is not of the form that is built so far, at line 0.
+/// The trace that a name holds. `Read` comes only where the count of the name's faults rose. `Bad` comes
+/// exactly where the content is not of the form that is built so far, at line 0, and else with the first
+/// line whose text of an expression has a fault.
 pub fn read_trace<S: Shelf>(alloc: Global, shelf: &mut S, name: &str) -> Result<Trace, TraceFault>
     ensures exact { (content : List ℕ) → S.told shelf.old name.now ≡ Some content
         → AnswersTrace result (scenario_in content) }
     ensures sound { IfOk result (λ t. IsSound (scenario t)) }
-    ensures opening { IfOk result (λ t. IsOpening (scenario t)) }
     ensures same { S.told shelf.new ≡ S.told shelf.old }
     ensures read { IsErrOf result TraceFault.Read
         → Rose (S.faults shelf.old name.now) (S.faults shelf.new name.now) }
@@ -31,7 +30,8 @@ pub fn read_trace<S: Shelf>(alloc: Global, shelf: &mut S, name: &str) -> Result<
     let mut draft = Draft {
         head: None,
         names: NameTable::new(alloc),
-        jobs: Vec::new(alloc),
+        arriving: Vec::new(alloc),
+        lines: 0,
     };
     let mut offset = 0u64;
     'lines: loop {
@@ -44,10 +44,7 @@ pub fn read_trace<S: Shelf>(alloc: Global, shelf: &mut S, name: &str) -> Result<
                 offset = next;
             }
             Ok(Line::End) => {
-                return match ended(alloc, draft) {
-                    Ok(trace) => Ok(trace),
-                    Err(stop) => Err(at_line_zero(stop)),
-                };
+                return ended(alloc, draft);
             }
             Err(LineFault::TooLong) => return Err(at_line_zero(Stop::Because(TraceWhy::NotBuilt))),
             Err(LineFault::Failed) => return Err(TraceFault::Read),

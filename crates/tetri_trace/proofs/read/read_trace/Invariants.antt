@@ -2,7 +2,7 @@ use Rattle.std.proofs.Common.{◌≡◌, ◌≤◌, ◌-◌, List, ℕ, drop}
 use Rattle.std.specs.Prelude.{Some}
 use Rattle.tetri_io.specs.Lines.{lines_from}
 use Rattle.tetri_trace.specs.Draft.{part}
-use Rattle.tetri_trace.specs.Lines.{scenario_in, from_lines, at_line_zero}
+use Rattle.tetri_trace.specs.Lines.{scenario_in, from_lines}
 use Rattle.tetri_trace.specs.Opening.{IsSoundDraft}
 use Rattle.tetri_trace.proofs.read.read_trace.Given as goal
 
@@ -10,8 +10,9 @@ abbrev pub invariant-lines : goal.invariant-lines
 invariant-lines g l = record {
   short : l.offset ≤ 67108864;
   sound : IsSoundDraft l.draft;
+  counted : l.draft.lines ≤ l.offset;
   lines : (content : List ℕ) → g.S.Shelf.told l.fn.shelf l.name ≡ Some content →
-      scenario_in content ≡ at_line_zero (from_lines (part l.draft) (lines_from l.offset (drop l.offset content)));
+      scenario_in content ≡ from_lines (part l.draft) (lines_from l.offset (drop l.offset content));
   same : g.S.Shelf.told l.shelf ≡ g.S.Shelf.told l.fn.shelf;
   later : (other : List ℕ) → g.S.Shelf.faults l.fn.shelf other ≤ g.S.Shelf.faults l.shelf other;
 }

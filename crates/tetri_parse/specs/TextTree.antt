@@ -10,7 +10,7 @@ abbrev pub AreWithin : ℕ → List (List ℕ) → Type 0
 AreWithin count sets = All (All (λ n. n < count)) sets
 
 -- a well-made tree that was read for an arrival, over the first so many sets
-pub record IsReadTree (arrival sets : ℕ) (t : Tree) : Type 0 where
+pub record IsTextTree (arrival sets : ℕ) (t : Tree) : Type 0 where
   pub well_made : IsWellMade t
   pub starts : EachLeaf (λ l. (arrival ≤ l.start) × (l.start ≤ arrival + 10000)) t
   pub numbered : numbers t ≡ range_with_len 0 (length (leaves t))

@@ -1,19 +1,18 @@
 // The job that an object brings.
-ghost use Rattle.std.specs.Prelude.{◌≡◌, IfOk};
+ghost use Rattle.std.specs.Prelude.{◌≡◌, IfOk, true};
 ghost use Rattle.serde_json.specs.View.{view};
-ghost use Rattle.tetri_trace.specs.Opening.{IsOpeningSubmission};
+ghost use Rattle.tetri_cluster.specs.Names.{is_name};
 ghost use Rattle.tetri_trace.specs.Answers.{Gives};
-ghost use Rattle.tetri_trace.specs.Fields.{is_plain_arrival, submission_in};
-ghost use Rattle.tetri_trace.specs.Scenario.{submission};
+ghost use Rattle.tetri_trace.specs.Draft.{arrival};
+ghost use Rattle.tetri_trace.specs.Fields.{arrival_in, is_plain_arrival};
 
+use crate::draft::Arriving;
 use crate::fault::{Stop, TraceWhy};
 use crate::field::{
-    has_key, is_absent, leaf_of_value, name_in, read_name, required, required_number,
+    has_key, is_absent, name_in, read_name, required, required_number, text_of_value,
 };
-use crate::trace::{Job, Work};
 use serde_json::Value;
 use std::alloc::Global;
-use tetri_strl::Expr;
 
 fn is_plain_arrival(object: &Value) -> bool
     ensures { result ≡ is_plain_arrival (view object.now) }
@@ -25,11 +24,11 @@ fn is_plain_arrival(object: &Value) -> bool
         && !has_key(object, "undrain")
 }
 
-/// The job that an object brings.
-#[tactic(auto, unfolding(crate::specs::Fields::submission_in))]
-pub(crate) fn submission_in(alloc: Global, object: &Value) -> Result<Job, Stop>
-    ensures gives { Gives submission result (submission_in (view object.now)) }
-    ensures opening { IfOk result (λ j. IsOpeningSubmission (submission j)) }
+/// The job that an object brings, which stands in this line.
+#[tactic(auto, unfolding(crate::specs::Fields::arrival_in))]
+pub(crate) fn arrival_in(alloc: Global, object: &Value, line: u64) -> Result<Arriving, Stop>
+    ensures gives { Gives arrival result (arrival_in line (view object.now)) }
+    ensures named { IfOk result (λ a. is_name a.name ≡ true) }
 {
     required_number(object, "at", 0, 0)?;
     let arrive = required(object, "arrive")?;
@@ -37,15 +36,14 @@ pub(crate) fn submission_in(alloc: Global, object: &Value) -> Result<Job, Stop>
         return Err(Stop::Because(TraceWhy::NotBuilt));
     };
     let value = required(object, "strl")?;
-    let leaf = leaf_of_value(value)?;
+    let text = text_of_value(value)?;
     if !is_plain_arrival(object) {
         return Err(Stop::Because(TraceWhy::NotBuilt));
     }
     let name = read_name(alloc, name)?;
-    Ok(Job {
+    Ok(Arriving {
         name,
-        arrival: 0,
-        late: 0,
-        work: Work::Strl(Expr::One(leaf)),
+        text: String::from_str(alloc, text)?,
+        line,
     })
 }
