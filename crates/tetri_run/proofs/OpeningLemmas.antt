@@ -1,14 +1,16 @@
 -- The instance of a trace at slot 0 is sound.
-use Rattle.std.proofs.Common.{◌≡◌, ℕ, ◌+◌, ◌<◌, ◌≤◌, List, [], ◌∷◌, length, get_or, All, AllPairs, false, zero, suc, refl, ap, sym, subst, arith}
+use Rattle.std.proofs.Common.{◌≡◌, ℕ, ◌+◌, ◌<◌, ◌≤◌, List, [], ◌∷◌, length, get_or, All, AllPairs, false, zero, suc, refl, ap, sym, ◌++◌, ◌∙◌, map, arith}
 use Rattle.std.proofs.lemmas.List.{length-replicate}
 use Rattle.std.proofs.lemmas.List.Elements.{All-nil, All-cons, All-head, All-tail, All-replicate, All-weaker}
 use Rattle.tetri_strl.specs.declared.expr.Leaf.{Leaf}
-use Rattle.tetri_strl.specs.Tree.{leaves}
+use Rattle.tetri_strl.specs.Tree.{Tree, one, join, scale, barrier, Trees, none, more, leaves, leaves_of, numbers, numbers_of}
 use Rattle.tetri_space.specs.Space.{Bid}
 use Rattle.tetri_space.specs.Sound.{HasKnownSet, IsSoundBid, IsSound}
 use Rattle.tetri_trace.specs.Scenario.{Submission, Scenario, expr_of}
 use Rattle.tetri_trace.specs.Sound as trace
-use Rattle.tetri_trace.specs.Opening.{IsOpening, IsOpeningSubmission}
+use Rattle.std.specs.List.{range_with_len}
+use Rattle.std.proofs.lemmas.List.{get_or-map, map-append}
+use Rattle.std.proofs.lemmas.List.FromFn.{get_or-range_with_len}
 use Rattle.tetri_run.specs.Opening.{bids_from, opening_space}
 use Rattle.tetri_run.specs.FirstFit.{HasAscendingLeaves}
 
@@ -63,9 +65,28 @@ opening_space_sound t sound = record {
   sound_bids = each_bid (trace.IsSoundSubmission t) (IsSoundBid (opening_space t)) (sound_bid t sound) 0 t.submissions sound.jobs;
 }
 
-ascending_leaves : (job : ℕ) (j : Submission) → IsOpeningSubmission j → HasAscendingLeaves (record { job = job; expr = expr_of j.demand })
-ascending_leaves job j opening =
-    subst (λ d. AllPairs (λ l m. l.num < m.num) (leaves (expr_of d))) (sym opening.demand) (λ i k d lt within. absurd (omega (arith, lt, within)))
+mutual
+  numbers-leaves : (u : Tree) → numbers u ≡ map (λ (l : Leaf). l.num) (leaves u)
+  numbers-leaves (one l) = refl
+  numbers-leaves (join op us) = numbers_of-leaves us
+  numbers-leaves (scale u v) = numbers-leaves u
+  numbers-leaves (barrier u v) = numbers-leaves u
 
-pub opening_ascends : (t : Scenario) → IsOpening t → All HasAscendingLeaves (opening_space t).bids
-opening_ascends t opening = each_bid IsOpeningSubmission HasAscendingLeaves ascending_leaves 0 t.submissions opening.jobs
+  numbers_of-leaves : (us : Trees) → numbers_of us ≡ map (λ (l : Leaf). l.num) (leaves_of us)
+  numbers_of-leaves none = refl
+  numbers_of-leaves (more u us) =
+      ap (λ ns. ns ++ numbers_of us) (numbers-leaves u) ∙ ap (λ ns. map (λ (l : Leaf). l.num) (leaves u) ++ ns) (numbers_of-leaves us)
+      ∙ sym (map-append (λ (l : Leaf). l.num) (leaves u) (leaves_of us))
+
+-- leaves that are numbered in order ascend
+ascending_leaves : (t : Scenario) (job : ℕ) (j : Submission) → trace.IsSoundSubmission t j → HasAscendingLeaves (record { job = job; expr = expr_of j.demand })
+ascending_leaves t job j good i k d lt within =
+    let u = expr_of j.demand in
+    let all : map (λ (l : Leaf). l.num) (leaves u) ≡ range_with_len 0 (length (leaves u)) = sym (numbers-leaves u) ∙ good.numbered in
+    let at : (m : ℕ) → m < length (leaves u) → (get_or (leaves u) m d).num ≡ m =
+    λ m small. sym (get_or-map (λ (l : Leaf). l.num) (leaves u) m d d.num small) ∙ ap (λ ns. get_or ns m d.num) all ∙ get_or-range_with_len 0 (length (leaves u)) m d.num small
+    ∙ omega arith in
+    omega (arith, lt, at i (omega (arith, lt, within)), at k within)
+
+pub opening_ascends : (t : Scenario) → trace.IsSound t → All HasAscendingLeaves (opening_space t).bids
+opening_ascends t sound = each_bid (trace.IsSoundSubmission t) HasAscendingLeaves (ascending_leaves t) 0 t.submissions sound.jobs

@@ -6,7 +6,9 @@ use Rattle.tetri_report.specs.Block.{Block}
 use Rattle.tetri_report.specs.Text.{cycle_text, summary_text}
 use Rattle.tetri_trace.specs.Scenario.{Scenario}
 use Rattle.tetri_trace.specs.declared.fault.TraceWhy.{TraceWhy}
-use Rattle.tetri_trace.specs.declared.fault.TraceWhy.TheVariants.{NotBuilt}
+use Rattle.tetri_trace.specs.declared.fault.TraceWhy.TheVariants.{BadStrl, NotBuilt}
+use Rattle.tetri_parse.specs.declared.fault.Fault.{Fault}
+use Rattle.tetri_parse.specs.declared.fault.Fault.TheVariants.{Unexpected, Ended, Trailing, NumberRange, UnknownSet, Uneven, Mixed, TooDeep, TooManyLeaves, TooRich, TooManySets}
 use Rattle.tetri_run.specs.OneCycle.{IsFirstCycle, summary_of}
 use Rattle.tetri_run.specs.Opening.{opening_space}
 use Rattle.tetri_run.specs.declared.status.Status.{Status}
@@ -39,9 +41,24 @@ WritesNothingElse WriteFault before after = Unit {0}
 WritesNothingElse (BadTrace line why) before after = after ≡ before
 WritesNothingElse NoMemory before after = after ≡ before
 
+-- a fault in words
+abbrev pub fault_words : Fault → List ℕ
+fault_words Unexpected = codes "unexpected"
+fault_words Ended = codes "ended"
+fault_words Trailing = codes "trailing"
+fault_words NumberRange = codes "number-range"
+fault_words UnknownSet = codes "unknown-set"
+fault_words Uneven = codes "uneven"
+fault_words Mixed = codes "mixed"
+fault_words TooDeep = codes "too-deep"
+fault_words TooManyLeaves = codes "too-many-leaves"
+fault_words TooRich = codes "too-rich"
+fault_words TooManySets = codes "too-many-sets"
+
 -- a cause in words
 abbrev pub why_words : TraceWhy → List ℕ
 why_words NotBuilt = codes "not-built"
+why_words (BadStrl offset fault) = codes "bad-strl " ++ decimal offset ++ codes " " ++ fault_words fault
 
 unfoldable pub bad_trace_words : ℕ → TraceWhy → List ℕ
 bad_trace_words line why = codes "bad trace: line " ++ decimal line ++ codes ": " ++ why_words why ++ codes "\n"

@@ -2,7 +2,6 @@
 ghost use Rattle.std.specs.Prelude.{◌≡◌, IfOk};
 ghost use Rattle.tetri_report.specs.Text.{cycle_text, summary_text};
 ghost use Rattle.tetri_run.specs.Report.{IsReportOf};
-ghost use Rattle.tetri_trace.specs.Opening.{IsOpening};
 ghost use Rattle.tetri_trace.specs.Scenario.{scenario};
 ghost use Rattle.tetri_trace.specs.Sound.{IsSound};
 
@@ -21,8 +20,7 @@ pub(crate) struct Report {
 
 /// The report of a trace of one cycle.
 pub(crate) fn make_report(alloc: Global, trace: &Trace) -> Result<Report, AllocError>
-    requires sound { IsSound (scenario trace.now) }
-    requires opening { IsOpening (scenario trace.now) }
+    requires { IsSound (scenario trace.now) }
     ensures { IfOk result (IsReportOf (scenario trace.entry.now)) }
 {
     let inst = opening_instance(alloc, trace)?;

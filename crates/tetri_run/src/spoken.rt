@@ -3,13 +3,14 @@ ghost use Rattle.std.specs.Prelude.{◌≡◌, ◌≤◌, ◌++◌, IfOk, OnOk, 
 ghost use Rattle.std.specs.Io.KnownBytes.{append_known};
 ghost use Rattle.tetri_algebra.specs.Counts.{Rose};
 ghost use Rattle.tetri_io.specs.Sink.{AppendsPart};
-ghost use Rattle.tetri_run.specs.Status.{status_words, bad_trace_words};
+ghost use Rattle.tetri_run.specs.Status.{bad_trace_words, fault_words, status_words};
 ghost use Rattle.tetri_trace.specs.declared.fault.TraceWhy.{TraceWhy};
 
 use crate::status::Status;
 use std::alloc::{AllocError, Global};
 use std::fmt::Write;
 use tetri_io::{Failed, Sink, send_all};
+use tetri_parse::Fault;
 use tetri_trace::TraceWhy;
 use thiserror::Error;
 
@@ -46,6 +47,25 @@ impl From<AllocError> for SayFault {
     }
 }
 
+// A fault in words.
+fn fault_word(fault: Fault) -> &'static str
+    ensures { result.now ≡ fault_words fault }
+{
+    match fault {
+        Fault::Unexpected => "unexpected",
+        Fault::Ended => "ended",
+        Fault::Trailing => "trailing",
+        Fault::NumberRange => "number-range",
+        Fault::UnknownSet => "unknown-set",
+        Fault::Uneven => "uneven",
+        Fault::Mixed => "mixed",
+        Fault::TooDeep => "too-deep",
+        Fault::TooManyLeaves => "too-many-leaves",
+        Fault::TooRich => "too-rich",
+        Fault::TooManySets => "too-many-sets",
+    }
+}
+
 #[tactic(auto, unfolding(crate::specs::Status::bad_trace_words))]
 fn bad_trace_line(alloc: Global, line: u64, why: TraceWhy) -> Result<String, AllocError>
     ensures { IfOk result (λ s. string_bytes s ≡ bad_trace_words line why) }
@@ -54,6 +74,9 @@ fn bad_trace_line(alloc: Global, line: u64, why: TraceWhy) -> Result<String, All
     write!(out, "bad trace: line {line}: ")?;
     match why {
         TraceWhy::NotBuilt => out.push_str("not-built")?,
+        TraceWhy::BadStrl { offset, fault } => {
+            write!(out, "bad-strl {offset} {}", fault_word(fault))?
+        }
     }
     out.push_str("\n")?;
     Ok(out)

@@ -11,15 +11,15 @@ use Rattle.tetri_run.proofs.OpeningLemmas.{opening_ascends, opening_space_sound}
 use Rattle.tetri_run.proofs.report.make_report.Goals as goal
 
 pub first_cycle-requires-clause-sound : goal.first_cycle-requires-clause-sound
-first_cycle-requires-clause-sound c = subst IsSound (sym c.in_ok-inst.ensures) (opening_space_sound (scenario c.args.trace.now) c.requires.sound)
+first_cycle-requires-clause-sound c = subst IsSound (sym c.in_ok-inst.ensures) (opening_space_sound (scenario c.args.trace.now) c.requires)
 
 pub first_cycle-requires-clause-numbered : goal.first_cycle-requires-clause-numbered
 first_cycle-requires-clause-numbered c =
-    subst (λ (s : Space). All HasAscendingLeaves s.bids) (sym c.in_ok-inst.ensures) (opening_ascends (scenario c.args.trace.now) c.requires.opening)
+    subst (λ (s : Space). All HasAscendingLeaves s.bids) (sym c.in_ok-inst.ensures) (opening_ascends (scenario c.args.trace.now) c.requires)
 
 pub print_cycle-requires : goal.print_cycle-requires
 print_cycle-requires c =
-    first_cycle_printable (scenario c.args.trace.now) c.requires.sound (block c.in_ok-told.told.cycle)
+    first_cycle_printable (scenario c.args.trace.now) c.requires (block c.in_ok-told.told.cycle)
     (subst (λ s. IsFirstCycle s (block c.in_ok-told.told.cycle)) c.in_ok-inst.ensures c.in_ok-told.ensures.first)
 
 pub returns : goal.returns
