@@ -9,7 +9,7 @@ use Rattle.tetri_algebra.specs.Sums.{unit_at}
 use Rattle.tetri_ip.specs.declared.programs.Term.{Term}
 use Rattle.tetri_ip.specs.Points.{coefficient, column_at, term_at}
 
-unit_other : (c : ℕ) (b : ℤ) (j : ℕ) → (c ≡ j → ⊥) → unit_at ℤ_ring c b j ≡ pos 0
+pub unit_other : (c : ℕ) (b : ℤ) (j : ℕ) → (c ≡ j → ⊥) → unit_at ℤ_ring c b j ≡ pos 0
 unit_other c b j n = by_test (eqb c j) refl
   where
     by_test : (t : Bool) → eqb c j ≡ t → cond t b (pos 0) ≡ pos 0

@@ -4,3 +4,6 @@ pub mod Coefficients
 pub mod Steps
 pub mod Formed
 pub mod Sides
+pub mod IndexLemmas
+pub mod MergeLemmas
+pub mod FitTests

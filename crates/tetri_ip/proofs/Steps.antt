@@ -137,3 +137,12 @@ column_formed rows b q ws j cost sum q' cost' first first' d d' bound' sum' x y 
     ∙ ap (λ k. add_product sum d k) (be g)
     ∙ sym (ap (λ (o : Option ℤ). then_form o (λ k. add_product sum k (bound_taken b j k))) v)
     ∙ sym (ap (λ (o : Option ℤ). then_form o (λ f. then_form (form_factor rows ws j f) (λ k. add_product sum k (bound_taken b j k)))) u)
+
+pub column_not_formed : (rows : List Row) (b : Bounds) (q : ℤ) (ws : List Weight) (j : ℕ) (cost sum q' cost' first first' : ℤ) (x y : Option ℤ) →
+    q' ≡ q → cost' ≡ cost → x ≡ within (q' *ℤ cost') → x ≡ Some first → (SFits w128 first → first' ≡ first) →
+    y ≡ form_factor rows ws j first' → y ≡ None → None ≡ form_column rows b q ws j cost sum
+column_not_formed rows b q ws j cost sum q' cost' first first' x y qe ce xe xs fe ye ys =
+    let u : within (q *ℤ cost) ≡ Some first = ap (λ k. within (k *ℤ cost)) (sym qe) ∙ ap (λ k. within (q' *ℤ k)) (sym ce) ∙ sym xe ∙ xs in
+    let v : form_factor rows ws j first ≡ None = ap (λ k. form_factor rows ws j k) (sym (fe (within_fits (q *ℤ cost) first u))) ∙ sym ye ∙ ys in
+    sym (ap (λ (o : Option ℤ). then_form o (λ f. then_form (form_factor rows ws j f) (λ k. add_product sum k (bound_taken b j k)))) u
+    ∙ ap (λ (o : Option ℤ). then_form o (λ k. add_product sum k (bound_taken b j k))) v)

@@ -1,3 +1,4 @@
+pub mod ColumnIndex
 pub mod Points
 pub mod Weighed
 pub mod Forming

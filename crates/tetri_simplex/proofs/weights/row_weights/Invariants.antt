@@ -1,0 +1,13 @@
+use Rattle.std.proofs.Common.{◌≡◌, ◌+◌, ◌++◌, drop, length}
+use Rattle.tetri_simplex.specs.Ends.{weights_of}
+use Rattle.tetri_simplex.specs.Tables.{coefficients_of}
+use Rattle.tetri_simplex.specs.Fractions.{values}
+use Rattle.tetri_simplex.proofs.weights.row_weights.Given as goal
+
+abbrev pub invariant-loop-i : goal.invariant-loop-i
+invariant-loop-i l = record {
+  formed :
+      values l.weights.items ++ weights_of l.nonbasic (coefficients_of (values l.row)) l.own (l.first + l.i) (drop l.i l.rows)
+      ≡ weights_of l.nonbasic (coefficients_of (values l.row)) l.own l.first l.rows;
+  count : length l.weights.items ≡ l.i;
+}

@@ -1,0 +1,14 @@
+pub mod Tables
+pub mod Steps
+pub mod Start
+pub mod Pivots
+pub mod Choices
+pub mod Ends
+pub mod Machine
+pub mod Fractions
+pub mod Outcomes
+pub mod Faults
+pub mod Candidates
+pub mod Full
+pub mod Turns
+pub mod Certificates

@@ -1,0 +1,130 @@
+//! The weights that a row of a table gives the program's rows: the simplex multipliers.
+
+ghost use Rattle.std.specs.Prelude.{◌≡◌, ℕ, ◌+◌, ◌<◌, ◌^◌, length, pos, ◌<ℤ◌, ◌*ℤ◌, Ok, Err, IfOk, IfSome, MatchResult, All, unsigned_abs, cond, ◌==◌};
+ghost use Rattle.tetri_algebra.specs.Rational.{whole_ℚ};
+ghost use Rattle.tetri_algebra.specs.RationalRing.{neg_ℚ};
+ghost use Rattle.tetri_num.specs.Frac.{value};
+ghost use Rattle.tetri_num.specs.Range.{IsWithin};
+ghost use Rattle.tetri_ip.specs.Forming.{within};
+ghost use Rattle.tetri_simplex.specs.Fractions.{values};
+ghost use Rattle.tetri_simplex.specs.Faults.{IsFault};
+ghost use Rattle.tetri_simplex.specs.Tables.{coefficients_of};
+ghost use Rattle.tetri_simplex.specs.Ends.{coefficient_of, weights_of, common_denominator, whole_weights};
+
+use crate::fault::Fault;
+use crate::fractions::negated;
+use std::alloc::{AllocError, Global};
+use tetri_ip::{Row, Weight};
+use tetri_num::{Frac, Kind, Place, lcm};
+
+// The coefficient of a variable in a row, by the variables of the nonbasic places: 0 where it is
+// basic.
+fn coefficient_of(nonbasic: &[usize], row: &[Frac], variable: usize) -> Frac
+    requires { length row.now ≡ length nonbasic.now + 1 }
+    ensures { value result ≡ coefficient_of nonbasic.now (coefficients_of (values row.now)) variable }
+{
+    for j in 0..nonbasic.len() {
+        if nonbasic[j] == variable {
+            return row[j + 1];
+        }
+    }
+    Frac::whole(0)
+}
+
+// The weight of a variable in a row whose own variable has the weight 1.
+fn weight_of(nonbasic: &[usize], row: &[Frac], own: usize, variable: usize) -> Frac
+    requires { length row.now ≡ length nonbasic.now + 1 }
+    ensures { let coefficient = coefficient_of nonbasic.now (coefficients_of (values row.now)) variable in
+        value result ≡ cond (own == variable) (whole_ℚ (pos 1)) (neg_ℚ coefficient) }
+{
+    if own == variable {
+        return Frac::whole(1);
+    }
+    negated(coefficient_of(nonbasic, row, variable))
+}
+
+/// The weights of the slacks of the program's rows, which are counted from `first` on, in a row
+/// of a table whose own variable is `own`.
+pub(crate) fn row_weights(
+    alloc: Global,
+    nonbasic: &[usize],
+    row: &[Frac],
+    own: usize,
+    first: usize,
+    rows: &[Row],
+) -> Result<Vec<Frac>, AllocError>
+    requires row { length row.now ≡ length nonbasic.now + 1 }
+    requires small { first + length rows.now < 2 ^ 63 }
+    ensures weights { IfOk result (λ v. values v.items ≡ weights_of nonbasic.now (coefficients_of (values row.now)) own first rows.now) }
+    ensures count { IfOk result (λ v. length v.items ≡ length rows.now) }
+{
+    let mut weights = Vec::new(alloc);
+    for i in 0..rows.len() {
+        let weight = weight_of(nonbasic, row, own, first + i);
+        weights.push(weight)?;
+    }
+    Ok(weights)
+}
+
+/// The least common multiple of the denominators.
+pub(crate) fn common_denominator(weights: &[Frac]) -> Result<i128, Place>
+    requires { length weights.now < 2 ^ 32 }
+    ensures formed { let denominator = common_denominator 0 1 (values weights.now) in
+        MatchResult result (λ q. denominator ≡ Ok (unsigned_abs q)) (λ e. denominator ≡ Err e) }
+    ensures positive { IfOk result (λ q. pos 0 <ℤ q) }
+    ensures within { IfOk result (λ q. IsWithin q) }
+{
+    let mut q = 1;
+    for i in 0..weights.len() {
+        let weight = weights[i];
+        match lcm(q, weight.den) {
+            Some(next) => q = next,
+            None => {
+                return Err(Place {
+                    kind: Kind::Lcm,
+                    step: 0,
+                    row: i as u32,
+                    column: 0,
+                });
+            }
+        }
+    }
+    Ok(q)
+}
+
+// The product, if it is from -(2^127 - 1) to 2^127 - 1.
+fn product(a: i128, b: i128) -> Option<i128>
+    ensures { result ≡ within (a *ℤ b) }
+{
+    match a.checked_mul(b) {
+        Some(x) if x != i128::MIN => Some(x),
+        _ => None,
+    }
+}
+
+/// `q` times each weight, without zeros.
+pub(crate) fn whole_weights(alloc: Global, q: i128, weights: &[Frac]) -> Result<Vec<Weight>, Fault>
+    requires few { length weights.now < 2 ^ 32 }
+    requires positive { pos 0 <ℤ q }
+    requires within { IsWithin q }
+    ensures formed { let whole = whole_weights 0 (unsigned_abs q) (values weights.now) in
+        MatchResult result (λ v. whole ≡ Ok v.items) (λ e. IsFault e whole) }
+    ensures rows { IfOk result (λ v. All (λ w. w.row < length weights.now) v.items) }
+{
+    let mut whole = Vec::new(alloc);
+    for i in 0..weights.len() {
+        let weight = weights[i];
+        let Some(by) = product(weight.num, q / weight.den) else {
+            return Err(Fault::Past(Place {
+                kind: Kind::Lcm,
+                step: 0,
+                row: i as u32,
+                column: 0,
+            }));
+        };
+        if by != 0 {
+            whole.push(Weight { row: i as u32, by })?;
+        }
+    }
+    Ok(whole)
+}
