@@ -1,8 +1,10 @@
 // Whole runs, from the bytes of a trace to the bytes of its report.
 use crate::{Status, run, say};
 use std::alloc::{AllocError, Global};
+use std::process::Abort;
 use std::test::Fail;
 use tetri_io::{MemShelf, MemSink};
+use tetri_parse::Fault;
 use tetri_trace::TraceWhy;
 
 // The words `plan` and a trace's name.
@@ -26,6 +28,13 @@ const FOUR: &str =
 
 const THREE: &str =
     "{\"nodes\":[{\"name\":\"n1\"},{\"name\":\"n2\"},{\"name\":\"n3\"}],\"window\":4,\"budget\":1000,\"until\":1}\n";
+
+// Two nodes tagged `gpu`, and two without tags.
+const TAGGED: &str =
+    "{\"nodes\":[{\"name\":\"n1\",\"tags\":[\"gpu\"]},{\"name\":\"n2\",\"tags\":[\"gpu\"]},{\"name\":\"n3\"},{\"name\":\"n4\"}],\"window\":4,\"budget\":1000,\"unit\":1,\"until\":1}\n";
+
+const DOUBLED: &str =
+    "{\"nodes\":[{\"name\":\"n1\"},{\"name\":\"n2\"},{\"name\":\"n3\"},{\"name\":\"n4\"}],\"window\":4,\"budget\":1000,\"unit\":2,\"until\":1}\n";
 
 const NOT_BUILT: Status = Status::BadTrace {
     line: 0,
@@ -62,22 +71,104 @@ fn examples() -> [(&'static str, &'static str, Status, &'static str); 5] {
         (
             FOUR,
             "{\"at\":0,\"arrive\":\"j1\",\"strl\":\"nCk(*,2,1,1,3)\"}\n",
-            NOT_BUILT,
+            Status::Done,
+            "cycle 0\nplan 3 3 optimal 0\ngrant j1 0 1 n1,n2\ntops 0 0\nsummary cycles=1 launched=0 ended=0 cancelled=0 expired=0 worth=0 optimal=1\n",
+        ),
+    ]
+}
+
+// The same over every operator: a choice of nodes, two that choose, a job that takes what is left,
+// a gang, a threshold, a worth that is no multiple and one that is, and parts with two starts.
+fn operators() -> [(&'static str, &'static str, Status, &'static str); 8] {
+    [
+        (
+            TAGGED,
+            "{\"at\":0,\"arrive\":\"j1\",\"strl\":\"max(nCk(gpu,2,0,2,4), nCk(*,2,0,3,3))\"}\n",
+            Status::Done,
+            "cycle 0\nplan 4 4 optimal 0\ngrant j1 0 0 n1,n2\ntops 0 0\nlaunch j1\nsummary cycles=1 launched=1 ended=0 cancelled=0 expired=0 worth=4 optimal=1\n",
+        ),
+        (
+            TAGGED,
+            "{\"at\":0,\"arrive\":\"j1\",\"strl\":\"max(nCk(gpu,2,0,2,4), nCk(*,2,0,3,3))\"}\n{\"at\":0,\"arrive\":\"j2\",\"strl\":\"max(nCk(gpu,2,0,2,4), nCk(*,2,0,3,3))\"}\n",
+            Status::Done,
+            "cycle 0\nplan 7 8 wide 0\ngrant j1 0 0 n1,n2\ngrant j2 1 0 n3,n4\ntops 0 0\nlaunch j1\nlaunch j2\nsummary cycles=1 launched=2 ended=0 cancelled=0 expired=0 worth=7 optimal=0\n",
+        ),
+        (
+            THREE,
+            "{\"at\":0,\"arrive\":\"j1\",\"strl\":\"LnCk(*,4,0,1,8)\"}\n",
+            Status::Done,
+            "cycle 0\nplan 6 8 wide 0\ngrant j1 0 0 n1,n2,n3\ntops 0 0\nlaunch j1\nsummary cycles=1 launched=1 ended=0 cancelled=0 expired=0 worth=6 optimal=0\n",
+        ),
+        (
+            TAGGED,
+            "{\"at\":0,\"arrive\":\"j1\",\"strl\":\"min(nCk(gpu,1,0,1,5), nCk({n3},1,0,1,3))\"}\n",
+            Status::Done,
+            "cycle 0\nplan 3 3 optimal 0\ngrant j1 0 0 n1\ngrant j1 1 0 n3\ntops 0 0\nlaunch j1\nsummary cycles=1 launched=1 ended=0 cancelled=0 expired=0 worth=3 optimal=1\n",
+        ),
+        (
+            FOUR,
+            "{\"at\":0,\"arrive\":\"j1\",\"strl\":\"barrier(LnCk(*,4,0,1,8),7)\"}\n",
+            Status::Done,
+            "cycle 0\nplan 7 7 optimal 0\ngrant j1 0 0 n1,n2,n3,n4\ntops 0 0\nlaunch j1\nsummary cycles=1 launched=1 ended=0 cancelled=0 expired=0 worth=7 optimal=1\n",
+        ),
+        (
+            FOUR,
+            "{\"at\":0,\"arrive\":\"j1\",\"strl\":\"LnCk(*,4,0,1,6)\"}\n",
+            Status::BadTrace {
+                line: 2,
+                why: TraceWhy::BadStrl {
+                    offset: 13,
+                    fault: Fault::Uneven,
+                },
+            },
+            "",
+        ),
+        (
+            DOUBLED,
+            "{\"at\":0,\"arrive\":\"j1\",\"strl\":\"LnCk(*,4,0,1,6)\"}\n",
+            Status::Done,
+            "cycle 0\nplan 12 12 optimal 0\ngrant j1 0 0 n1,n2,n3,n4\ntops 0 0\nlaunch j1\nsummary cycles=1 launched=1 ended=0 cancelled=0 expired=0 worth=12 optimal=1\n",
+        ),
+        (
+            FOUR,
+            "{\"at\":0,\"arrive\":\"j1\",\"strl\":\"min(nCk(*,1,0,1,1), nCk(*,1,1,1,1))\"}\n",
+            Status::BadTrace {
+                line: 2,
+                why: TraceWhy::BadStrl {
+                    offset: 20,
+                    fault: Fault::Mixed,
+                },
+            },
             "",
         ),
     ]
+}
+
+fn check_report(
+    rt: &impl Abort,
+    alloc: Global,
+    header: &str,
+    jobs: &str,
+    status: Status,
+    report: &str,
+) -> Result<(), AllocError> {
+    let mut content = String::from_str(alloc, header)?;
+    content.push_str(jobs)?;
+    let mut sink = MemSink::new(alloc, 7, 1000, &[])?;
+    let found = planned(alloc, content.as_str(), &mut sink)?;
+    assert!(rt; found == status, "of {jobs}");
+    assert_eq!(rt; sink.written(), report.as_bytes(), "of {jobs}");
+    Ok(())
 }
 
 #[test]
 fn reports_are_written_to_the_byte(rt: HostRuntime) -> Result<(), Fail> {
     let alloc = rt.alloc();
     for (header, jobs, status, report) in examples() {
-        let mut content = String::from_str(alloc, header)?;
-        content.push_str(jobs)?;
-        let mut sink = MemSink::new(alloc, 7, 1000, &[])?;
-        let found = planned(alloc, content.as_str(), &mut sink)?;
-        assert!(rt; found == status, "of {jobs}");
-        assert_eq!(rt; sink.written(), report.as_bytes(), "of {jobs}");
+        check_report(&rt, alloc, header, jobs, status, report)?;
+    }
+    for (header, jobs, status, report) in operators() {
+        check_report(&rt, alloc, header, jobs, status, report)?;
     }
     Ok(())
 }
@@ -120,6 +211,16 @@ fn each_status_is_said(rt: HostRuntime) -> Result<(), Fail> {
         (Status::ReadFault, "read fault\n"),
         (Status::WriteFault, "write fault\n"),
         (NOT_BUILT, "bad trace: line 0: not-built\n"),
+        (
+            Status::BadTrace {
+                line: 12,
+                why: TraceWhy::BadStrl {
+                    offset: 13,
+                    fault: Fault::TooManyLeaves,
+                },
+            },
+            "bad trace: line 12: bad-strl 13 too-many-leaves\n",
+        ),
         (Status::NoMemory, "out of memory\n"),
     ] {
         let mut sink = MemSink::new(alloc, 7, 100, &[])?;
