@@ -17,17 +17,17 @@ use Rattle.tetri_ip.specs.Points.{Bounds, IsPoint, coefficient, left_side, numbe
 use Rattle.tetri_ip.specs.Weighed.{AreNotNegative, bound_taken, column_sum, columns_from, right_sum, weighed}
 
 -- a row's coefficients times the columns' numbers are its left side
-dot_from-coefficient : (ts : List Term) (xs : List ℤ) → dot_from ℤ_ring (coefficient ts) 0 xs ≡ left_side ts xs
+pub dot_from-coefficient : (ts : List Term) (xs : List ℤ) → dot_from ℤ_ring (coefficient ts) 0 xs ≡ left_side ts xs
 dot_from-coefficient ts xs =
     dot_from-sum_over ℤ_ring (λ (t : Term). unit_at ℤ_ring t.column t.by) ts 0 xs
     ∙ same_sum_over ℤ_ring (λ (t : Term). dot_from ℤ_ring (unit_at ℤ_ring t.column t.by) 0 xs) (λ (t : Term). t.by *ℤ number_at xs t.column) ts
     (λ t. dot_from-unit_at ℤ_ring t.column t.by 0 t.column xs (omega arith))
 
 -- the weighted sum of the left sides
-abbrev left_sum : List Row → List Weight → List ℤ → ℤ
+abbrev pub left_sum : List Row → List Weight → List ℤ → ℤ
 left_sum rows ws xs = sum_over ℤ_ring (λ (w : Weight). w.by *ℤ left_side (terms_of rows w.row) xs) ws
 
-dot_from-column_sum : (rows : List Row) (ws : List Weight) (xs : List ℤ) → dot_from ℤ_ring (column_sum rows ws) 0 xs ≡ left_sum rows ws xs
+pub dot_from-column_sum : (rows : List Row) (ws : List Weight) (xs : List ℤ) → dot_from ℤ_ring (column_sum rows ws) 0 xs ≡ left_sum rows ws xs
 dot_from-column_sum rows ws xs =
     dot_from-sum_over ℤ_ring (λ (w : Weight) j. w.by *ℤ coefficient (terms_of rows w.row) j) ws 0 xs
     ∙ same_sum_over ℤ_ring (λ (w : Weight). dot_from ℤ_ring (λ j. w.by *ℤ coefficient (terms_of rows w.row) j) 0 xs) (λ (w : Weight). w.by *ℤ left_side (terms_of rows w.row) xs) ws

@@ -80,6 +80,7 @@ module _ (p : Program) (columns terms gap : ℕ) (small : columns ≤ 4096) (fit
       columns = λ k lt.
           let next = gap_between k terms gap (omega (arith, even.count)) in
           omega (arith, column_is k (omega (arith, even.count)), next, even.small, count p.costs.items (pos 1) costs);
+      numbers = λ k lt. subst IsWithin (sym (ap (λ (t : Term). t.by) (even.each k (omega (arith, lt, even.count))))) (omega arith);
       in_range = subst (λ z. reach p r.terms.items + unsigned_abs z < 2 ^ 127) (sym even.at_most) (omega (arith, reach_le, even.count, few));
     }
       where

@@ -1,10 +1,8 @@
 -- Whether a set has all nodes.
 use Rattle.std.proofs.Common.{◌≡◌, ◌≢◌, ℕ, ◌<◌, Bool, true, false, List, length, get_or, refl, sym, ap, ◌∙◌, arith}
 use Rattle.std.specs.List.{range_with_len}
-use Rattle.std.proofs.lemmas.Bool.{true≢false}
 use Rattle.std.proofs.lemmas.List.FromFn.{fill_by_all, length-range_with_len, get_or-range_with_len}
 use Rattle.std.proofs.lemmas.Slice.Eq.{bytes_eq-Decides}
-use Rattle.tetri_cluster.specs.Sets.{has_nodes}
 use Rattle.tetri_parse.specs.Printing.{is_every}
 
 pub not_every : (count : ℕ) (nodes : List ℕ) → (nodes ≡ range_with_len 0 count → ⊥) → is_every count nodes ≡ false

@@ -1,6 +1,6 @@
 -- Printed leaves are read back.
-use Rattle.std.proofs.Common.{◌≡◌, ◌≢◌, map, ℕ, zero, suc, ◌+◌, ◌-◌, ◌*◌, ◌%◌, ◌^◌, ◌≤◌, ◌<◌, ◌&&◌, ◌||◌, ◌==◌, Bool, true, false, not, IsTrue, nat_le, nat_lt, if◌then◌else◌, List, [], ◌∷◌, ◌++◌, length, get_or, Option, Some, None, Result, Ok, Err, refl, sym, ap, ◌∙◌, subst, append_assoc, arith}
-use Rattle.std.specs.Prelude.{codes, decimal, IfSome}
+use Rattle.std.proofs.Common.{◌≡◌, map, ℕ, suc, ◌+◌, ◌-◌, ◌*◌, ◌%◌, ◌≤◌, ◌<◌, ◌&&◌, ◌==◌, Bool, true, false, not, nat_le, nat_lt, if◌then◌else◌, List, [], ◌∷◌, ◌++◌, length, get_or, Option, Some, Ok, refl, sym, ap, ◌∙◌, append_assoc, arith}
+use Rattle.std.specs.Prelude.{codes, decimal}
 use Rattle.std.specs.List.{position_or_len}
 use Rattle.std.proofs.lemmas.Bool.Decides.{nat_tests}
 use Rattle.std.proofs.lemmas.List.Folds.{list_any_at}
@@ -13,13 +13,12 @@ use Rattle.tetri_cluster.specs.Cluster.{names_of, name_at}
 use Rattle.tetri_cluster.specs.Names.{differ}
 use Rattle.tetri_cluster.specs.Sets.{AreSets, has_nodes, is_known, set_added}
 use Rattle.tetri_parse.specs.declared.fault.Fault.TheVariants.{Mixed, TooRich, Uneven}
-use Rattle.tetri_parse.specs.declared.fault.Miss.{Miss}
 use Rattle.tetri_parse.specs.declared.syntax.LeafText.{LeafText}
 use Rattle.tetri_parse.specs.Answers.{◌>>=◌}
 use Rattle.tetri_parse.specs.Grammar.{leaf_at, body_at, expr_at}
 use Rattle.tetri_parse.specs.Phrase.{asked}
 use Rattle.tetri_parse.specs.Printing.{HasNames, is_every, set_text, leaf_word, numbers_text, with_commas}
-use Rattle.tetri_parse.specs.SetText.{set_at, IsNodeSet}
+use Rattle.tetri_parse.specs.SetText.{IsNodeSet}
 use Rattle.tetri_parse.specs.Settling.{at, is_mixed, unless_rich, leaf_with, settled_set, settled_value, settled_leaf}
 use Rattle.tetri_parse.specs.Tokens.{skip_blanks}
 use Rattle.tetri_parse.proofs.SetsBack.{set_back}

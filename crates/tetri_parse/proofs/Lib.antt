@@ -1,13 +1,14 @@
 mod Added
 mod Every
+mod FirstMet
 mod Grammars
+mod LeavesBack
 mod NodeSets
 mod Outcomes
 mod Rows
+mod SetsBack
 mod Settled
 mod Spelled
 mod Steps
 mod TokensBack
-mod SetsBack
-mod LeavesBack
 mod TreesBack

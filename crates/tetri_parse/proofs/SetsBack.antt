@@ -1,6 +1,6 @@
 -- Printed sets are read back.
-use Rattle.std.proofs.Common.{◌≡◌, ◌≢◌, ℕ, zero, suc, ◌+◌, ◌-◌, ◌^◌, ◌≤◌, ◌<◌, ◌&&◌, ◌||◌, ◌==◌, Bool, true, false, not, nat_lt, if◌then◌else◌, List, [], ◌∷◌, ◌++◌, length, map, get_or, Option, Some, None, Result, Ok, Err, refl, sym, ap, ◌∙◌, subst, append_assoc, append-nil, bytes_eq, length-append, arith}
-use Rattle.std.specs.Prelude.{All, filter, flat_map, fold, nat_eq, position, option_map, option_and_then, codes}
+use Rattle.std.proofs.Common.{◌≡◌, ℕ, zero, suc, ◌+◌, ◌≤◌, ◌<◌, ◌&&◌, ◌==◌, Bool, true, false, not, nat_lt, if◌then◌else◌, List, [], ◌∷◌, ◌++◌, length, map, get_or, Some, Ok, refl, sym, ap, ◌∙◌, subst, append_assoc, bytes_eq, length-append, arith}
+use Rattle.std.specs.Prelude.{All, filter, flat_map, nat_eq, option_map, codes}
 use Rattle.std.specs.List.{list_any, position_or_len, range_with_len, AllByRecursion}
 use Rattle.std.specs.List.Sorted.{IsStrictlyIncreasing}
 use Rattle.std.proofs.lemmas.Bool.Decides.{nat_tests}
@@ -11,15 +11,14 @@ use Rattle.std.proofs.lemmas.Slice.Eq.{bytes_eq-Decides}
 use Rattle.tetri_cluster.specs.declared.cluster.NodeText.{NodeText}
 use Rattle.tetri_cluster.specs.Names.{differ, is_among, is_name, number_of}
 use Rattle.tetri_cluster.specs.Cluster.{names_of, name_at}
-use Rattle.tetri_parse.specs.declared.fault.Miss.{Miss}
-use Rattle.tetri_parse.specs.declared.token.Class.TheVariants.{Blank, Named}
+use Rattle.tetri_parse.specs.declared.token.Class.TheVariants.{Named}
 use Rattle.tetri_parse.specs.Answers.{◌>>=◌}
 use Rattle.tetri_parse.specs.Printing.{after_comma, with_commas, is_every, set_text, HasNames}
 use Rattle.tetri_parse.specs.Rows.{row_at}
-use Rattle.tetri_parse.specs.SetText.{Part, every, tagged, listed, part_at, listed_first, and_at, parts_at, numbers_of, narrowed, shared_nodes, set_at, IsNodeSet}
+use Rattle.tetri_parse.specs.SetText.{Part, every, listed, part_at, listed_first, numbers_of, narrowed, set_at, IsNodeSet}
 use Rattle.tetri_parse.specs.Tokens.{stands, skip_blanks, goes_on_at}
 use Rattle.tetri_parse.specs.Tokens as tokens
-use Rattle.tetri_parse.proofs.TokensBack.{first_of, no_blank, name_parts, name_first_byte, name_back}
+use Rattle.tetri_parse.proofs.TokensBack.{first_of, name_parts, name_first_byte, name_back}
 
 -- ascending numbers from a bound on
 abbrev Rises : ℕ → List ℕ → Type 0

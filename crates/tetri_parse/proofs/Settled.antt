@@ -1,5 +1,5 @@
 -- What the second pass grants.
-use Rattle.std.proofs.Common.{◌≡◌, ◌≢◌, ℕ, zero, suc, ◌+◌, ◌-◌, ◌*◌, ◌%◌, ◌≤◌, ◌<◌, ◌==◌, ◌&&◌, max, Bool, true, false, not, IsTrue, List, [], ◌∷◌, ◌++◌, length, map, get_or, Option, Some, None, Ok, Err, refl, sym, ap, subst, ◌∙◌, add-one, add-zero, arith}
+use Rattle.std.proofs.Common.{◌≡◌, ◌≢◌, ℕ, zero, suc, ◌+◌, ◌-◌, ◌*◌, ◌%◌, ◌≤◌, ◌<◌, ◌==◌, ◌&&◌, max, Bool, true, false, not, IsTrue, List, [], ◌∷◌, ◌++◌, length, map, get_or, Option, Some, None, Ok, refl, sym, ap, subst, ◌∙◌, arith}
 use Rattle.std.specs.Prelude.{All, AllPairs, IfSome}
 use Rattle.std.specs.List.{range_with_len}
 use Rattle.std.proofs.lemmas.Bool.Decides.{nat_tests}
@@ -7,17 +7,16 @@ use Rattle.std.proofs.lemmas.List.{map-append, length-map}
 use Rattle.std.proofs.lemmas.List.FromFn.{length-range_with_len, get_or-range_with_len}
 use Rattle.std.proofs.Math.ListN.{get_or-map}
 use Rattle.tetri_strl.specs.declared.expr.Leaf.{Leaf}
-use Rattle.tetri_strl.specs.Aligned.{EachLeaf, EachLeafOf, StartsAt, HasOneStart, MeetsAt, IsAligned, AreAligned}
+use Rattle.tetri_strl.specs.Aligned.{EachLeaf, EachLeafOf, StartsAt, MeetsAt, IsAligned, AreAligned}
 use Rattle.tetri_strl.specs.Tree.{Operator, greatest, least, added, Tree, one, join, scale, barrier, Trees, none, more, row, leaves, leaves_of, numbers, numbers_of}
-use Rattle.tetri_strl.specs.WellMade.{PEAK, peak, peaks, peak_joined, IsGoodLeaf, HasChild, IsSound, AreSound, depth, depth_of, IsWellMade}
-use Rattle.tetri_cluster.specs.Sets.{set_added}
+use Rattle.tetri_strl.specs.WellMade.{peak, peaks, peak_joined, HasChild, IsSound, AreSound, depth, depth_of}
 use Rattle.tetri_parse.specs.declared.fault.Fault.TheVariants.{Mixed, Uneven}
 use Rattle.tetri_parse.specs.declared.syntax.LeafText.{LeafText}
 use Rattle.tetri_parse.specs.Answers.{◌>>=◌}
 use Rattle.tetri_parse.specs.Phrase.{Phrase, Phrases, asked, joined, scaled, barred, nothing, followed}
 use Rattle.tetri_parse.specs.TextTree.{AreWithin, IsTextTree}
-use Rattle.tetri_parse.specs.Settling.{first_start, first_start_of, wanted_below, is_mixed, settled_set, unless_rich, made_of, peak_of, peaks_of, leaf_with, settled_value, settled_leaf, settled, settled_all}
-use Rattle.tetri_parse.specs.Written.{IsWrittenLeaf, HasPart, IsLeafFrom, IsBody, AreSpelled, IsSpelled}
+use Rattle.tetri_parse.specs.Settling.{first_start_of, wanted_below, is_mixed, settled_set, unless_rich, made_of, peak_of, peaks_of, leaf_with, settled_value, settled_leaf, settled, settled_all}
+use Rattle.tetri_parse.specs.Written.{HasPart, IsLeafFrom, IsBody, AreSpelled, IsSpelled}
 use Rattle.tetri_parse.proofs.Added.{added_all, added_grown, added_number}
 use Rattle.tetri_parse.proofs.Steps.{both, passed, same_ok, not_rich, made, set_found}
 

@@ -1,5 +1,5 @@
 -- Parts that were spelled one after the other.
-use Rattle.std.proofs.Common.{◌≡◌, ℕ, List, [], ◌∷◌, ◌++◌, refl, sym, subst}
+use Rattle.std.proofs.Common.{ℕ, List, [], ◌∷◌, ◌++◌, refl, subst}
 use Rattle.tetri_parse.specs.Phrase.{Phrase, Phrases, asked, joined, scaled, barred, nothing, followed, line_up}
 use Rattle.tetri_parse.specs.Written.{IsWritten, AreWritten, HasPart, IsBody, AreSpelled, IsSpelled}
 

@@ -1,5 +1,5 @@
 -- Printed numbers and names are read back.
-use Rattle.std.proofs.Common.{rules, ◌≡◌, ℕ, ◌+◌, ◌-◌, ◌*◌, ◌^◌, ◌≤◌, ◌<◌, ◌&&◌, ◌||◌, ◌==◌, Bool, true, false, nat_le, nat_lt, if◌then◌else◌, List, [], ◌∷◌, ◌++◌, length, take, drop, Result, Ok, Err, refl, sym, ap, ◌∙◌, subst, arith}
+use Rattle.std.proofs.Common.{rules, ◌≡◌, ℕ, ◌+◌, ◌-◌, ◌*◌, ◌^◌, ◌≤◌, ◌<◌, ◌&&◌, ◌||◌, ◌==◌, Bool, true, false, nat_le, nat_lt, if◌then◌else◌, List, [], ◌∷◌, ◌++◌, length, take, drop, Ok, Err, refl, ap, ◌∙◌, arith}
 use Rattle.std.specs.Prelude.{fold, decimal}
 use Rattle.std.specs.List.{list_all, prefix_len}
 use Rattle.std.proofs.Math.Seq.{take-append_seam, drop-append_seam}
@@ -7,7 +7,6 @@ use Rattle.std.proofs.lemmas.Bool.Decides.{nat_tests}
 use Rattle.std.proofs.lemmas.Fmt.{digits_decimal, digits_value-decimal, decimal_nonempty}
 use Rattle.std.proofs.lemmas.Str.Parse.{IsNumeralModel, numerals_by_fold}
 use Rattle.tetri_cluster.specs.Names.{is_name, is_name_byte}
-use Rattle.tetri_parse.specs.declared.fault.Miss.{Miss}
 use Rattle.tetri_parse.specs.declared.token.Class.{Class}
 use Rattle.tetri_parse.specs.declared.token.Class.TheVariants.{Blank, Digit, Named}
 use Rattle.tetri_parse.specs.Tokens.{stands, skip_blanks, missing, numeral, number_in, number_first, number_at, name_first, name_at}

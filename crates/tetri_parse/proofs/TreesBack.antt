@@ -1,5 +1,5 @@
 -- Printed trees are read back.
-use Rattle.std.proofs.Common.{◌≡◌, ℕ, zero, suc, ◌+◌, ◌-◌, ◌*◌, ◌^◌, ◌≤◌, ◌<◌, ◌==◌, max, Bool, true, false, not, nat_lt, if◌then◌else◌, List, [], ◌∷◌, ◌++◌, length, get_or, Option, Some, None, Result, Ok, Err, refl, sym, ap, ◌∙◌, subst, append_assoc, append-nil, length-append, arith}
+use Rattle.std.proofs.Common.{◌≡◌, ℕ, zero, suc, ◌+◌, ◌-◌, ◌*◌, ◌≤◌, ◌<◌, max, true, false, nat_lt, List, [], ◌∷◌, ◌++◌, length, Option, Some, None, Result, Ok, refl, sym, ap, ◌∙◌, subst, append_assoc, append-nil, length-append, arith}
 use Rattle.std.specs.Prelude.{All, codes, decimal, flat_map}
 use Rattle.std.specs.List.{range_with_len}
 use Rattle.std.specs.List.Sorted.{IsStrictlyIncreasing}
@@ -7,7 +7,7 @@ use Rattle.std.proofs.lemmas.Bool.Decides.{nat_tests}
 use Rattle.std.proofs.lemmas.List.Elements.{All-get_or}
 use Rattle.std.proofs.lemmas.List.FromFn.{length-range_with_len}
 use Rattle.tetri_strl.specs.declared.expr.Leaf.{Leaf}
-use Rattle.tetri_strl.specs.Aligned.{EachLeaf, EachLeafOf, StartsAt, HasOneStart, MeetsAt, IsAligned, AreAligned}
+use Rattle.tetri_strl.specs.Aligned.{EachLeaf, EachLeafOf, StartsAt, MeetsAt, IsAligned, AreAligned}
 use Rattle.tetri_strl.specs.Tree.{Operator, greatest, least, added, Tree, one, join, scale, barrier, Trees, none, more, row, leaves, numbers, numbers_of}
 use Rattle.tetri_strl.specs.WellMade.{PEAK, peak, peaks, peak_joined, HasChild, IsSound, AreSound, depth, depth_of}
 use Rattle.tetri_cluster.specs.declared.cluster.NodeText.{NodeText}
@@ -16,15 +16,14 @@ use Rattle.tetri_cluster.specs.Names.{differ}
 use Rattle.tetri_cluster.specs.Sets.{AreSets}
 use Rattle.tetri_parse.specs.declared.fault.Fault.TheVariants.{TooRich}
 use Rattle.tetri_parse.specs.declared.fault.Miss.{Miss}
-use Rattle.tetri_parse.specs.declared.syntax.LeafText.{LeafText}
 use Rattle.tetri_parse.specs.Answers.{◌>>=◌}
 use Rattle.tetri_parse.specs.Expression.{expression, expression_left}
 use Rattle.tetri_parse.specs.Grammar.{part_with_number, goes_on_to_child, children_at, body_at, expr_at, whole_at}
-use Rattle.tetri_parse.specs.Phrase.{Phrase, Phrases, asked, joined, scaled, barred, nothing, followed, line_up}
+use Rattle.tetri_parse.specs.Phrase.{Phrase, asked, joined, scaled, barred, line_up}
 use Rattle.tetri_parse.specs.Printing.{after_comma, with_commas, HasNames, nodes_of, leaf_word, join_word, set_text, leaf_text, text_of, texts_of, AreNamed}
 use Rattle.tetri_parse.specs.Rows.{row_at}
 use Rattle.tetri_parse.specs.SetText.{IsNodeSet}
-use Rattle.tetri_parse.specs.Settling.{at, is_mixed, first_start, first_start_of, wanted_below, unless_rich, made_of, peak_of, peaks_of, settled_leaf, settled, settled_all}
+use Rattle.tetri_parse.specs.Settling.{at, is_mixed, first_start, first_start_of, wanted_below, unless_rich, made_of, peak_of, peaks_of, settled, settled_all}
 use Rattle.tetri_parse.specs.TextTree.{AreWithin, IsTextTree}
 use Rattle.tetri_parse.proofs.LeavesBack.{numbers_onto, leaf_read, leaf_back, leaf_settles}
 use Rattle.tetri_parse.proofs.TokensBack.{test_false, number_back}

@@ -9,3 +9,4 @@ pub mod Expression
 pub mod Written
 pub mod TextTree
 pub mod Printing
+pub mod Faults

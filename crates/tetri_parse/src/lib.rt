@@ -2,6 +2,7 @@
 #![tactic(auto)]
 
 mod fault;
+mod laws;
 mod nodes;
 mod number;
 mod peak;
@@ -15,6 +16,7 @@ mod syntax;
 mod token;
 
 pub use fault::{Fault, ParseFault};
+pub use laws::reading_meets_the_first_fault;
 pub use print::print_expr;
 pub use read::{read_expr, read_set};
 

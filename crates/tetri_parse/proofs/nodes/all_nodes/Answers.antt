@@ -1,4 +1,4 @@
-use Rattle.std.proofs.Common.{◌≡◌, ◌∙◌, ◌++◌, ◌∷◌, ◌+◌, [], subst, ap, sym, arith, zero-add}
+use Rattle.std.proofs.Common.{◌≡◌, ◌∙◌, ◌++◌, ◌∷◌, [], subst, ap, sym, arith, zero-add}
 use Rattle.std.specs.List.{range_with_len}
 use Rattle.tetri_parse.specs.SetText.{IsNodeSet}
 use Rattle.tetri_parse.proofs.NodeSets.{range-more, all_is_node_set}

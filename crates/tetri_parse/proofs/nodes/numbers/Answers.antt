@@ -1,5 +1,5 @@
-use Rattle.std.proofs.Common.{Bor, ◌+◌, ◌≡◌, ◌<◌, ◌++◌, ◌∷◌, [], ℕ, List, map, drop, length, get_or, sym, ap, ◌∙◌, subst, Some, None, arith}
-use Rattle.std.specs.Prelude.{option_map, All}
+use Rattle.std.proofs.Common.{Bor, ◌+◌, ◌≡◌, ◌<◌, ◌++◌, [], ℕ, List, map, length, get_or, sym, ap, ◌∙◌, Some, None, arith}
+use Rattle.std.specs.Prelude.{option_map}
 use Rattle.std.proofs.lemmas.List.{drop-map, get_or-map, length-map}
 use Rattle.std.proofs.lemmas.List.Elements.{All-push}
 use Rattle.tetri_cluster.specs.Names.{number_of}

@@ -1,4 +1,4 @@
-use Rattle.std.proofs.Common.{◌≡◌, ◌+◌, ◌-◌, ◌^◌, max, min, drop, length, ap, List, arith}
+use Rattle.std.proofs.Common.{ap, List, arith}
 use Rattle.std.proofs.lemmas.List.{drop_all}
 use Rattle.tetri_strl.specs.Worth.{greatest_of, added_of}
 use Rattle.tetri_parse.specs.declared.syntax.Syntax.{Syntax}

@@ -1,7 +1,6 @@
-use Rattle.std.proofs.Common.{◌≡◌, ap, ◌∙◌, Ok, List, ℕ}
+use Rattle.std.proofs.Common.{ap, ◌∙◌}
 use Rattle.tetri_strl.specs.Tree.{tree}
 use Rattle.tetri_parse.specs.Expression.{expression}
-use Rattle.tetri_parse.specs.Printing.{text_of}
 use Rattle.tetri_parse.proofs.TreesBack.{reads_back}
 use Rattle.tetri_parse.proofs.print.print_expr.Goals as goal
 

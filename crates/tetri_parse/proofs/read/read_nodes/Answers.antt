@@ -1,5 +1,4 @@
-use Rattle.std.proofs.Common.{◌<◌, length}
-use Rattle.std.specs.Prelude.{All, IfSome, option_map}
+use Rattle.std.proofs.Common.{length}
 use Rattle.tetri_parse.proofs.Outcomes.{set_within, nodes_known}
 use Rattle.tetri_parse.proofs.read.read_nodes.Goals as goal
 

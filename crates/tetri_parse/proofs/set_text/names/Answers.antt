@@ -1,4 +1,4 @@
-use Rattle.std.proofs.Common.{Bor, ◌≡◌, ◌++◌, ◌∷◌, [], ℕ, List, Bool, true, false, Ok, Err, map, length, sym, ap, ◌∙◌}
+use Rattle.std.proofs.Common.{Bor, ◌≡◌, ◌++◌, ◌∷◌, [], ℕ, List, true, false, Ok, map, length, sym, ap, ◌∙◌}
 use Rattle.std.proofs.lemmas.Result.{err_from_is_err_and}
 use Rattle.std.proofs.lemmas.List.{map_push}
 use Rattle.tetri_parse.specs.Rows.{row_at}

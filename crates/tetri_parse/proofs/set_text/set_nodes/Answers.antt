@@ -1,7 +1,7 @@
-use Rattle.std.proofs.Common.{◌≡◌, ◌++◌, ◌∷◌, [], ℕ, List, Bool, true, false, Ok, Err, map, length, sym, ap, ◌∙◌, subst}
+use Rattle.std.proofs.Common.{◌≡◌, true, false, Ok, length, sym, ap, ◌∙◌}
 use Rattle.std.proofs.lemmas.Result.{err_from_is_err_and}
 use Rattle.tetri_parse.specs.SetText.{part_of, part_at, and_at, narrowed, set_at}
-use Rattle.tetri_parse.proofs.Rows.{goes_further, is_last, stops_in, stops_after, runs_out}
+use Rattle.tetri_parse.proofs.Rows.{goes_further, is_last, stops_in, runs_out}
 use Rattle.tetri_parse.proofs.set_text.set_nodes.Goals as goal
 
 pub returns-in_err-part-clause-value : goal.returns-in_err-part-clause-value

@@ -1,0 +1,21 @@
+// A law of the definitions.
+ghost use Rattle.tetri_parse.specs.Faults.{MeetsFirst};
+
+use tetri_cluster::{Cluster, Sets};
+
+/// Where the grammar is kept, `read_expr` answers the first of all faults of sets, values, starts and
+/// peaks in the order of the text, each of which the definition states by itself.
+pub fn reading_meets_the_first_fault(
+    text: &[u8],
+    unit: u64,
+    arrival: u32,
+    cluster: &Cluster,
+    sets: &Sets,
+)
+    ensures { MeetsFirst text.entry.now unit arrival cluster.entry.now sets.entry.now }
+{
+    let _ = text;
+    let _ = (unit, arrival);
+    let _ = cluster;
+    let _ = sets;
+}
