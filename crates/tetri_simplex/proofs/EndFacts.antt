@@ -13,11 +13,12 @@ use Rattle.tetri_ip.specs.Points.{Bounds, IsInBox, IsBelow}
 use Rattle.tetri_ip.specs.Weighed.{weighed}
 use Rattle.tetri_ip.specs.declared.programs.Program.{Program}
 use Rattle.tetri_ip.specs.declared.programs.Weight.{Weight}
+use Rattle.tetri_algebra.specs.Rational.{ℚ}
 use Rattle.tetri_simplex.proofs.Placed.{IsBox}
 use Rattle.tetri_simplex.proofs.WeightSigns.{not_negative, of_rows}
 use Rattle.tetri_simplex.proofs.RunHolds.{EndHolds, machine_holds}
-use Rattle.tetri_simplex.specs.Ends.{cut, empty}
-use Rattle.tetri_simplex.specs.Certificates.{CertifiesCut, CertifiesEmpty}
+use Rattle.tetri_simplex.specs.Ends.{best, cut, empty}
+use Rattle.tetri_simplex.specs.Certificates.{CertifiesBest, CertifiesCut, CertifiesEmpty}
 use Rattle.tetri_simplex.specs.Machine.{machine}
 
 -- a region in a program's box is a box
@@ -51,3 +52,8 @@ pub empty_certified : (p : Program) (r : Bounds) (b : ℕ) (ws : List Weight) �
 empty_certified p r b ws i e =
     let h = subst (EndHolds p r b) e (machine_facts p r b i) in
     record { rows = of_rows p ws h.weights; signs = not_negative (length p.rows.items) ws h.weights; negative = h.negative }
+
+pub best_certified : (p : Program) (r : Bounds) (b : ℕ) (x : List ℚ) (q : ℤ) (ws : List Weight) → IsInBox p r → machine p r b ≡ best x q ws → CertifiesBest p r b x q ws
+best_certified p r b x q ws i e =
+    let h = subst (EndHolds p r b) e (machine_facts p r b i) in
+    record { relaxed = h.relaxed; above = h.above; rows = of_rows p ws h.weights; signs = not_negative (length p.rows.items) ws h.weights; multiplier = h.multiplier; optimal = h.optimal }

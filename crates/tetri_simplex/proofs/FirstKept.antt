@@ -27,18 +27,8 @@ use Rattle.tetri_simplex.proofs.Signs.{NotBelow, whole_not_below}
 use Rattle.tetri_simplex.proofs.Sound.{val_at, slacks_of, neg_whole, ys_length}
 use Rattle.tetri_simplex.specs.Start.{corner, direction, slack_row, slack_from, minus_one_at, bound_rows, objective_row, first_rows, first_table}
 use Rattle.tetri_simplex.specs.Tables.{coefficients_of}
-
-length_map : {A B : Type 0} → (f : A → B) (xs : List A) → length (map f xs) ≡ length xs
-length_map f [] = refl
-length_map f (x ∷ xs) = ap suc (length_map f xs)
-
-map_append : {A B : Type 0} → (f : A → B) (xs ys : List A) → map f (xs ++ ys) ≡ map f xs ++ map f ys
-map_append f [] ys = refl
-map_append f (x ∷ xs) ys = ap (λ zs. f x ∷ zs) (map_append f xs ys)
-
-append_nil : {A : Type 0} → (xs : List A) → xs ++ [] ≡ xs
-append_nil [] = refl
-append_nil (x ∷ xs) = ap (λ zs. x ∷ zs) (append_nil xs)
+use Rattle.std.proofs.lemmas.List.{length-map, map-append, append-nil}
+use Rattle.std.proofs.lemmas.List.FromFn.{length-range_with_len}
 
 -- ---- the values of a range of variables
 map_mid : (pre mid post : List ℚ) → map (λ v. get_or (pre ++ (mid ++ post)) v zero_ℚ) (range_with_len (length pre) (length mid)) ≡ mid
@@ -67,9 +57,9 @@ whole_rows : (rows : List (List ℤ)) (v : List ℤ) → map (λ row. dot ℚ_ri
 whole_rows [] v = refl
 whole_rows (r ∷ rows) v = ap (λ z. z ∷ map (λ row. dot ℚ_ring row (map whole_ℚ v)) (map (map whole_ℚ) rows)) (whole_dot r v) ∙ ap (λ zs. whole_ℚ (dot ℤ_ring r v) ∷ zs) (whole_rows rows v)
 
-begun_solves : (p : Program) (r : Bounds) (x : List ℤ) → IsBox p.costs.items r.lower r.upper → IsPlaced p.costs.items r.lower r.upper x → Solves (val_at p r x) (whole_ℚ (objective p x)) (first_table p r)
+first_solves : (p : Program) (r : Bounds) (x : List ℤ) → IsBox p.costs.items r.lower r.upper → IsPlaced p.costs.items r.lower r.upper x → Solves (val_at p r x) (whole_ℚ (objective p x)) (first_table p r)
 unfolding first_table
-begun_solves p r x box h =
+first_solves p r x box h =
     let cs = p.costs.items in let ls = r.lower in let us = r.upper in
     let n = length cs in let m = length p.rows.items in
     let ys = ys_of cs ls us x in
@@ -77,27 +67,27 @@ begun_solves p r x box h =
     let Y = map whole_ℚ ys in let S = map whole_ℚ (slacks_of p.rows.items x) in let B = map whole_ℚ bs in
     let val = val_at p r x in
     let f : List ℤ → ℤ = λ row. dot ℤ_ring row (pos 1 ∷ ys) in
-    let ly : length Y ≡ n = length_map whole_ℚ ys ∙ ys_length cs ls us x h in
-    let lS : length S ≡ m = length_map whole_ℚ (slacks_of p.rows.items x) ∙ length_map (λ row. row.right -ℤ left_side row.terms.items x) p.rows.items in
-    let lB : length B ≡ n = length_map whole_ℚ bs ∙ bounds_length ys 0 cs ls us box in
+    let ly : length Y ≡ n = length-map ys whole_ℚ ∙ ys_length cs ls us x h in
+    let lS : length S ≡ m = length-map (slacks_of p.rows.items x) whole_ℚ ∙ length-map p.rows.items (λ row. row.right -ℤ left_side row.terms.items x) in
+    let lB : length B ≡ n = length-map bs whole_ℚ ∙ bounds_length ys 0 cs ls us box in
     let low : map val (range_with_len 0 n) ≡ Y = ap (λ k. map val (range_with_len 0 k)) (sym ly) ∙ map_mid [] Y (S ++ B) in
     let lSB : length (S ++ B) ≡ m + n = length-append S B ∙ ap (λ k. k + length B) lS ∙ ap (λ k. m + k) lB in
     let high : map val (range_with_len n (m + n)) ≡ S ++ B =
     ap (λ k. map val (range_with_len k (m + n))) (sym ly) ∙ ap (λ k. map val (range_with_len (length Y) k)) (sym lSB)
-    ∙ ap (λ w. map (λ v. get_or (Y ++ w) v zero_ℚ) (range_with_len (length Y) (length (S ++ B)))) (sym (append_nil (S ++ B))) ∙ map_mid Y (S ++ B) [] in
+    ∙ ap (λ w. map (λ v. get_or (Y ++ w) v zero_ℚ) (range_with_len (length Y) (length (S ++ B)))) (sym (append-nil (S ++ B))) ∙ map_mid Y (S ++ B) [] in
     let A1 = map (slack_row cs (corner cs ls us)) p.rows.items in
     let A2 = bound_rows 0 cs ls us in
     let A3 : List (List ℤ) = objective_row cs (corner cs ls us) ∷ [] in
     let rows : map f (first_rows p r) ≡ (slacks_of p.rows.items x ++ bs) ++ (objective p x ∷ []) =
-    map_append f (A1 ++ A2) A3 ∙ ap (λ z. z ++ map f A3) (map_append f A1 A2)
+    map-append f (A1 ++ A2) A3 ∙ ap (λ z. z ++ map f A3) (map-append f A1 A2)
     ∙ ap (λ z. (z ++ map f A2) ++ map f A3) (slack_rows p.rows.items cs ls us x h)
     ∙ ap (λ z. (slacks_of p.rows.items x ++ z) ++ map f A3) (bound_values ys cs 0 ls us (sym (ys_length cs ls us x h)))
     ∙ ap (λ z. (slacks_of p.rows.items x ++ bs) ++ (z ∷ [])) (objective_value cs ls us x h) in
     ap (λ w. map (λ row. dot ℚ_ring row (whole_ℚ (pos 1) ∷ w)) (map (map whole_ℚ) (first_rows p r))) low
     ∙ whole_rows (first_rows p r) (pos 1 ∷ ys)
     ∙ ap (map whole_ℚ) rows
-    ∙ map_append whole_ℚ (slacks_of p.rows.items x ++ bs) (objective p x ∷ [])
-    ∙ ap (λ z. z ++ (whole_ℚ (objective p x) ∷ [])) (map_append whole_ℚ (slacks_of p.rows.items x) bs ∙ sym high)
+    ∙ map-append whole_ℚ (slacks_of p.rows.items x ++ bs) (objective p x ∷ [])
+    ∙ ap (λ z. z ++ (whole_ℚ (objective p x) ∷ [])) (map-append whole_ℚ (slacks_of p.rows.items x) bs ∙ sym high)
 
 -- ---- the variables of a range
 times_before : (v a k : ℕ) → v < a → times v (range_with_len a k) ≡ 0
@@ -142,10 +132,6 @@ costs_signs [] = tt
 costs_signs (c ∷ cs) = (subst NotBelow (sym (neg_whole (c *ℤ direction c))) (whole_not_below (neg_ℤ (c *ℤ direction c)) (cost_sign c)), costs_signs cs)
 
 -- ---- lengths
-length_range : (a k : ℕ) → length (range_with_len a k) ≡ k
-length_range a zero = refl
-length_range a (suc k) = ap suc (length_range (a + 1) k)
-
 bound_count : (j : ℕ) (ds cs ls us : List ℤ) → IsBox cs ls us → length (bound_rows j ds ls us) ≡ length cs
 bound_count j ds [] [] [] h = refl
 bound_count j ds (c ∷ cs) (l ∷ ls) (u ∷ us) h = ap suc (bound_count (j + 1) ds cs ls us h.1)
@@ -161,7 +147,7 @@ long_append n (r ∷ rs) ss h k = (h.0, long_append n rs ss h.1 k)
 
 long_get : (n : ℕ) (rs : List (List ℤ)) (k : ℕ) → AllLong n rs → k < length rs → length (get_or (map (map whole_ℚ) rs) k []) ≡ suc n
 long_get n [] k h l = absurd (omega arith)
-long_get n (r ∷ rs) zero h l = length_map whole_ℚ r ∙ h.0
+long_get n (r ∷ rs) zero h l = length-map r whole_ℚ ∙ h.0
 long_get n (r ∷ rs) (suc k) h l = long_get n rs k h.1 (omega arith)
 
 slack_long : (ts : List Term) (j : ℕ) (cs : List ℤ) → length (slack_from ts j cs) ≡ length cs
@@ -181,29 +167,30 @@ bounds_long j cs [] us = tt
 bounds_long j cs (l ∷ ls) [] = tt
 bounds_long j cs (l ∷ ls) (u ∷ us) = (ap suc (less_long j 0 cs), bounds_long (j + 1) cs ls us)
 
-pub begun_kept : (p : Program) (r : Bounds) → IsBox p.costs.items r.lower r.upper → IsKept p r (first_table p r)
+pub first_kept : (p : Program) (r : Bounds) → IsBox p.costs.items r.lower r.upper → IsKept p r (first_table p r)
 unfolding first_table
-begun_kept p r box =
+first_kept p r box =
     let n = length p.costs.items in let m = length p.rows.items in
     let cs = p.costs.items in let ls = r.lower in let us = r.upper in
     let A1 = map (slack_row cs (corner cs ls us)) p.rows.items in
     let A2 = bound_rows 0 cs ls us in
     let o = objective_row cs (corner cs ls us) in
     let M : List ℤ → List ℚ = map whole_ℚ in
-    let lr = length_range n (m + n) in
-    let lA : length (A1 ++ A2) ≡ m + n = length-append A1 A2 ∙ ap (λ k. k + length A2) (length_map (slack_row cs (corner cs ls us)) p.rows.items) ∙ ap (λ k. m + k) (bound_count 0 cs cs ls us box) in
+    let lr = length-range_with_len n (m + n) in
+    let lA : length (A1 ++ A2) ≡ m + n = length-append A1 A2 ∙ ap (λ k. k + length A2) (length-map p.rows.items (slack_row cs (corner cs ls us))) ∙ ap (λ k. m + k) (bound_count 0 cs cs ls us box) in
     let seam : get_or (map M (first_rows p r)) (length (range_with_len n (m + n))) [] ≡ M o =
-    ap (λ w. get_or w (length (range_with_len n (m + n))) []) (map_append M (A1 ++ A2) (o ∷ []))
-    ∙ ap (λ k. get_or (map M (A1 ++ A2) ++ (M o ∷ [])) k []) (lr ∙ sym lA ∙ sym (length_map M (A1 ++ A2)))
+    ap (λ w. get_or w (length (range_with_len n (m + n))) []) (map-append M (A1 ++ A2) (o ∷ []))
+    ∙ ap (λ k. get_or (map M (A1 ++ A2) ++ (M o ∷ [])) k []) (lr ∙ sym lA ∙ sym (length-map (A1 ++ A2) M))
     ∙ get_or-append_seam (map M (A1 ++ A2)) (M o) [] [] in
     record {
-      solves = λ x h. begun_solves p r x box h;
+      solves = λ x h. first_solves p r x box h;
+      back = λ val z w. w;
       once = λ v. range_once n (m + n) v;
       outside = times_after (n + m + n) 0 n (low n m);
       outside_basic = times_after (n + m + n) n (m + n) (high n m);
       signs = subst (λ w. AreNotAbove (coefficients_of w)) (sym seam) (costs_signs cs);
-      count = length_map M (first_rows p r) ∙ length-append (A1 ++ A2) (o ∷ []) ∙ ap (λ k. k + 1) (lA ∙ sym lr);
-      wide = λ k h. long_get n (first_rows p r) k (long_append n (A1 ++ A2) (o ∷ []) (long_append n A1 A2 (slacks_long p.rows.items cs (corner cs ls us)) (bounds_long 0 cs ls us)) (ap suc (length_map (λ c. c *ℤ direction c) cs), tt)) (subst (λ l. k < l) (length_map M (first_rows p r)) h) ∙ ap suc (sym (length_range 0 n));
+      count = length-map (first_rows p r) M ∙ length-append (A1 ++ A2) (o ∷ []) ∙ ap (λ k. k + 1) (lA ∙ sym lr);
+      wide = λ k h. long_get n (first_rows p r) k (long_append n (A1 ++ A2) (o ∷ []) (long_append n A1 A2 (slacks_long p.rows.items cs (corner cs ls us)) (bounds_long 0 cs ls us)) (ap suc (length-map cs (λ c. c *ℤ direction c)), tt)) (subst (λ l. k < l) (length-map (first_rows p r) M) h) ∙ ap suc (sym (length-range_with_len 0 n));
     }
   where
     low : (n m : ℕ) → 0 + n ≤ n + m + n

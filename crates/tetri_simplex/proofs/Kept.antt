@@ -1,5 +1,5 @@
 -- What each table of a run keeps.
-use Rattle.std.proofs.Common.{◌≡◌, ℕ, ◌+◌, ◌<◌, ◌≤◌, refl, sym, ap, ◌∙◌, subst, arith, List, [], ◌∷◌, length, get_or, set, map, Some, None, Result, Ok, Bool, true, false, cond, eqb, ⊎_elim}
+use Rattle.std.proofs.Common.{◌≡◌, ℕ, ◌+◌, ◌<◌, ◌≤◌, refl, sym, ap, ◌∙◌, subst, arith, List, [], ◌∷◌, length, get_or, set, Some, None, Ok, Bool, true, false, cond, eqb, ⊎_elim}
 use Prim.Native.Nat.{zero, suc}
 use Rattle.std.proofs.Math.ListN.{length-set}
 use Rattle.std.proofs.lemmas.Bool.{eq-eqb}
@@ -9,9 +9,10 @@ use Rattle.tetri_algebra.specs.RationalReciprocal.{recip_ℚ}
 use Rattle.tetri_algebra.specs.RationalRing.{ℚ_ring, zero_ℚ, neg_ℚ, ◌*ℚ◌}
 use Rattle.tetri_ip.specs.Points.{Bounds, objective}
 use Rattle.tetri_ip.specs.declared.programs.Program.{Program}
-use Rattle.tetri_num.specs.declared.places.Place.{Place}
 use Rattle.tetri_simplex.proofs.Dots.{plus_scaled, negated}
 use Rattle.tetri_simplex.proofs.PivotKeeps.{then_ok_pair}
+use Rattle.tetri_simplex.proofs.EachPlace.{each_get, each_length}
+use Rattle.tetri_simplex.proofs.PivotBack.{pivot_back}
 use Rattle.tetri_simplex.proofs.LeastRatio.{IsLeast, entering_is, ratio_at, signs_kept}
 use Rattle.tetri_simplex.proofs.PivotKeeps.{Solves, pivot_keeps, solved_is, replaced_is, other, above_within}
 use Rattle.tetri_simplex.proofs.Placed.{IsPlaced}
@@ -20,9 +21,10 @@ use Rattle.tetri_simplex.proofs.Signs.{NotBelow, AtMost, zero_not_below}
 use Rattle.tetri_algebra.specs.RingSolver.{ring, nil, minus}
 use Rattle.tetri_simplex.proofs.Sound.{IsSound, val_at}
 use Rattle.tetri_simplex.specs.Choices.{entering}
+use Rattle.tetri_simplex.specs.Start.{first_table}
 use Rattle.tetri_simplex.specs.Pivots.{solved_row, replaced_row, pivoted, pivoted_rows}
-use Rattle.tetri_simplex.specs.Steps.{each}
 use Rattle.tetri_simplex.specs.Tables.{Table, coefficients_of, objective_of, is_positive}
+use Rattle.std.proofs.lemmas.List.{length-map}
 
 -- ---- how often a variable stands in a list
 abbrev pub one : ℕ → ℕ → ℕ
@@ -83,40 +85,6 @@ one_times v (x ∷ vs) (suc k) h = later (one x v) (one (get_or vs k 0) v) (time
     later : (a b n : ℕ) → b ≤ n → b ≤ a + n
     later a b n e = omega arith
 
--- ---- each in turn, by place
-pub each_get : {A B : Type 0} → (f : ℕ → A → Result B Place) (k : ℕ) (xs : List A) (ys : List B) (q : ℕ) (d : A) (e : B) → each f k xs ≡ Ok ys → q < length xs → f (k + q) (get_or xs q d) ≡ Ok (get_or ys q e)
-each_get {B = B} f k [] ys q d e h l = absurd (omega arith)
-each_get {B = B} f k (x ∷ xs) ys q d e h l =
-    let a = then_ok_pair (f k x) _ ys h in
-    let b = then_ok_pair (each f (k + 1) xs) _ ys a.1.1 in
-    let s : (a.0 ∷ b.0) ≡ ys = cc in
-    ap_list (a.0 ∷ b.0) s (by_place a.0 b.0 q l a.1.0 (λ p m. each_get f (k + 1) xs b.0 p d e b.1.0 m))
-  where
-    at_zero : k + 0 ≡ k
-    at_zero = omega arith
-
-    at_suc : (p : ℕ) → k + suc p ≡ (k + 1) + p
-    at_suc p = omega arith
-
-    ap_list : (zs : List B) → zs ≡ ys → f (k + q) (get_or (x ∷ xs) q d) ≡ Ok (get_or zs q e) → f (k + q) (get_or (x ∷ xs) q d) ≡ Ok (get_or ys q e)
-    ap_list zs s g = g ∙ ap (λ zs. Ok (get_or zs q e)) s
-
-    by_place : (y : B) (zs : List B) (q : ℕ) → q < length (x ∷ xs) → f k x ≡ Ok y → ((p : ℕ) → p < length xs → f ((k + 1) + p) (get_or xs p d) ≡ Ok (get_or zs p e)) → f (k + q) (get_or (x ∷ xs) q d) ≡ Ok (get_or (y ∷ zs) q e)
-    by_place y zs zero l g ih = ap (λ n. f n x) at_zero ∙ g
-    by_place y zs (suc p) l g ih = ap (λ n. f n (get_or xs p d)) (at_suc p) ∙ ih p (omega arith)
-
-each_length : {A B : Type 0} → (f : ℕ → A → Result B Place) (k : ℕ) (xs : List A) (ys : List B) → each f k xs ≡ Ok ys → length ys ≡ length xs
-each_length f k [] ys e = let s : [] ≡ ys = cc in ap length (sym s)
-each_length f k (x ∷ xs) ys e =
-    let a = then_ok_pair (f k x) _ ys e in
-    let b = then_ok_pair (each f (k + 1) xs) _ ys a.1.1 in
-    let s : (a.0 ∷ b.0) ≡ ys = cc in
-    ap length (sym s) ∙ ap suc (each_length f (k + 1) xs b.0 b.1.0)
-
-length_map : {A B : Type 0} → (f : A → B) (xs : List A) → length (map f xs) ≡ length xs
-length_map f [] = refl
-length_map f (x ∷ xs) = ap suc (length_map f xs)
-
 length-plus_scaled : (f : ℚ) (u v : List ℚ) → length u ≡ length v → length (plus_scaled ℚ_ring f u v) ≡ length u
 length-plus_scaled f [] [] h = refl
 length-plus_scaled f [] (b ∷ v) h = absurd (omega arith)
@@ -143,6 +111,7 @@ place_sign (x ∷ xs) h z (suc k) = place_sign xs h.1 z k
 -- ---- what is kept
 pub record IsKept (p : Program) (r : Bounds) (t : Table) : Type 0 where
   pub solves : (x : List ℤ) → IsPlaced p.costs.items r.lower r.upper x → Solves (val_at p r x) (whole_ℚ (objective p x)) t
+  pub back : (val : ℕ → ℚ) (z : ℚ) → Solves val z t → Solves val z (first_table p r)
   pub once : (v : ℕ) → times v t.nonbasic + times v t.basic ≤ 1
   pub outside : times (length p.costs.items + length p.rows.items + length p.costs.items) t.nonbasic ≡ 0
   pub outside_basic : times (length p.costs.items + length p.rows.items + length p.costs.items) t.basic ≡ 0
@@ -189,7 +158,7 @@ turn_kept p r t u i b k hi en pv =
     let fe = solved_is n i j row fresh a.1.0 in
     let u0 : Table = record { nonbasic = set t.nonbasic j (get_or t.basic i 0); basic = set t.basic i (get_or t.nonbasic j 0); rows = rows } in
     let s : u0 ≡ u = cc in
-    let lf : length fresh ≡ suc n = ap length fe ∙ length_map (negated ℚ_ring (recip_ℚ (get_or row (suc j) zero_ℚ))) (set row (suc j) (whole_ℚ (negsuc 0))) ∙ length-set row (suc j) (whole_ℚ (negsuc 0)) ∙ lr in
+    let lf : length fresh ≡ suc n = ap length fe ∙ length-map (set row (suc j) (whole_ℚ (negsuc 0))) (negated ℚ_ring (recip_ℚ (get_or row (suc j) zero_ℚ))) ∙ length-set row (suc j) (whole_ℚ (negsuc 0)) ∙ lr in
     let g : (q : ℕ) → q < length t.rows → cond (eqb q i) (Ok fresh) (replaced_row n q j fresh (get_or t.rows q [])) ≡ Ok (get_or rows q []) =
     λ q l. ap (λ z. cond (eqb z i) (Ok fresh) (replaced_row n z j fresh (get_or t.rows q []))) (zero_plus q) ∙ each_get (λ z r. cond (eqb z i) (Ok fresh) (replaced_row n z j fresh r)) 0 t.rows rows q [] [] a.1.1 l in
     let lrows : length rows ≡ length t.rows = each_length _ 0 t.rows rows a.1.1 in
@@ -206,6 +175,7 @@ turn_kept p r t u i b k hi en pv =
     let row' = get_or rows m [] in
     let k0 : IsKept p r u0 = record {
       solves = λ x h. subst (λ w. Solves (val_at p r x) (whole_ℚ (objective p x)) w) (sym s) (pivot_keeps t u i j (val_at p r x) (whole_ℚ (objective p x)) pv hi hj ab (k.solves x h));
+      back = λ val z w. k.back val z (pivot_back t u i j val z pv hi k.count hj ab (subst (Solves val z) s w));
       once = λ v. still (times v u0.nonbasic) (times v u0.basic) (times v t.nonbasic) (times v t.basic) (one nj v) (one bi v) (times_set v bi t.nonbasic j hj) (times_set v nj t.basic i hi) (k.once v);
       outside = gone (times own u0.nonbasic) (times own t.nonbasic) (times own t.basic) (one nj own) (one bi own) (times_set own bi t.nonbasic j hj) k.outside k.outside_basic (one_times own t.basic i hi);
       outside_basic = gone (times own u0.basic) (times own t.basic) (times own t.nonbasic) (one bi own) (one nj own) (times_set own nj t.basic i hi) k.outside_basic k.outside (one_times own t.nonbasic j hj);

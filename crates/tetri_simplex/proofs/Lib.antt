@@ -21,8 +21,14 @@ pub mod Corners
 pub mod WholeWeights
 pub mod FirstValues
 pub mod Sound
+pub mod EachPlace
+pub mod PivotBack
 pub mod Kept
 pub mod FirstKept
 pub mod WeightSigns
+pub mod BasicValues
+pub mod RelaxedRows
+pub mod RelaxedDuality
+pub mod BestPoint
 pub mod RunHolds
 pub mod EndFacts

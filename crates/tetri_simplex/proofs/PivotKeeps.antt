@@ -17,6 +17,7 @@ use Rattle.tetri_simplex.proofs.Dots.{plus_scaled, negated, dot-solved, dot-repl
 use Rattle.tetri_simplex.specs.Pivots.{solved_row, replaced_row, pivoted, pivoted_rows, column_of}
 use Rattle.tetri_simplex.specs.Steps.{or_place, then_ok, each, each_pair}
 use Rattle.tetri_simplex.specs.Tables.{Table, is_positive}
+use Rattle.std.proofs.lemmas.List.{length-map}
 
 -- ---- what an Ok says
 pub then_ok_pair : {A B : Type 0} → (o : Result A Place) (f : A → Result B Place) (y : B) → then_ok o f ≡ Ok y → (x : A) × ((o ≡ Ok x) × (f x ≡ Ok y))
@@ -152,10 +153,6 @@ rows_values n i j fresh v x y p q k (row ∷ rows) out e =
     ∙ ap (λ z. z ∷ map (λ row. dot ℚ_ring row (set v (suc j) x)) b.0) h
     ∙ ap (λ zs. cond (eqb k i) y (dot ℚ_ring row v) ∷ zs) g
 
-length_map : {A B : Type 0} → (f : A → B) (xs : List A) → length (map f xs) ≡ length xs
-length_map f [] = refl
-length_map f (x ∷ xs) = ap suc (length_map f xs)
-
 -- ---- the table
 -- an assignment of a value to each variable, and of one to the objective, solves each row
 abbrev pub values_at : (ℕ → ℚ) → Table → List ℚ
@@ -186,21 +183,21 @@ pivot_keeps t u i j val z e hi hj ab sol =
     let y = get_or v (suc j) zero_ℚ in
     let vb = val (get_or t.basic i 0) in
     let vn = val (get_or t.nonbasic j 0) in
-    let lv : suc j < length v = omega (arith, length_map val t.nonbasic) in
+    let lv : suc j < length v = omega (arith, length-map t.nonbasic val) in
     let h1 : dot ℚ_ring fresh (set v (suc j) x) ≡ y =
     ap (λ w. dot ℚ_ring w (set v (suc j) x)) (solved_is n i j row fresh a.1.0)
     ∙ dot-solved ℚ_ring row v (suc j) (recip_ℚ (get_or row (suc j) zero_ℚ)) (above_within row (suc j) ab) lv (recip_mul _ ab) in
     let h2 = rows_values n i j fresh v x y h1 refl 0 t.rows rows a.1.1 in
     let xe : x ≡ vb =
     sym (get_or-map (λ r. dot ℚ_ring r v) t.rows i []) ∙ ap (λ w. get_or w i zero_ℚ) sol
-    ∙ get_or-append (map val t.basic) (z ∷ []) zero_ℚ i (omega (arith, length_map val t.basic))
+    ∙ get_or-append (map val t.basic) (z ∷ []) zero_ℚ i (omega (arith, length-map t.basic val))
     ∙ at_map val t.basic i hi in
     let ye : y ≡ vn = at_map val t.nonbasic j hj in
     let ve : set v (suc j) x ≡ one ∷ map val (set t.nonbasic j (get_or t.basic i 0)) =
     ap (λ w. one ∷ set (map val t.nonbasic) j w) xe ∙ ap (λ w. one ∷ w) (sym (map-set val t.nonbasic j (get_or t.basic i 0))) in
     let be : set (map val t.basic ++ (z ∷ [])) i y ≡ map val (set t.basic i (get_or t.nonbasic j 0)) ++ (z ∷ []) =
     ap (λ w. set (map val t.basic ++ (z ∷ [])) i w) ye
-    ∙ set-append_left (map val t.basic) (z ∷ []) i vn (omega (arith, length_map val t.basic))
+    ∙ set-append_left (map val t.basic) (z ∷ []) i vn (omega (arith, length-map t.basic val))
     ∙ ap (λ w. w ++ (z ∷ [])) (sym (map-set val t.basic i (get_or t.nonbasic j 0))) in
     let u0 : Table = record { nonbasic = set t.nonbasic j (get_or t.basic i 0); basic = set t.basic i (get_or t.nonbasic j 0); rows = rows } in
     let s : u0 ≡ u = cc in

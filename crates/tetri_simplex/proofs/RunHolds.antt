@@ -14,18 +14,25 @@ use Rattle.tetri_ip.specs.Weighed.{weighed}
 use Rattle.tetri_ip.specs.declared.programs.Program.{Program}
 use Rattle.tetri_ip.specs.declared.programs.Weight.{Weight}
 use Rattle.tetri_num.specs.declared.places.Place.{Place}
-use Rattle.tetri_simplex.proofs.FirstKept.{begun_kept}
+use Rattle.tetri_simplex.proofs.FirstKept.{first_kept}
 use Rattle.tetri_simplex.proofs.Kept.{IsKept, sound_from_kept, turn_kept}
 use Rattle.tetri_simplex.proofs.Placed.{IsBox}
 use Rattle.tetri_simplex.proofs.WeightSigns.{AreWeights, are_weights, weights_from_zero}
-use Rattle.tetri_simplex.proofs.Sound.{weights_not_below, none_above, cut_is_cut, empty_is_below}
+use lib.Signed.{le_z}
+use Rattle.tetri_algebra.specs.Rational.{whole_ℚ}
+use Rattle.tetri_algebra.specs.RationalRing.{◌*ℚ◌}
+use Rattle.tetri_algebra.specs.RationalOrder.{◌≤ℚ◌, ≤ℚ_antisymm, floor_ℚ}
+use Rattle.tetri_simplex.proofs.BestPoint.{at_most, point_is, basic_point_is}
+use Rattle.tetri_simplex.proofs.RelaxedDuality.{relaxed_duality}
+use Rattle.tetri_simplex.specs.Relaxation.{IsRelaxedPoint, objective_value}
+use Rattle.tetri_simplex.proofs.Sound.{cut_bounds, weights_not_below, none_above, cut_is_cut, empty_is_below}
 use Rattle.tetri_simplex.specs.Choices.{entering, has_positive, leaving, leaving_from, lesser_place}
 use Rattle.tetri_simplex.specs.Ends.{End, best, cut, empty, past, long, cut_end, best_end, empty_end, then_end, point_from, common_denominator, whole_weights, objective_weights, row_weights, when_weighed, weighted_end, is_cut}
 use Rattle.tetri_simplex.proofs.WholeWeights.{common_denominator_is}
 use Rattle.tetri_simplex.specs.Machine.{Turn, ends, leaves, run, turn, by_leaving, next, by_entering, at_step, machine}
 use Rattle.tetri_simplex.specs.Start.{first_table}
 use Rattle.tetri_simplex.specs.Steps.{then_ok}
-use Rattle.tetri_simplex.specs.Tables.{Table, coefficients_of, is_negative, objective_of}
+use Rattle.tetri_simplex.specs.Tables.{Table, coefficients_of, is_negative, objective_of, constant_of}
 
 -- ---- the leaving place
 pub record IsFound (k : ℕ) (bs : List ℕ) (rows : List (List ℚ)) (i : ℕ) : Type 0 where
@@ -67,7 +74,10 @@ leaving_is vs k (v ∷ bs) (row ∷ rows) b i e =
 
 -- ---- the ends
 -- what the weights of each end say
-pub record BestHolds (p : Program) (q : ℤ) (ws : List Weight) : Type 0 where
+pub record BestHolds (p : Program) (r : Bounds) (known : ℕ) (x : List ℚ) (q : ℤ) (ws : List Weight) : Type 0 where
+  pub relaxed : IsRelaxedPoint p r x
+  pub above : pos known <ℤ floor_ℚ (objective_value p x)
+  pub optimal : whole_ℚ (weighed p r q ws) ≡ ◌*ℚ◌ (whole_ℚ q) (objective_value p x)
   pub weights : AreWeights (length p.rows.items) ws
   pub multiplier : pos 0 <ℤ q
 
@@ -81,7 +91,7 @@ pub record EmptyHolds (p : Program) (r : Bounds) (ws : List Weight) : Type 0 whe
   pub negative : weighed p r (pos 0) ws <ℤ pos 0
 
 abbrev pub EndHolds : Program → Bounds → ℕ → End → Type 0
-EndHolds p r known (best x q ws) = BestHolds p q ws
+EndHolds p r known (best x q ws) = BestHolds p r known x q ws
 EndHolds p r known (cut q ws) = CutHolds p r known q ws
 EndHolds p r known (empty ws) = EmptyHolds p r ws
 EndHolds p r known (past e) = Unit {0}
@@ -125,11 +135,30 @@ cut_holds p r b t box k c =
     weighted_holds p r b (objective_weights p t) pos cut (λ q ys fe we.
     record { weights = objective_are_weights p r t q ys k we; multiplier = positive q ((common_denominator_is 0 1 q (objective_weights p t) fe).1.1 (omega arith)); below = cut_is_cut p r t b q ys box (sound_from_kept p r t k) c fe we })
 
-best_holds : (p : Program) (r : Bounds) (b : ℕ) (t : Table) → IsKept p r t → EndHolds p r b (best_end p r t)
-best_holds p r b t k =
+floor_above : (c : ℚ) (b : ℕ) → le_z (floor_ℚ c) (pos b) ≡ false → pos b <ℤ floor_ℚ c
+floor_above c b e = above (floor_ℚ c) e
+  where
+    above : (n : ℤ) → le_z n (pos b) ≡ false → pos b <ℤ n
+    above n e = grind (arith, ints)
+
+best_holds : (p : Program) (r : Bounds) (b : ℕ) (t : Table) → IsBox p.costs.items r.lower r.upper → IsKept p r t → is_cut t b ≡ false → leaving t ≡ None → EndHolds p r b (best_end p r t)
+best_holds p r b t box k c l =
     ended p r b (point_from t.basic t.rows 0 p.costs.items r.lower r.upper) (λ point. weighted_end p r (objective_weights p t) pos (best point)) (λ point pe.
     weighted_holds p r b (objective_weights p t) pos (best point) (λ q ys fe we.
-    record { weights = objective_are_weights p r t q ys k we; multiplier = positive q ((common_denominator_is 0 1 q (objective_weights p t) fe).1.1 (omega arith)) }))
+    let x = point_is t.basic t.rows 0 p.costs.items r.lower r.upper point box pe in
+    let basic = basic_point_is p r t box k l in
+    let relaxed = subst (IsRelaxedPoint p r) (sym x) basic.relaxed in
+    let worth = ap (objective_value p) x ∙ basic.worth in
+    let ws = objective_are_weights p r t q ys k we in
+    record {
+      relaxed = relaxed;
+      above = subst (λ z. pos b <ℤ floor_ℚ z) (sym worth) (floor_above (constant_of (objective_of t)) b c);
+      optimal = ≤ℚ_antisymm (whole_ℚ (weighed p r (pos q) ys)) (◌*ℚ◌ (whole_ℚ (pos q)) (objective_value p point))
+          (subst (λ z. whole_ℚ (weighed p r (pos q) ys) ≤ℚ ◌*ℚ◌ (whole_ℚ (pos q)) z) (sym worth) (at_most _ _ (cut_bounds p r t b q ys box (sound_from_kept p r t k) fe we)))
+          (relaxed_duality p r (pos q) ys point ws relaxed);
+      weights = ws;
+      multiplier = positive q ((common_denominator_is 0 1 q (objective_weights p t) fe).1.1 (omega arith));
+    }))
 
 empty_holds : (p : Program) (r : Bounds) (b : ℕ) (t : Table) (i : ℕ) → IsBox p.costs.items r.lower r.upper → IsKept p r t → leaving t ≡ Some i → has_positive (coefficients_of (get_or t.rows i [])) ≡ false → EndHolds p r b (empty_end p r t i)
 unfolding leaving
@@ -166,13 +195,13 @@ turn_holds p r b t box k = by_cut (is_cut t b) refl
         let f = ⊎_elim (λ e. absurd (none_some i e)) (λ f. f) (leaving_is t.basic 0 t.basic t.rows None i l) in
         subst (λ n. n < length t.basic) (sym (zero_plus f.place i f.at)) f.within
 
-    by_place : (o : Option ℕ) → leaving t ≡ o → TurnHolds p r b t (by_leaving p r t o)
-    by_place None l = best_holds p r b t k
-    by_place (Some i) l = by_above i (has_positive (coefficients_of (get_or t.rows i []))) refl l
+    by_place : (o : Option ℕ) → is_cut t b ≡ false → leaving t ≡ o → TurnHolds p r b t (by_leaving p r t o)
+    by_place None h l = best_holds p r b t box k h l
+    by_place (Some i) h l = by_above i (has_positive (coefficients_of (get_or t.rows i []))) refl l
 
     by_cut : (c : Bool) → is_cut t b ≡ c → TurnHolds p r b t (cond c (ends (cut_end p r t)) (by_leaving p r t (leaving t)))
     by_cut true h = cut_holds p r b t box k h
-    by_cut false h = by_place (leaving t) refl
+    by_cut false h = by_place (leaving t) h refl
 
 step_holds : (p : Program) (r : Bounds) (b s : ℕ) (e : End) → EndHolds p r b e → EndHolds p r b (at_step s e)
 step_holds p r b s (best x q ws) h = h
@@ -209,4 +238,4 @@ run_holds p r b (suc n) s t box k = by_turn (λ u q. run_holds p r b n (s + 1) u
 
 pub machine_holds : (p : Program) (r : Bounds) (b : ℕ) → IsBox p.costs.items r.lower r.upper → EndHolds p r b (machine p r b)
 unfolding machine
-machine_holds p r b box = run_holds p r b 10000 0 (first_table p r) box (begun_kept p r box)
+machine_holds p r b box = run_holds p r b 10000 0 (first_table p r) box (first_kept p r box)

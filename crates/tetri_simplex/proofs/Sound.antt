@@ -33,6 +33,7 @@ use Rattle.tetri_simplex.proofs.WholeWeights.{AreNotBelow, slack_of, sum_at, com
 use Rattle.tetri_simplex.specs.Choices.{has_positive}
 use Rattle.tetri_simplex.specs.Ends.{is_cut, coefficient_of, weights_of, common_denominator, whole_weights}
 use Rattle.tetri_simplex.specs.Tables.{Table, is_positive, is_negative, coefficients_of, objective_of}
+use Rattle.std.proofs.lemmas.List.{length-map}
 
 -- ---- the values at a point
 abbrev pub slacks_of : List Row → List ℤ → List ℤ
@@ -104,15 +105,11 @@ pub record IsSound (p : Program) (r : Bounds) (t : Table) : Type 0 where
   pub own : IsAbsent (length p.costs.items + length p.rows.items + length p.costs.items) t.nonbasic
   pub signs : AreNotAbove (coefficients_of (objective_of t))
 
-length_map : {A B : Type 0} → (f : A → B) (xs : List A) → length (map f xs) ≡ length xs
-length_map f [] = refl
-length_map f (x ∷ xs) = ap suc (length_map f xs)
-
 last_value : (t : Table) (val : ℕ → ℚ) (z : ℚ) → Solves val z t → dot ℚ_ring (objective_of t) (values_at val t) ≡ z
 last_value t val z sol =
     sym (get_or-map (λ r. dot ℚ_ring r (values_at val t)) t.rows (length t.basic) [])
     ∙ ap (λ w. get_or w (length t.basic) zero_ℚ) sol
-    ∙ ap (λ k. get_or (map val t.basic ++ (z ∷ [])) k zero_ℚ) (sym (length_map val t.basic)) ∙ at_seam (map val t.basic)
+    ∙ ap (λ k. get_or (map val t.basic ++ (z ∷ [])) k zero_ℚ) (sym (length-map t.basic val)) ∙ at_seam (map val t.basic)
   where
     at_seam : (ws : List ℚ) → get_or (ws ++ (z ∷ [])) (length ws) zero_ℚ ≡ z
     at_seam [] = refl
@@ -121,7 +118,7 @@ last_value t val z sol =
 pub basic_value : (t : Table) (val : ℕ → ℚ) (z : ℚ) (i : ℕ) → i < length t.basic → Solves val z t → dot ℚ_ring (get_or t.rows i []) (values_at val t) ≡ val (get_or t.basic i 0)
 basic_value t val z i h sol =
     sym (get_or-map (λ r. dot ℚ_ring r (values_at val t)) t.rows i [])
-    ∙ ap (λ w. get_or w i zero_ℚ) sol ∙ get_or-append (map val t.basic) (z ∷ []) zero_ℚ i (subst (λ l. i < l) (sym (length_map val t.basic)) h) ∙ at_map t.basic i h
+    ∙ ap (λ w. get_or w i zero_ℚ) sol ∙ get_or-append (map val t.basic) (z ∷ []) zero_ℚ i (subst (λ l. i < l) (sym (length-map t.basic val)) h) ∙ at_map t.basic i h
   where
     at_map : (xs : List ℕ) (k : ℕ) → k < length xs → get_or (map val xs) k zero_ℚ ≡ val (get_or xs k 0)
     at_map [] k h = absurd (omega arith)
@@ -177,7 +174,7 @@ value_above p r x b k =
     let ys = ys_of p.costs.items r.lower r.upper x in
     let ss = map whole_ℚ (slacks_of p.rows.items x) in
     let bs = map whole_ℚ (bounds_from ys 0 r.lower r.upper) in
-    let ln : length (map whole_ℚ ys) ≡ length p.costs.items = length_map whole_ℚ ys ∙ ys_length p.costs.items r.lower r.upper x b in
+    let ln : length (map whole_ℚ ys) ≡ length p.costs.items = length-map ys whole_ℚ ∙ ys_length p.costs.items r.lower r.upper x b in
     let ya = wholes_not_below ys (ys_above p.costs.items r.lower r.upper x b) in
     let ba = wholes_not_below (bounds_from ys 0 r.lower r.upper) (bounds_above ys 0 p.costs.items r.lower r.upper x b (λ i. ap (λ k. number_at ys k) (zero_plus i))) in
     subst (λ m. NotBelow (◌+ℚ◌ (val_at p r x k) (neg_ℚ (slack_at m ss k)))) ln (above_slack (map whole_ℚ ys) ss bs k ya ba)
@@ -298,7 +295,7 @@ cut_bounds p r t b q ys box s fe we =
     let ws = whole_weights_sum p.rows.items x 0 q W ys l.1.0 (weights_not_below t.nonbasic (coefficients_of row) own n p.rows.items s.signs) we in
     let e : dot ℚ_ring row (values_at (val_at p r x) t) ≡ z = last_value t (val_at p r x) z (s.solves x at.1.0) in
     let h = row_weights_bound p r t x row z own s at.1.0 s.own s.signs e in
-    let g : slack_at n ss own ≡ zero_ℚ = slack_after n ss own (reach n (length ss) (length p.rows.items) (length_map whole_ℚ (slacks_of p.rows.items x) ∙ length_map (λ q. q.right -ℤ left_side q.terms.items x) p.rows.items)) in
+    let g : slack_at n ss own ≡ zero_ℚ = slack_after n ss own (reach n (length ss) (length p.rows.items) (length-map (slacks_of p.rows.items x) whole_ℚ ∙ length-map p.rows.items (λ q. q.right -ℤ left_side q.terms.items x))) in
     let m = mul_not_below Q (◌+ℚ◌ c (neg_ℚ (◌+ℚ◌ S (◌+ℚ◌ z (neg_ℚ (slack_at n ss own)))))) (whole_not_below (pos q) (omega (arith, ints))) h in
     subst NotBelow
     (ap (λ y. ◌*ℚ◌ Q (◌+ℚ◌ c (neg_ℚ (◌+ℚ◌ S (◌+ℚ◌ z (neg_ℚ y)))))) g

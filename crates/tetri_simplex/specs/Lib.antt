@@ -12,3 +12,4 @@ pub mod Candidates
 pub mod Full
 pub mod Turns
 pub mod Certificates
+pub mod Relaxation

@@ -14,3 +14,6 @@ mod trace;
 pub use fault::{TraceFault, TraceWhy};
 pub use read::read_trace;
 pub use trace::{Event, Happening, Header, Job, Trace, Work};
+
+#[cfg(test)]
+mod tests;
