@@ -11,7 +11,7 @@ use Rattle.tetri_ip.specs.Points.{Bounds}
 use Rattle.tetri_ip.specs.Weighed.{AreNotNegative, AreOfRows, weighed}
 use Rattle.tetri_simplex.specs.Relaxation.{IsRelaxedPoint, objective_value}
 
--- the point is an optimum of the relaxation over the region, above the best objective known
+-- the point is in the relaxation, above the best objective known, and the weights bound the region by its objective
 pub record CertifiesBest (p : Program) (b : Bounds) (known : ℕ) (point : List ℚ) (q : ℤ) (ws : List Weight) : Type 0 where
   pub relaxed : IsRelaxedPoint p b point
   pub above : pos known <ℤ floor_ℚ (objective_value p point)

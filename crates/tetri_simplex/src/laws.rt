@@ -15,9 +15,10 @@ use tetri_ip::{Program, Region};
 /// What the ends of a run certify. The weights of each end are of the program's rows and not
 /// below 0, and the multiplier of the first two is above 0. With the best point, the point is in
 /// the region and meets each row, the floor of its objective is above the best objective known,
-/// and the weighed number is the multiplier times its objective, so that it is an optimum by weak
-/// duality. With a cut, the floor of the weighed number by the multiplier is at most the best
-/// objective known. With an empty region, the number weighed with the multiplier 0 is below 0.
+/// and the weighed number is the multiplier times its objective, so that no whole point of the
+/// region is worth more. With a cut, the floor of the weighed number by the multiplier is at most
+/// the best objective known. With an empty region, the number weighed with the multiplier 0 is
+/// below 0.
 pub fn ends_certify(p: &Program, r: &Region, best: u64)
     requires in_box { IsInBox p.now (bounds_of r.now) }
     ensures best { (point : List ℚ) → (q : ℤ) → (ws : List Weight) →

@@ -13,8 +13,8 @@ mod totals;
 
 pub use free_nodes::free;
 pub use instance::{Instance, Offer};
-pub use leaves::leaf_of;
 pub use laws::tops_bound_every_lawful_total;
+pub use leaves::leaf_of;
 pub use rules::{Rule, Unlawful, lawful};
 pub use runs::run_len;
 pub use totals::{tops, total};
