@@ -1,5 +1,5 @@
 -- Input of the form that is built so far: one cycle, to which each job brings the text of an expression.
-use Rattle.std.specs.Prelude.{◌≡◌, ◌<◌, ◌≤◌, ℕ, pos, true, All, length, map}
+use Rattle.std.specs.Prelude.{◌≡◌, ◌<◌, ◌≤◌, ℕ, pos, true, All, length}
 use Rattle.std.specs.List.{range_with_len}
 use Rattle.std.specs.Option.{ForSome}
 use Rattle.tetri_strl.specs.Aligned.{EachLeaf}
@@ -7,7 +7,7 @@ use Rattle.tetri_strl.specs.Tree.{leaves, numbers}
 use Rattle.tetri_strl.specs.WellMade.{IsWellMade}
 use Rattle.tetri_cluster.specs.Names.{is_name, differ}
 use Rattle.tetri_cluster.specs.Cluster.{names_of}
-use Rattle.tetri_trace.specs.Draft.{Arrival, HeadData, Part, names_of_arrivals, part}
+use Rattle.tetri_trace.specs.Draft.{HeadData, Part, names_of_arrivals, part}
 use Rattle.tetri_trace.specs.declared.draft.Draft.{Draft}
 use Rattle.tetri_trace.specs.Scenario.{Submission, expr_of}
 use Rattle.tetri_trace.specs.Sound.{IsSoundHeader}

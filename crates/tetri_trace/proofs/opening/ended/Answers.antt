@@ -1,4 +1,4 @@
-use Rattle.std.proofs.Common.{◌≡◌, ◌≤◌, length, map, sym, ap, ◌∙◌, subst, arith}
+use Rattle.std.proofs.Common.{◌≡◌, length, map, sym, ap, ◌∙◌, subst, arith}
 use Rattle.std.specs.Prelude.{option_map}
 use Rattle.std.specs.List.{range_with_len}
 use Rattle.std.proofs.lemmas.List.{length-map}
@@ -6,7 +6,6 @@ use Rattle.tetri_trace.specs.Draft.{arrival, head}
 use Rattle.tetri_trace.specs.Lines.{arrival_of}
 use Rattle.tetri_trace.specs.Scenario.{submission}
 use Rattle.tetri_trace.specs.Sound.{IsSound}
-use Rattle.tetri_trace.specs.Draft.{names_of_arrivals}
 use Rattle.tetri_cluster.specs.Names.{differ}
 use Rattle.tetri_trace.proofs.Openings.{as_many_jobs, opening-same, opening_is_sound}
 use Rattle.tetri_trace.proofs.opening.ended.Goals as goal
