@@ -7,7 +7,7 @@ use Rattle.tetri_strl.specs.Aligned.{EachLeaf, EachLeafOf}
 use Rattle.tetri_strl.specs.Tree.{greatest, least, added, Tree, one, join, scale, barrier, Trees, none, more}
 use Rattle.tetri_strl.specs.WellMade.{IsGoodLeaf}
 use Rattle.tetri_space.specs.Space.{Space, set_of}
-use Rattle.tetri_advice.specs.Fit.{Placement, all_fit, best_fit, better, enough, fit_beside, fit_of_leaf, fit_worth, fits, is_available, is_free_from, is_held, is_live, is_open, lowest}
+use Rattle.tetri_advice.specs.Fit.{Placement, all_fit, best_fit, better, enough, fit_beside, fit_of_leaf, fit_worth, fits, is_available, is_free_from, is_held, is_live, lowest}
 
 filter-same : (p q : ℕ → Bool) (xs : List ℕ) → ((n : ℕ) → p n ≡ q n) → filter p xs ≡ filter q xs
 filter-same p q [] same = refl

@@ -9,8 +9,8 @@ use Rattle.std.proofs.lemmas.List.Elements.{All-head, All-tail}
 use Rattle.std.proofs.lemmas.List.Folds.{list_any-append}
 use Rattle.tetri_strl.specs.declared.expr.Leaf.{Leaf}
 use Rattle.tetri_space.specs.Space.{Space}
-use Rattle.tetri_advice.specs.Fit.{Placement, is_held, is_held_by, is_live, overlap}
-use Rattle.tetri_greedy.specs.Held.{AreHoldable, IsHoldable, TellsOf, all_marked, is_marked, marked, slots_of}
+use Rattle.tetri_advice.specs.Fit.{Placement, is_held, is_held_by, is_live}
+use Rattle.tetri_greedy.specs.Held.{AreHoldable, IsHoldable, TellsOf, all_marked, marked, slots_of}
 use Rattle.tetri_greedy.proofs.Overlaps.{IsInWindow, and_left, and_right, meets, meets_or, meets_overlap, slots_bound}
 
 pub length-marked : (slots : ℕ) (ns masks : List ℕ) → length (marked masks slots ns) ≡ length masks

@@ -1,8 +1,8 @@
 -- Leaves and their grants, place by place.
-use Rattle.std.proofs.Common.{◌≡◌, ℕ, zero, suc, List, [], ◌∷◌, ◌++◌, length, take, drop, refl, ap, ◌∙◌, arith}
+use Rattle.std.proofs.Common.{◌≡◌, ℕ, zero, suc, List, [], ◌∷◌, ◌++◌, length, take, drop, refl, ap, ◌∙◌}
 use Rattle.tetri_strl.specs.declared.expr.Leaf.{Leaf}
 use Rattle.tetri_strl.specs.declared.grants.Grant.{Grant}
-use Rattle.tetri_advice.specs.Fit.{Placement, grant_of, grants_of}
+use Rattle.tetri_advice.specs.Fit.{grant_of, grants_of}
 use Rattle.tetri_greedy.specs.Fitted.{placement_of, placements_of, AreGrantsOf}
 
 pub placements-length : (job : ℕ) (ls : List Leaf) (gs : List Grant) → AreGrantsOf job ls gs → length (placements_of ls gs) ≡ length ls

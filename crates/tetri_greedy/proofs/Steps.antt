@@ -1,5 +1,5 @@
 -- One turn of the loops.
-use Rattle.std.proofs.Common.{◌≡◌, ℕ, zero, suc, ◌+◌, ◌-◌, ◌<◌, ◌≤◌, get_or, Bool, true, false, List, [], ◌∷◌, ◌++◌, length, take, drop, filter, refl, sym, ap, ◌∙◌, subst, arith, nat_le, nat_lt, append_assoc}
+use Rattle.std.proofs.Common.{◌≡◌, ℕ, zero, suc, ◌+◌, ◌-◌, ◌<◌, ◌≤◌, get_or, Bool, true, false, List, [], ◌∷◌, ◌++◌, length, take, drop, filter, refl, sym, ap, ◌∙◌, subst, arith, nat_lt, append_assoc}
 use Rattle.std.proofs.Math.Seq.{take-append_seam, drop-append_seam}
 use Rattle.std.specs.Prelude.{if◌then◌else◌}
 use Rattle.std.proofs.lemmas.List.{drop_more}
@@ -8,8 +8,8 @@ use Rattle.std.proofs.lemmas.Bool.Decides.{nat_tests}
 use Rattle.tetri_strl.specs.declared.expr.Leaf.{Leaf}
 use Rattle.tetri_strl.specs.Tree.{Tree, Trees, more, tree, trees}
 use Rattle.tetri_space.specs.Space.{Space}
-use Rattle.tetri_advice.specs.Fit.{Placement, all_fit, best_fit, better, fit_beside, fit_worth}
-use Rattle.tetri_greedy.specs.Fitted.{Fitted, grown}
+use Rattle.tetri_advice.specs.Fit.{Placement, all_fit, best_fit, fit_beside, fit_worth}
+use Rattle.tetri_greedy.specs.Fitted.{Fitted}
 
 module _ (p : ℕ → Bool) (got : List ℕ) (n : ℕ) (rest whole : List ℕ) where
   -- a number that passes is taken

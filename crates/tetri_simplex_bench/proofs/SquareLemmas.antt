@@ -1,6 +1,6 @@
 -- The programs of squares are fit.
-use Rattle.std.proofs.Common.{◌≡◌, ℕ, ◌+◌, ◌*◌, ◌^◌, ◌-◌, ◌<◌, ◌≤◌, All, List, [], ◌∷◌, length, get_or, replicate, sym, ap, ◌∙◌, subst, arith, inl, inr}
-use Prim.Native.Nat.{zero, suc}
+use Rattle.std.proofs.Common.{◌≡◌, ℕ, ◌+◌, ◌*◌, ◌<◌, ◌≤◌, All, List, [], ◌∷◌, length, get_or, replicate, sym, ap, ◌∙◌, subst, arith, inl, inr}
+use Prim.Native.Nat.{suc}
 use Rattle.std.specs.Prelude.{unsigned_abs, ◌≤ℤ◌, ◌-ℤ◌}
 use Rattle.std.proofs.Math.Nat.{mul-le-mul_right, mul-le-mul}
 use Rattle.std.proofs.lemmas.Bool.{cases_lt}
@@ -12,7 +12,7 @@ use lib.IntN.{ℤ, pos}
 use Rattle.tetri_ip.specs.declared.programs.Program.{Program}
 use Rattle.tetri_ip.specs.declared.programs.Row.{Row}
 use Rattle.tetri_ip.specs.declared.programs.Term.{Term}
-use Rattle.tetri_ip.specs.Points.{IsFit, IsFitRow, IsWithin, column_at, cost_reach, number_at, reach, right_of, size_at, term_at, terms_of}
+use Rattle.tetri_ip.specs.Points.{IsFit, IsFitRow, IsWithin, cost_reach, number_at, reach, right_of, size_at, terms_of}
 use Rattle.tetri_ip.proofs.Steps.{right_of_at, terms_of_at}
 use Rattle.tetri_simplex_bench.specs.Small.{AreSmall, IsSmallRow}
 

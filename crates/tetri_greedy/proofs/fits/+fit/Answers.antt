@@ -1,5 +1,5 @@
-use Rattle.std.proofs.Common.{◌≡◌, ◌∷◌, ◌++◌, ◌+◌, ◌∙◌, false, drop, take, length, ap, sym, subst}
-use Rattle.tetri_strl.specs.Tree.{more, tree, trees}
+use Rattle.std.proofs.Common.{◌≡◌, ◌+◌, ◌∙◌, drop, take, length, ap, sym, subst}
+use Rattle.tetri_strl.specs.Tree.{tree, trees}
 use Rattle.tetri_strl.specs.Aligned.{EachLeafOf}
 use Rattle.tetri_strl.specs.WellMade.{AreSound}
 use Rattle.tetri_space.specs.Sound.{HasKnownSet}

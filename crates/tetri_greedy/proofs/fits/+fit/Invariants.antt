@@ -1,4 +1,4 @@
-use Rattle.std.proofs.Common.{◌≡◌, ◌++◌, [], drop, take, length}
+use Rattle.std.proofs.Common.{◌≡◌, [], drop, take, length}
 use Rattle.tetri_advice.specs.Fit.{all_fit, best_fit, fits}
 use Rattle.tetri_space.specs.Sound.{HasKnownSet}
 use Rattle.tetri_space.specs.Space.{space}

@@ -1,4 +1,4 @@
-use Rattle.std.proofs.Common.{◌≡◌, ◌++◌, ◌∷◌, ◌+◌, ◌∙◌, true, false, drop, take, filter, get_or, ap, sym, subst, arith}
+use Rattle.std.proofs.Common.{◌≡◌, ◌++◌, ◌∷◌, ◌+◌, ◌∙◌, drop, take, filter, get_or, sym, subst}
 use Rattle.std.proofs.lemmas.List.{drop_more}
 use Rattle.tetri_advice.specs.Fit.{is_available, lowest}
 use Rattle.tetri_space.specs.Space.{space}

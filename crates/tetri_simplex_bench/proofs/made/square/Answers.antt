@@ -1,4 +1,4 @@
-use Rattle.std.proofs.Common.{◌*◌, ◌≤◌, arith}
+use Rattle.std.proofs.Common.{◌*◌}
 use Rattle.std.proofs.Math.Nat.{mul-le-mul}
 use Rattle.tetri_simplex_bench.proofs.SquareLemmas.{square_fit}
 use Rattle.tetri_simplex_bench.proofs.made.square.Goals as goal

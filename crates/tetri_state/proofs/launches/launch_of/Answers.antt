@@ -1,14 +1,12 @@
-use Rattle.std.proofs.Common.{◌≡◌, ◌<◌, ◌+◌, ◌++◌, ◌∙◌, drop, map, All, AllPairs, ap, subst, sym, arith}
-use Rattle.std.specs.List.{sum_by}
+use Rattle.std.proofs.Common.{◌<◌, ◌+◌, ◌∙◌, drop, map, All, AllPairs, subst, sym, arith}
 use Rattle.std.specs.List.Sorted.{IsNonDecreasingBy}
 use Rattle.std.proofs.lemmas.List.Sorted.{IsNonDecreasingBy-drop}
 use Rattle.tetri_strl.specs.declared.grants.Grant.{Grant}
 use Rattle.tetri_space.specs.Sound.{IsSoundBid}
 use Rattle.tetri_space.specs.Space.{Bid, bid, space}
-use Rattle.tetri_space.specs.Total.{bid_worth}
 use Rattle.tetri_space.proofs.BidLemmas.{bid_has}
 use Rattle.tetri_space.proofs.TotalLemmas.{total_limit}
-use Rattle.tetri_state.proofs.RunLemmas.{job_passed, job_taken, launched_le_total, launched_of, worth_passed, worth_taken}
+use Rattle.tetri_state.proofs.RunLemmas.{job_passed, job_taken, launched_le_total, worth_passed, worth_taken}
 use Rattle.tetri_state.proofs.launches.launch_of.Goals as goal
 use Rattle.tetri_state.proofs.launches.launch_of.Goals.{then-starts_now+in_ok-push, else-starts_now}
 

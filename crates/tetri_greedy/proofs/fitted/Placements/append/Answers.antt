@@ -1,5 +1,5 @@
-use Rattle.std.proofs.Common.{ap, sym, subst, ◌≡◌, ◌∙◌, ◌++◌}
-use Rattle.tetri_greedy.specs.Fitted.{Fitted, AreGrantsOf, placements_of}
+use Rattle.std.proofs.Common.{ap, sym, subst, ◌≡◌, ◌∙◌}
+use Rattle.tetri_greedy.specs.Fitted.{AreGrantsOf}
 use Rattle.tetri_greedy.proofs.Placing.{append_grants, placements-append}
 use Rattle.tetri_greedy.proofs.fitted.Placements.append.Goals as goal
 

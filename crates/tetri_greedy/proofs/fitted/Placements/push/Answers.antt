@@ -1,6 +1,4 @@
-use Rattle.std.proofs.Common.{◌∷◌, [], refl, ap, ◌∙◌}
-use Rattle.tetri_advice.specs.Fit.{grant_of}
-use Rattle.tetri_greedy.specs.Fitted.{Fitted}
+use Rattle.std.proofs.Common.{◌∷◌, [], refl, ap}
 use Rattle.tetri_greedy.proofs.Placing.{append_grants, placements-append}
 use Rattle.tetri_greedy.proofs.fitted.Placements.push.Goals as goal
 use Rattle.tetri_greedy.proofs.fitted.Placements.push.Goals.{in-Ok, in-Err}

@@ -1,5 +1,4 @@
-use Rattle.std.proofs.Common.{length, ap, arith, ◌∙◌}
-use Rattle.tetri_greedy.specs.Fitted.{Fitted}
+use Rattle.std.proofs.Common.{length, ap, arith}
 use Rattle.tetri_greedy.proofs.Placing.{as_many, drop_grants, placements-drop, placements-length, placements-take, take_grants}
 use Rattle.tetri_greedy.proofs.fitted.Placements.split_off.Goals as goal
 

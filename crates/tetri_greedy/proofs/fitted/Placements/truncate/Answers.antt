@@ -1,5 +1,4 @@
-use Rattle.std.proofs.Common.{take, ap, ◌∙◌}
-use Rattle.tetri_greedy.specs.Fitted.{Fitted}
+use Rattle.std.proofs.Common.{ap}
 use Rattle.tetri_greedy.proofs.Placing.{placements-take, take_grants}
 use Rattle.tetri_greedy.proofs.fitted.Placements.truncate.Goals as goal
 

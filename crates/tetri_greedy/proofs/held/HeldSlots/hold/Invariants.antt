@@ -1,4 +1,4 @@
-use Rattle.std.proofs.Common.{◌≡◌, ◌<◌, All, drop, length}
+use Rattle.std.proofs.Common.{◌≡◌, drop, length}
 use Rattle.tetri_greedy.specs.Held.{marked}
 use Rattle.tetri_greedy.proofs.held.HeldSlots.hold.Given as goal
 
