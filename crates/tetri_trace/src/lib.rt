@@ -11,7 +11,7 @@ mod opening;
 mod read;
 mod trace;
 
-pub use fault::{TraceFault, TraceWhy};
+pub use fault::{Field, TraceFault, TraceWhy};
 pub use read::read_trace;
 pub use trace::{Event, Happening, Header, Job, Trace, Work};
 
