@@ -1,3 +1,4 @@
+pub mod Built
 pub mod Opening
 pub mod FirstFit
 pub mod OneCycle

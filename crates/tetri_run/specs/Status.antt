@@ -6,7 +6,9 @@ use Rattle.tetri_report.specs.Block.{Block}
 use Rattle.tetri_report.specs.Text.{cycle_text, summary_text}
 use Rattle.tetri_trace.specs.Scenario.{Scenario}
 use Rattle.tetri_trace.specs.declared.fault.TraceWhy.{TraceWhy}
-use Rattle.tetri_trace.specs.declared.fault.TraceWhy.TheVariants.{BadStrl, NotBuilt}
+use Rattle.tetri_trace.specs.declared.fault.TraceWhy.TheVariants as whys
+use Rattle.tetri_trace.specs.declared.fault.Field.{Field}
+use Rattle.tetri_trace.specs.declared.fault.Field.TheVariants as fields
 use Rattle.tetri_parse.specs.declared.fault.Fault.{Fault}
 use Rattle.tetri_parse.specs.declared.fault.Fault.TheVariants.{Unexpected, Ended, Trailing, NumberRange, UnknownSet, Uneven, Mixed, TooDeep, TooManyLeaves, TooRich, TooManySets}
 use Rattle.tetri_run.specs.OneCycle.{IsFirstCycle, summary_of}
@@ -55,10 +57,50 @@ fault_words TooManyLeaves = codes "too-many-leaves"
 fault_words TooRich = codes "too-rich"
 fault_words TooManySets = codes "too-many-sets"
 
--- a cause in words
+-- a field as its key
+abbrev pub field_words : Field → List ℕ
+field_words fields.Nodes = codes "nodes"
+field_words fields.Window = codes "window"
+field_words fields.Budget = codes "budget"
+field_words fields.Until = codes "until"
+field_words fields.Unit = codes "unit"
+field_words fields.At = codes "at"
+field_words fields.Arrive = codes "arrive"
+field_words fields.Cancel = codes "cancel"
+field_words fields.Drain = codes "drain"
+field_words fields.Undrain = codes "undrain"
+field_words fields.Late = codes "late"
+field_words fields.Strl = codes "strl"
+field_words fields.Ask = codes "ask"
+field_words fields.K = codes "k"
+field_words fields.Set = codes "set"
+field_words fields.Dur = codes "dur"
+field_words fields.Value = codes "value"
+field_words fields.Deadline = codes "deadline"
+field_words fields.Prefer = codes "prefer"
+field_words fields.PreferSet = codes "prefer.set"
+field_words fields.PreferDur = codes "prefer.dur"
+field_words fields.Class = codes "class"
+field_words fields.Elastic = codes "elastic"
+
+-- a cause in words, with its values
 abbrev pub why_words : TraceWhy → List ℕ
-why_words NotBuilt = codes "not-built"
-why_words (BadStrl offset fault) = codes "bad-strl " ++ decimal offset ++ codes " " ++ fault_words fault
+why_words whys.LineTooLong = codes "line-too-long"
+why_words whys.TraceTooLong = codes "trace-too-long"
+why_words whys.NotJson = codes "not-json"
+why_words whys.NotObject = codes "not-object"
+why_words whys.NoHeader = codes "no-header"
+why_words (whys.MissingField field) = codes "missing-field " ++ field_words field
+why_words (whys.BadField field) = codes "bad-field " ++ field_words field
+why_words whys.UnknownEvent = codes "unknown-event"
+why_words whys.NotBuilt = codes "not-built"
+why_words whys.OutOfOrder = codes "out-of-order"
+why_words whys.PastEnd = codes "past-end"
+why_words whys.NameTaken = codes "name-taken"
+why_words whys.NoSuchJob = codes "no-such-job"
+why_words whys.NoSuchNode = codes "no-such-node"
+why_words (whys.BadStrl offset fault) = codes "bad-strl " ++ decimal offset ++ codes " " ++ fault_words fault
+why_words whys.TooManyJobs = codes "too-many-jobs"
 
 unfoldable pub bad_trace_words : ℕ → TraceWhy → List ℕ
 bad_trace_words line why = codes "bad trace: line " ++ decimal line ++ codes ": " ++ why_words why ++ codes "\n"

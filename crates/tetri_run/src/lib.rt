@@ -1,6 +1,7 @@
 //! The top call: plans a trace and writes the report.
 #![tactic(auto)]
 
+mod built;
 mod cycle;
 mod first_fit;
 mod opening;

@@ -4,14 +4,15 @@ ghost use Rattle.tetri_algebra.specs.Counts.{Rose};
 ghost use Rattle.tetri_run.specs.Status.{IsPromised, Writes, WritesNothingElse};
 ghost use Rattle.tetri_trace.specs.declared.fault.TraceWhy.{TraceWhy};
 ghost use Rattle.tetri_run.specs.Words.{trace_asked, texts};
-ghost use Rattle.tetri_trace.specs.Lines.{scenario_in};
+ghost use Rattle.tetri_run.specs.Built.{accepted_in};
 ghost use Rattle.tetri_trace.specs.Scenario.{Scenario};
 
+use crate::built::is_one_cycle;
 use crate::report::{Report, make_report};
 use crate::status::Status;
 use std::alloc::Global;
 use tetri_io::{Shelf, Sink, send_all};
-use tetri_trace::{TraceFault, read_trace};
+use tetri_trace::{TraceFault, TraceWhy, read_trace};
 
 // The trace's name, where the words are `plan` and one more.
 fn trace_asked(words: &[String]) -> Option<&str>
@@ -33,7 +34,7 @@ pub fn run<S: Shelf, K: Sink>(
     ensures usage { (result ≡ Status.Usage) ↔ (trace_asked (texts words.now) ≡ None) }
     ensures promise { (name content : List ℕ) → trace_asked (texts words.now) ≡ Some name
         → S.told shelf.old name ≡ Some content
-        → IsPromised result (scenario_in content) (K.written sink.old) (K.written sink.new) }
+        → IsPromised result (accepted_in content) (K.written sink.old) (K.written sink.new) }
     ensures silent { WritesNothingElse result (K.written sink.old) (K.written sink.new) }
 
     // A fault comes only where it was counted.
@@ -43,12 +44,12 @@ pub fn run<S: Shelf, K: Sink>(
 
     // A trace that is accepted is planned, and any other one is refused, but for want of memory.
     ensures complete { (name content : List ℕ) (t : Scenario) → trace_asked (texts words.now) ≡ Some name
-        → S.told shelf.old name ≡ Some content → scenario_in content ≡ Ok t
+        → S.told shelf.old name ≡ Some content → accepted_in content ≡ Ok t
         → ¬ Rose (S.faults shelf.old name) (S.faults shelf.new name)
         → ¬ Rose (K.faults sink.old) (K.faults sink.new)
         → (result ≡ Status.Done) ⊎ (result ≡ Status.NoMemory) }
     ensures refuses { (name content : List ℕ) (line : ℕ) (why : TraceWhy) → trace_asked (texts words.now) ≡ Some name
-        → S.told shelf.old name ≡ Some content → scenario_in content ≡ Err (line, why)
+        → S.told shelf.old name ≡ Some content → accepted_in content ≡ Err (line, why)
         → ¬ Rose (S.faults shelf.old name) (S.faults shelf.new name)
         → (result ≡ Status.BadTrace line why) ⊎ (result ≡ Status.NoMemory) }
     ensures same { S.told shelf.new ≡ S.told shelf.old }
@@ -65,18 +66,18 @@ pub fn run<S: Shelf, K: Sink>(
 pub fn run_plan<S: Shelf, K: Sink>(alloc: Global, name: &str, shelf: &mut S, sink: &mut K) -> Status
     ensures usage { result ≢ Status.Usage }
     ensures promise { (content : List ℕ) → S.told shelf.old name.now ≡ Some content
-        → IsPromised result (scenario_in content) (K.written sink.old) (K.written sink.new) }
+        → IsPromised result (accepted_in content) (K.written sink.old) (K.written sink.new) }
     ensures silent { WritesNothingElse result (K.written sink.old) (K.written sink.new) }
     ensures read { result ≡ Status.ReadFault
         → Rose (S.faults shelf.old name.now) (S.faults shelf.new name.now) }
     ensures write { result ≡ Status.WriteFault → Rose (K.faults sink.old) (K.faults sink.new) }
     ensures complete { (content : List ℕ) (t : Scenario) → S.told shelf.old name.now ≡ Some content
-        → scenario_in content ≡ Ok t
+        → accepted_in content ≡ Ok t
         → ¬ Rose (S.faults shelf.old name.now) (S.faults shelf.new name.now)
         → ¬ Rose (K.faults sink.old) (K.faults sink.new)
         → (result ≡ Status.Done) ⊎ (result ≡ Status.NoMemory) }
     ensures refuses { (content : List ℕ) (line : ℕ) (why : TraceWhy) → S.told shelf.old name.now ≡ Some content
-        → scenario_in content ≡ Err (line, why)
+        → accepted_in content ≡ Err (line, why)
         → ¬ Rose (S.faults shelf.old name.now) (S.faults shelf.new name.now)
         → (result ≡ Status.BadTrace line why) ⊎ (result ≡ Status.NoMemory) }
     ensures same { S.told shelf.new ≡ S.told shelf.old }
@@ -89,6 +90,12 @@ pub fn run_plan<S: Shelf, K: Sink>(alloc: Global, name: &str, shelf: &mut S, sin
         Err(TraceFault::Bad { line, why }) => return Status::BadTrace { line, why },
         Err(TraceFault::NoMemory) => return Status::NoMemory,
     };
+    if !is_one_cycle(&trace) {
+        return Status::BadTrace {
+            line: 0,
+            why: TraceWhy::NotBuilt,
+        };
+    }
     let Ok(report) = make_report(alloc, &trace) else {
         return Status::NoMemory;
     };
