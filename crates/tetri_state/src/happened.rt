@@ -1,7 +1,7 @@
 // What happened at the beginning of a cycle.
 
 /// A running piece of a job, by the number of its leaf.
-#[derive(Clone, Copy, Debug, PartialEq, Eq)]
+#[derive(Clone, Copy, Debug, PartialEq, Eq, PartialOrd, Ord)]
 pub struct PieceId {
     pub job: u32,
     pub leaf: u32,

@@ -1,8 +1,10 @@
-//! What happens at the beginning of a cycle, and what is launched at its end.
+//! The state of the cycles: what happens at the beginning of a cycle, what it plans for, and what it launches.
 #![tactic(auto)]
 
 mod happened;
 mod launches;
+mod pieces;
 
 pub use happened::{Happened, PieceId};
 pub use launches::{Launch, launch_of, starts_of};
+pub use pieces::Piece;

@@ -1,0 +1,66 @@
+-- The end of a cycle: what its plan launches runs from now on.
+use Rattle.std.specs.Prelude.{◌≡◌, ℕ, ℤ, pos, negsuc, ◌+◌, ◌-◌, ◌<◌, ◌≤◌, max, not, List, ◌++◌, filter, length, Option, option_map}
+use Rattle.std.specs.List.{filter_map}
+use Rattle.std.specs.List.Sorted.{IsNonDecreasing}
+use Rattle.tetri_strl.specs.declared.expr.Leaf.{Leaf}
+use Rattle.tetri_strl.specs.declared.grants.Grant.{Grant}
+use Rattle.tetri_space.specs.Space.{Space, leaf_in}
+use Rattle.tetri_trace.specs.Scenario.{Scenario}
+use Rattle.tetri_state.specs.declared.pieces.Piece.{Piece}
+use Rattle.tetri_state.specs.Begin.{has}
+use Rattle.tetri_state.specs.Launch.{starts_now, launched_in}
+use Rattle.tetri_state.specs.Planning.{instance_of}
+use Rattle.tetri_state.specs.Snapshot.{Snapshot, submission_of}
+
+-- how many slots a piece really runs that is expected to run `dur` and is this late: at least one
+abbrev pub real_dur : ℕ → ℤ → ℕ
+real_dur dur (pos late) = max 1 (dur + late)
+real_dur dur (negsuc early) = max 1 (dur - (early + 1))
+
+-- the piece that a grant of a leaf becomes
+abbrev pub piece_of : Scenario → Grant → Leaf → Piece
+piece_of t g l = record {
+  job = g.job;
+  leaf = g.leaf;
+  nodes = g.nodes;
+  started = l.start;
+  expected = l.start + l.dur;
+  real = l.start + real_dur l.dur (submission_of t g.job).late;
+}
+
+-- all grants of the jobs that have one which starts now, as pieces
+abbrev pub new_pieces : Scenario → Space → List Grant → List Piece
+new_pieces t i a = filter_map (λ g. option_map (piece_of t g) (leaf_in i.bids g.job g.leaf)) (filter (λ g. starts_now i a g.job) a)
+
+-- the state after its slot, in which these grants were planned
+abbrev pub after : Scenario → Snapshot → List Grant → Snapshot
+after t s a = record {
+  now = s.now + 1;
+  drained = s.drained;
+  pending = filter (λ j. not (starts_now (instance_of t s) a j)) s.pending;
+  pieces = s.pieces ++ new_pieces t (instance_of t s) a;
+  launched = s.launched ++ launched_in (instance_of t s) a;
+  ended = s.ended;
+  cancelled = s.cancelled;
+  expired = s.expired;
+  plan = a;
+}
+
+-- a launch with its memory: the jobs, their pieces, all grants of the plan, and room for so many pieces
+pub record Readied : Type 0 where
+  pub jobs : List ℕ
+  pub pieces : List Piece
+  pub grants : List Grant
+  pub room : ℕ
+
+-- the launch of this plan from this state
+pub record IsLaunchOf (t : Scenario) (s : Snapshot) (a : List Grant) (r : Readied) : Type 0 where
+  pub jobs : r.jobs ≡ launched_in (instance_of t s) a
+  pub pieces : r.pieces ≡ new_pieces t (instance_of t s) a
+  pub grants : r.grants ≡ a
+
+-- the launch is one of pending jobs, and its memory suffices for the state
+pub record Fits (s : Snapshot) (r : Readied) : Type 0 where
+  pub early : s.now < 20000
+  pub pending : r.jobs ≡ filter (has r.jobs) s.pending
+  pub room : length s.pieces + length r.pieces ≤ r.room

@@ -1,0 +1,164 @@
+-- The beginning of a cycle: pieces end, the events of the slot happen, pieces run over, and jobs expire.
+use Rattle.std.specs.Prelude.{ℕ, ◌+◌, ◌==◌, ◌&&◌, ◌||◌, Bool, true, false, not, nat_lt, nat_le, if◌then◌else◌, List, [], ◌∷◌, ◌++◌, map, filter, slice_set, Option, Some, None}
+use Rattle.std.specs.List.{filter_map, list_any}
+use Rattle.tetri_strl.specs.Worth.{top_of}
+use Rattle.tetri_trace.specs.declared.trace.Event.{Event}
+use Rattle.tetri_trace.specs.declared.trace.Happening.{Happening}
+use Rattle.tetri_trace.specs.declared.trace.Happening.TheVariants.{Arrive, Cancel, Drain, Undrain}
+use Rattle.tetri_trace.specs.Scenario.{Scenario}
+use Rattle.tetri_state.specs.declared.happened.PieceId.{PieceId}
+use Rattle.tetri_state.specs.declared.happened.Happened.{Happened}
+use Rattle.tetri_state.specs.declared.pieces.Piece.{Piece}
+use Rattle.tetri_state.specs.Snapshot.{Snapshot, demanded}
+
+-- the number is one of these
+abbrev pub has : List ℕ → ℕ → Bool
+has ns n = list_any (λ m. m == n) ns
+
+abbrev pub without : ℕ → List ℕ → List ℕ
+without n ns = filter (λ m. not (m == n)) ns
+
+-- one of the pieces is the job's
+abbrev pub runs : List PieceId → ℕ → Bool
+runs ids job = list_any (λ a. a.job == job) ids
+
+abbrev pub comes_before : PieceId → PieceId → Bool
+comes_before a b = nat_lt a.job b.job || (a.job == b.job && nat_lt a.leaf b.leaf)
+
+abbrev pub put : PieceId → List PieceId → List PieceId
+put a [] = a ∷ []
+put a (b ∷ bs) = if comes_before b a then b ∷ put a bs else a ∷ b ∷ bs
+
+-- by job and then leaf
+abbrev pub in_order : List PieceId → List PieceId
+in_order [] = []
+in_order (a ∷ rest) = put a (in_order rest)
+
+abbrev pub named : Piece → PieceId
+named p = record { job = p.job; leaf = p.leaf }
+
+-- what pieces are told by, in order
+abbrev pub told : List Piece → List PieceId
+told pieces = in_order (map named pieces)
+
+-- First, pieces end.
+
+abbrev pub has_ended : ℕ → Piece → Bool
+has_ended now p = nat_le p.real now
+
+abbrev pub ending : Snapshot → List Piece
+ending s = filter (has_ended s.now) s.pieces
+
+abbrev pub running_on : Snapshot → List Piece
+running_on s = filter (λ p. not (has_ended s.now p)) s.pieces
+
+-- each number once
+abbrev pub each_once : List ℕ → List ℕ
+each_once [] = []
+each_once (n ∷ ns) = if has ns n then each_once ns else n ∷ each_once ns
+
+-- the jobs of ended pieces of which no piece runs on
+abbrev pub finished : List PieceId → List PieceId → List ℕ
+finished running ended = filter (λ j. not (runs running j)) (each_once (map (λ a. a.job) ended))
+
+-- Then the events of the slot happen, in the order of their lines.
+
+abbrev pub events_at : Scenario → ℕ → List Event
+events_at t now = filter (λ e. e.at == now) t.events
+
+-- what events change: the drained nodes, the pending jobs, the pieces that still run, and the jobs that were cancelled
+pub record Turn : Type 0 where
+  pub drained : List Bool
+  pub pending : List ℕ
+  pub running : List PieceId
+  pub cancelled : List ℕ
+
+-- a pending job leaves, and all pieces of a running job end; to any other job nothing happens
+abbrev pub cancel : ℕ → Turn → Turn
+cancel job v = if has v.pending job || runs v.running job
+    then record {
+      drained = v.drained;
+      pending = without job v.pending;
+      running = filter (λ a. not (a.job == job)) v.running;
+      cancelled = v.cancelled ++ job ∷ [];
+    }
+    else v
+
+abbrev pub happen : Happening → Turn → Turn
+happen (Arrive job) v = record { drained = v.drained; pending = v.pending ++ job ∷ []; running = v.running; cancelled = v.cancelled }
+happen (Cancel job) v = cancel job v
+happen (Drain node) v = record { drained = slice_set v.drained node true; pending = v.pending; running = v.running; cancelled = v.cancelled }
+happen (Undrain node) v = record { drained = slice_set v.drained node false; pending = v.pending; running = v.running; cancelled = v.cancelled }
+
+abbrev pub happen_all : List Event → Turn → Turn
+happen_all [] v = v
+happen_all (e ∷ es) v = happen_all es (happen e.what v)
+
+abbrev pub turn : Scenario → Snapshot → Turn
+turn t s = happen_all (events_at t s.now) (record { drained = s.drained; pending = s.pending; running = told (running_on s); cancelled = [] })
+
+-- the pieces whose jobs were not cancelled
+abbrev pub staying : Scenario → Snapshot → List Piece
+staying t s = filter (λ p. runs (turn t s).running p.job) (running_on s)
+
+-- Then pieces that run longer than expected are expected to end in the next slot.
+
+abbrev pub is_over : ℕ → Piece → Bool
+is_over now p = nat_le p.expected now
+
+abbrev pub prolonged : ℕ → Piece → Piece
+prolonged now p = if is_over now p
+    then record { job = p.job; leaf = p.leaf; nodes = p.nodes; started = p.started; expected = now + 1; real = p.real }
+    else p
+
+-- Last, jobs expire: their leaves that start from now on are worth nothing. No leaf starts after slot 20,000.
+
+abbrev pub has_expired : Scenario → ℕ → ℕ → Bool
+has_expired t now job = top_of now 20001 (demanded t job) == 0
+
+-- the state once its slot has begun
+abbrev pub begin : Scenario → Snapshot → Snapshot
+begin t s = record {
+  now = s.now;
+  drained = (turn t s).drained;
+  pending = filter (λ j. not (has_expired t s.now j)) (turn t s).pending;
+  pieces = map (prolonged s.now) (staying t s);
+  launched = s.launched;
+  ended = s.ended ++ finished (told (running_on s)) (told (ending s));
+  cancelled = s.cancelled ++ (turn t s).cancelled;
+  expired = s.expired ++ filter (has_expired t s.now) (turn t s).pending;
+  plan = s.plan;
+}
+
+-- What happens at the beginning of a cycle: pieces by job and then leaf, cancelled jobs in the order of their lines, and
+-- expired jobs by number.
+pub record Occurrences : Type 0 where
+  pub ended : List PieceId
+  pub cancelled : List ℕ
+  pub over : List PieceId
+  pub expired : List ℕ
+
+abbrev pub occurring : Scenario → Snapshot → Occurrences
+occurring t s = record {
+  ended = told (ending s);
+  cancelled = (turn t s).cancelled;
+  over = told (filter (is_over s.now) (staying t s));
+  expired = filter (has_expired t s.now) (turn t s).pending;
+}
+
+-- what is told of it
+abbrev pub occurrences : Happened → Occurrences
+occurrences h = record { ended = h.ended.items; cancelled = h.cancelled.items; over = h.over.items; expired = h.expired.items }
+
+-- the jobs that arrive among events, in order
+abbrev pub arrived : Event → Option ℕ
+arrived e = by_kind e.what
+  where
+    by_kind : Happening → Option ℕ
+    by_kind (Arrive job) = Some job
+    by_kind (Cancel job) = None
+    by_kind (Drain node) = None
+    by_kind (Undrain node) = None
+
+abbrev pub arriving : List Event → List ℕ
+arriving es = filter_map arrived es

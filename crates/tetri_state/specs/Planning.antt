@@ -1,0 +1,52 @@
+-- What a cycle plans for, and what it carries over.
+use Rattle.std.specs.Prelude.{◌≡◌, ℕ, ◌==◌, ◌⊎◌, List, [], map, filter, find, length, All, Option, Some, None}
+use Rattle.std.specs.List.{list_any, range_with_len}
+use Rattle.tetri_strl.specs.declared.grants.Grant.{Grant}
+use Rattle.tetri_strl.specs.Thrifty.{IsThriftyFor}
+use Rattle.tetri_strl.specs.Tree.{leaves, numbers}
+use Rattle.tetri_space.specs.Space.{Bid, Space}
+use Rattle.tetri_space.specs.Lawful.{IsLawful}
+use Rattle.tetri_trace.specs.Scenario.{Scenario}
+use Rattle.tetri_state.specs.declared.pieces.Piece.{Piece}
+use Rattle.tetri_state.specs.Snapshot.{Snapshot, demanded}
+use Rattle.tetri_state.specs.Begin.{has}
+
+abbrev pub expected_or : ℕ → Option Piece → ℕ
+expected_or now None = now
+expected_or now (Some p) = p.expected
+
+-- the slot in which the piece on a node is expected to have ended, or now
+abbrev pub busy_until : ℕ → List Piece → ℕ → ℕ
+busy_until now pieces node = expected_or now (find (λ p. has p.nodes node) pieces)
+
+abbrev pub bid_of : Scenario → ℕ → Bid
+bid_of t job = record { job = job; expr = demanded t job }
+
+-- the instance of a slot that has begun
+abbrev pub instance_of : Scenario → Snapshot → Space
+instance_of t s = record {
+  now = s.now;
+  window = t.header.window;
+  nodes = length t.nodes;
+  sets = t.sets;
+  busy_until = map (busy_until s.now s.pieces) (range_with_len 0 (length t.nodes));
+  drained = s.drained;
+  bids = map (bid_of t) s.pending;
+}
+
+-- the leaves are numbered from 0 on, in the order of the text
+abbrev pub IsNumbered : Bid → Type 0
+IsNumbered b = numbers b.expr ≡ range_with_len 0 (length (leaves b.expr))
+
+-- the grants are thrifty for each job of the instance
+abbrev pub AreThrifty : Space → List Grant → Type 0
+AreThrifty i a = All (λ b. IsThriftyFor a b.job b.expr) i.bids
+
+-- the grants whose jobs are in the instance
+abbrev pub still_pending : Space → List Grant → List Grant
+still_pending i a = filter (λ g. list_any (λ b. b.job == g.job) i.bids) a
+
+-- what is carried over of a plan: the grants of its jobs that are still pending, where these are lawful together, and else none
+abbrev pub IsCarry : Space → List Grant → List Grant → Type 0
+IsCarry i plan c =
+    (IsLawful i (still_pending i plan) × (c ≡ still_pending i plan)) ⊎ ((IsLawful i (still_pending i plan) → ⊥) × (c ≡ []))
