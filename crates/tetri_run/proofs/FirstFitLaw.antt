@@ -1,8 +1,8 @@
 -- First fit is lawful, thrifty and in order.
-use Rattle.std.proofs.Common.{◌≡◌, ◌≢◌, ℕ, ◌+◌, ◌<◌, ◌≤◌, ◌==◌, ◌&&◌, ◌||◌, inl, inr, Bool, true, false, not, cond, List, [], ◌∷◌, ◌++◌, length, map, get_or, suc, All, AllPairs, Contains, refl, sym, ap, ◌∙◌, subst, arith, nat_le, nat_lt}
+use Rattle.std.proofs.Common.{◌≡◌, ◌≢◌, ℕ, ◌+◌, ◌<◌, ◌==◌, ◌&&◌, ◌||◌, inl, inr, Bool, true, false, not, cond, List, [], ◌∷◌, ◌++◌, map, get_or, suc, All, AllPairs, Contains, refl, sym, ap, ◌∙◌, subst, arith, nat_le, nat_lt}
 use Rattle.std.specs.Prelude.{filter, Option, None, Some}
 use Rattle.std.specs.List.{list_any}
-use Rattle.std.specs.Option.{ForSome, IsSomeAnd}
+use Rattle.std.specs.Option.{IsSomeAnd}
 use Rattle.std.specs.List.Sorted.{IsNonDecreasingBy, IsStrictlyIncreasing}
 use Rattle.std.proofs.lemmas.Bool.{cases_eq, true≢false}
 use Rattle.std.proofs.lemmas.Bool.Decides.{nat_tests}
@@ -23,18 +23,18 @@ use Rattle.tetri_strl.proofs.ThriftOfOthers.{thrifty-append_left, thrifty-append
 use Rattle.tetri_strl.proofs.TrimThrift.{trimmed_thrifty}
 use Rattle.tetri_strl.proofs.WorthLemmas.{EachLeaf-from}
 use Rattle.tetri_space.specs.Free.{IsFree}
-use Rattle.tetri_space.specs.Space.{Bid, Space, Covers, IsLive, leaf_in, set_of}
-use Rattle.tetri_space.specs.Lawful.{AreApart, HasRightNodes, IsLawful, IsLawfulGrant, MayBeGranted, NoCommonSlot}
+use Rattle.tetri_space.specs.Space.{Bid, Space, Covers, IsLive, leaf_in}
+use Rattle.tetri_space.specs.Lawful.{AreApart, IsLawful, IsLawfulGrant, MayBeGranted, NoCommonSlot}
 use Rattle.tetri_space.specs.Sound.{HasKnownSet, IsSound, IsSoundBid}
 use Rattle.tetri_space.proofs.LawfulLemmas.{AllPairs-append}
 use Rattle.tetri_space.proofs.LeafLemmas.{leaf_in-found}
 use Rattle.tetri_advice.specs.Fit.{Placement, fit, grant_of, grants_of, is_free_from, is_held, is_held_by, is_live, overlap}
-use Rattle.tetri_advice.proofs.FitLaws.{AreFit, Follows, IsBeside, IsPlain, IsRight, are_fit, fit-filter, none_any}
+use Rattle.tetri_advice.proofs.FitLaws.{AreFit, Follows, IsPlain, IsRight, are_fit, fit-filter, none_any}
 use Rattle.tetri_claims.specs.Good.{IsThriftyForAll}
 use Rattle.tetri_greedy.specs.Held.{but_leaves}
 use Rattle.tetri_greedy.proofs.Free.{free_from_test}
-use Rattle.tetri_run.specs.OneCycle.{ComesBefore}
-use Rattle.tetri_run.specs.FirstFit.{HasAscendingLeaves, earning, first_fit, first_fit_from, placed}
+use Rattle.tetri_run.specs.Cycle.{ComesBefore}
+use Rattle.tetri_run.specs.FirstFit.{HasAscendingLeaves, first_fit, first_fit_from, placed}
 
 -- the leaf comes first by its number
 abbrev pub IsBefore : Leaf → Leaf → Type 0

@@ -1,5 +1,5 @@
 -- First fit, job by job.
-use Rattle.std.proofs.Common.{◌≡◌, ℕ, ◌+◌, ◌<◌, ◌≤◌, ◌==◌, Bool, true, false, not, cond, List, [], ◌∷◌, ◌++◌, All, Contains, map, length, drop, get_or, sym, ap, ◌∙◌, subst, arith, append_assoc}
+use Rattle.std.proofs.Common.{◌≡◌, ℕ, ◌+◌, ◌<◌, ◌≤◌, ◌==◌, Bool, true, false, not, cond, List, [], ◌∷◌, ◌++◌, All, Contains, map, length, drop, get_or, sym, ap, ◌∙◌, subst, append_assoc}
 use Rattle.std.specs.List.{filter, list_any}
 use Rattle.std.specs.List.Sorted.{IsStrictlyIncreasing}
 use Rattle.std.proofs.lemmas.List.{drop_more}
@@ -16,13 +16,13 @@ use Rattle.tetri_space.specs.Sound.{HasKnownSet, IsSound, IsSoundBid}
 use Rattle.std.specs.Prelude.{OnOk, Result, Ok, Err}
 use Rattle.tetri_strl.proofs.WorthLemmas.{EachLeaf-from}
 use Rattle.tetri_space.specs.declared.instance.Offer.{Offer}
-use Rattle.tetri_advice.specs.Fit.{Placement, fit, fit_beside, grants_of, is_free_from, is_held}
-use Rattle.tetri_advice.proofs.FitLaws.{IsRight, are_fit, AreFit}
+use Rattle.tetri_advice.specs.Fit.{Placement, fit, fit_beside, grants_of, is_held}
+use Rattle.tetri_advice.proofs.FitLaws.{IsRight, are_fit}
 use Rattle.tetri_advice.proofs.FitSame.{fit-same}
 use Rattle.tetri_greedy.specs.Held.{AreHoldable, TellsOf, all_marked, but_leaves, is_marked}
 use Rattle.tetri_greedy.proofs.Free.{free_from_test}
 use Rattle.tetri_greedy.proofs.Marks.{in_window, tells_all}
-use Rattle.tetri_run.specs.FirstFit.{GotFit, HasAscendingLeaves, earning, first_fit, first_fit_from, placed}
+use Rattle.tetri_run.specs.FirstFit.{GotFit, HasAscendingLeaves, first_fit, first_fit_from, placed}
 use Rattle.tetri_run.proofs.FirstFitLaw.{IsBefore, grants_but, plain_bid}
 
 mutual

@@ -1,7 +1,4 @@
-pub mod Built
-pub mod Opening
 pub mod FirstFit
-pub mod OneCycle
-pub mod Words
-pub mod Status
-pub mod Report
+pub mod Kept
+pub mod Cycle
+pub mod Run

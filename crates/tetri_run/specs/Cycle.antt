@@ -1,0 +1,58 @@
+-- What one cycle of a run says.
+use Rattle.std.specs.Prelude.{◌≡◌, ◌<◌, ◌≤◌, ◌⊎◌, List, AllPairs, map}
+use Rattle.tetri_strl.specs.declared.grants.Grant.{Grant}
+use Rattle.tetri_claims.specs.Planned.{Planned}
+use Rattle.tetri_claims.specs.Good.{IsGood}
+use Rattle.tetri_claims.specs.Certified.{IsBoundedByTops}
+use Rattle.tetri_report.specs.Block.{Block}
+use Rattle.tetri_space.specs.Space.{Space}
+use Rattle.tetri_space.specs.Total.{total_in}
+use Rattle.tetri_state.specs.Begin.{Occurrences, begin, occurring}
+use Rattle.tetri_state.specs.Launch.{start_of, launched_in}
+use Rattle.tetri_state.specs.Planning.{IsCarry, instance_of}
+use Rattle.tetri_state.specs.Snapshot.{Snapshot}
+use Rattle.tetri_trace.specs.Scenario.{Scenario}
+use Rattle.tetri_run.specs.FirstFit.{first_fit}
+use Rattle.tetri_run.specs.Kept.{kept}
+
+abbrev pub planned : Block → Planned
+planned b = record { value = b.value; bound = b.bound; mark = b.mark; nodes = b.nodes; grants = b.grants; certificate = b.certificate }
+
+abbrev pub occurrences_in : Block → Occurrences
+occurrences_in b = record { ended = b.ended; cancelled = b.cancelled; over = b.over; expired = b.expired }
+
+-- what the cycle plans for that begins in this state
+abbrev pub instance_at : Scenario → Snapshot → Space
+instance_at t s = instance_of t (begin t s)
+
+-- The plan of a cycle is good for this instance, worth at least what is carried over, and bounded by the tops; each grant is
+-- told with its leaf's start, and all that is launched is told.
+pub record IsPlanFor (i : Space) (carry : List Grant) (b : Block) : Type 0 where
+  pub good : IsGood i (total_in i carry) (planned b)
+  pub tops : IsBoundedByTops i (planned b)
+  pub starts : b.starts ≡ map (start_of i) b.grants
+  pub launched : b.launched ≡ launched_in i b.grants
+
+-- The cycle that begins in this state: it has the number of the slot, tells what happened, and has a plan for what is
+-- pending and carried over then.
+pub record IsCycle (t : Scenario) (s : Snapshot) (b : Block) : Type 0 where
+  pub number : b.number ≡ s.now
+  pub happened : occurrences_in b ≡ occurring t s
+  pub carry : List Grant
+  pub carried : IsCarry (instance_at t s) s.plan carry
+  pub plan : IsPlanFor (instance_at t s) carry b
+
+-- the first grant's job and leaf come before the second's
+abbrev pub ComesBefore : Grant → Grant → Type 0
+ComesBefore g h = (g.job < h.job) ⊎ ((g.job ≡ h.job) × (g.leaf < h.leaf))
+
+-- the grants are those that this planner keeps, by job and leaf, and worth at least those of first fit
+pub record IsKeptFor (i : Space) (carry : List Grant) (b : Block) : Type 0 where
+  pub kept_by : b.grants ≡ kept i carry
+  pub ordered : AllPairs ComesBefore b.grants
+  pub first_fit : total_in i (first_fit i) ≤ b.value
+
+-- the cycle that this planner plans
+pub record IsPlannedCycle (t : Scenario) (s : Snapshot) (b : Block) : Type 0 where
+  pub cycle : IsCycle t s b
+  pub kept_for : IsKeptFor (instance_at t s) cycle.carry b

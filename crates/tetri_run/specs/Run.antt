@@ -1,0 +1,73 @@
+-- A run: one cycle a slot, from the opening state on. Lists of cycles have the last one first.
+use Rattle.std.specs.Prelude.{◌≡◌, ◌<◌, ℕ, ◌+◌, List, [], ◌∷◌, ◌++◌, map, length}
+use Rattle.tetri_strl.specs.declared.grants.Grant.{Grant}
+use Rattle.tetri_cert.specs.declared.mark.PlanMark.{PlanMark}
+use Rattle.tetri_cert.specs.declared.mark.PlanMark.TheVariants.{Optimal, Spent, Wide}
+use Rattle.tetri_report.specs.Block.{Block}
+use Rattle.tetri_report.specs.Text.{cycle_text, summary_text}
+use Rattle.tetri_report.specs.declared.cycle.Summary.{Summary}
+use Rattle.tetri_state.specs.Launch.{worth_launched}
+use Rattle.tetri_state.specs.Reached.{state_after}
+use Rattle.tetri_state.specs.Snapshot.{Snapshot}
+use Rattle.tetri_trace.specs.Scenario.{Scenario}
+use Rattle.tetri_run.specs.Cycle.{IsPlannedCycle, instance_at}
+
+abbrev pub plans_of : List Block → List (List Grant)
+plans_of past = map (λ b. b.grants) past
+
+-- the state in which the next cycle begins
+abbrev pub state_behind : Scenario → List Block → Snapshot
+state_behind t past = state_after t (plans_of past)
+
+-- each of the cycles follows from the earlier ones
+abbrev pub IsRun : Scenario → List Block → Type 0
+IsRun t [] = Unit {0}
+IsRun t (b ∷ past) = ((state_behind t past).now < t.header.until) × IsPlannedCycle t (state_behind t past) b × IsRun t past
+
+abbrev pub optimal_count : PlanMark → ℕ
+optimal_count Optimal = 1
+optimal_count Spent = 0
+optimal_count Wide = 0
+
+-- how many cycles have an optimal plan
+abbrev pub optimal_cycles : List Block → ℕ
+optimal_cycles [] = 0
+optimal_cycles (b ∷ past) = optimal_cycles past + optimal_count b.mark
+
+-- what the launched jobs were worth at their launch
+abbrev pub worth_of_run : Scenario → List Block → ℕ
+worth_of_run t [] = 0
+worth_of_run t (b ∷ past) = worth_of_run t past + worth_launched (instance_at t (state_behind t past)) b.grants
+
+-- the run in numbers
+abbrev pub summary_of : Scenario → List Block → Summary
+summary_of t past =
+    let s = state_behind t past in
+    record {
+      cycles = length past;
+      launched = length s.launched;
+      ended = length s.ended;
+      cancelled = length s.cancelled;
+      expired = length s.expired;
+      worth = worth_of_run t past;
+      optimal = optimal_cycles past;
+    }
+
+-- the lines of all cycles
+abbrev pub cycles_text : Scenario → List Block → List ℕ
+cycles_text t [] = []
+cycles_text t (b ∷ past) = cycles_text t past ++ cycle_text t b
+
+-- the report of a run
+abbrev pub report_text : Scenario → List Block → List ℕ
+report_text t past = cycles_text t past ++ summary_text (summary_of t past)
+
+-- a run of all slots
+pub record IsWholeRun (t : Scenario) (past : List Block) : Type 0 where
+  pub run : IsRun t past
+  pub whole : length past ≡ t.header.until
+
+-- The next text of a report: the cycle that follows, or the summary behind the last one.
+pub data NextText (t : Scenario) (past : List Block) : List ℕ → Type 0 where
+  cycle : (b : Block) → IsRun t (b ∷ past) → NextText t past (cycle_text t b)
+  summary : length past ≡ t.header.until → NextText t past (summary_text (summary_of t past))

@@ -1,0 +1,32 @@
+// Why a run stops before its end.
+use std::alloc::AllocError;
+use tetri_io::Failed;
+
+/// Why a run stops before its end.
+#[derive(Clone, Copy, Debug, PartialEq, Eq)]
+pub(crate) enum Halt {
+    WriteFault,
+    NoMemory,
+}
+
+impl From<Failed> for Halt {
+    ghost use Rattle.std.specs.Prelude.{◌≡◌};
+    ghost use Rattle.tetri_run.specs.declared.halt.Halt.TheVariants as halts;
+
+    ghost from_gives = { λ _ e. e ≡ halts.WriteFault };
+
+    fn from(_: Failed) -> Self {
+        Halt::WriteFault
+    }
+}
+
+impl From<AllocError> for Halt {
+    ghost use Rattle.std.specs.Prelude.{◌≡◌};
+    ghost use Rattle.tetri_run.specs.declared.halt.Halt.TheVariants as halts;
+
+    ghost from_gives = { λ _ e. e ≡ halts.NoMemory };
+
+    fn from(_: AllocError) -> Self {
+        Halt::NoMemory
+    }
+}
