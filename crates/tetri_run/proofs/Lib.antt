@@ -1,3 +1,4 @@
 pub mod FirstFitLaw
 pub mod FirstFits
 pub mod KeptLemmas
+pub mod PrintLemmas

@@ -62,11 +62,6 @@ cycles_text t (b ∷ past) = cycles_text t past ++ cycle_text t b
 abbrev pub report_text : Scenario → List Block → List ℕ
 report_text t past = cycles_text t past ++ summary_text (summary_of t past)
 
--- a run of all slots
-pub record IsWholeRun (t : Scenario) (past : List Block) : Type 0 where
-  pub run : IsRun t past
-  pub whole : length past ≡ t.header.until
-
 -- The next text of a report: the cycle that follows, or the summary behind the last one.
 pub data NextText (t : Scenario) (past : List Block) : List ℕ → Type 0 where
   cycle : (b : Block) → IsRun t (b ∷ past) → NextText t past (cycle_text t b)

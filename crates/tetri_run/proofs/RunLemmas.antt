@@ -1,0 +1,94 @@
+-- How a run grows by a slot, and where it stops.
+use Rattle.std.proofs.Common.{◌≡◌, ℕ, ◌+◌, ◌*◌, ◌^◌, ◌<◌, ◌≤◌, List, [], ◌∷◌, ◌++◌, length, take, AllPairs, refl, sym, ap, ◌∙◌, subst, arith}
+use Rattle.std.specs.Prelude.{Option}
+use Rattle.std.specs.Io.KnownBytes.{append_known}
+use Rattle.tetri_io.specs.Sink.{AppendsPart}
+use Rattle.tetri_io.proofs.Known.{append_known-append}
+use Rattle.tetri_strl.specs.declared.grants.Grant.{Grant}
+use Rattle.tetri_report.specs.Block.{Block}
+use Rattle.tetri_report.specs.Text.{cycle_text, summary_text}
+use Rattle.tetri_report.specs.declared.cycle.Summary.{Summary}
+use Rattle.tetri_state.specs.After.{after}
+use Rattle.tetri_state.specs.Begin.{begin}
+use Rattle.tetri_state.specs.Launch.{worth_launched}
+use Rattle.tetri_state.specs.Reached.{ArePlans, IsReached, between, state_after}
+use Rattle.tetri_state.specs.Snapshot.{Snapshot}
+use Rattle.tetri_trace.specs.Scenario.{Scenario}
+use Rattle.tetri_run.specs.Cycle.{ComesBefore, IsPlannedCycle, instance_at}
+use Rattle.tetri_run.specs.Run.{IsRun, NextText, cycle, summary, cycles_text, optimal_count, optimal_cycles, plans_of, report_text, state_behind, summary_of, worth_of_run}
+use Rattle.tetri_run.specs.Progress.{RanAll, RanSlot, RanSlots, StoppedBetween, StoppedInSlot, StoppedInText, WroteReport}
+use Rattle.tetri_run.specs.declared.cycles.RunTally.{RunTally}
+use Rattle.tetri_run.specs.declared.slot.SlotTally.{SlotTally}
+
+pub run_plans : (t : Scenario) (past : List Block) → IsRun t past → ArePlans t (plans_of past)
+run_plans t [] run = tt
+run_plans t (b ∷ past) run = (run.0, record { lawful = run.1.cycle.plan.good.lawful; thrifty = run.1.cycle.plan.good.thrifty }, run_plans t past run.2)
+
+-- the states of a run are reached
+pub run_reaches : (t : Scenario) (past : List Block) → IsRun t past → IsReached t between (state_behind t past)
+run_reaches t past run = record { plans = plans_of past; are_plans = run_plans t past run; is = refl }
+
+pub now_behind : (t : Scenario) (past : List Block) → (state_behind t past).now ≡ length past
+now_behind t [] = refl
+now_behind t (b ∷ past) = omega (arith, now_behind t past)
+
+-- the last plan is in order
+pub last_ordered : (t : Scenario) (past : List Block) → IsRun t past → AllPairs ComesBefore (state_behind t past).plan
+last_ordered t [] run = λ i j d lt within. absurd (omega (arith, within))
+last_ordered t (b ∷ past) run = run.1.kept_for.ordered
+
+no_slots : (t : Scenario) (tally : RunTally) (before : Option (List ℕ)) (s : Snapshot) → s ≡ state_behind t [] → tally.worth ≡ 0 → tally.optimal ≡ 0 → RanSlots t 0 s tally before before
+no_slots t tally before s e w o = ?
+
+pub one_more_slot : (t : Scenario) (i : ℕ) (old new : Snapshot) (tally more : RunTally) (slot : SlotTally) (before middle now : Option (List ℕ)) →
+    old.now < t.header.until → RanSlots t i old tally before middle → RanSlot t old new slot middle now →
+    more.worth ≡ tally.worth + slot.worth → more.optimal ≡ tally.optimal + slot.optimal → RanSlots t (i + 1) new more before now
+one_more_slot t i old new tally more slot before middle now in_run ran step w o =
+    let b = step.block in
+    let planned : IsPlannedCycle t (state_behind t ran.past) b = subst (λ (s : Snapshot). IsPlannedCycle t s b) ran.state step.planned in
+    record {
+      past = b ∷ ran.past;
+      run = (subst (λ (s : Snapshot). s.now < t.header.until) ran.state in_run, planned, ran.run);
+      slots = omega (arith, ran.slots);
+      state = step.state ∙ ap (λ (s : Snapshot). after t (begin t s) b.grants) ran.state;
+      worth = w ∙ ap (λ n. n + slot.worth) ran.worth ∙ ap (λ n. worth_of_run t ran.past + n) (step.worth ∙ ap (λ (s : Snapshot). worth_launched (instance_at t s) b.grants) ran.state);
+      optimal = o ∙ ap (λ n. n + slot.optimal) ran.optimal ∙ ap (λ n. optimal_cycles ran.past + n) step.optimal;
+      written = step.written ∙ ap (λ k. append_known k (cycle_text t b)) ran.written ∙ append_known-append before (cycles_text t ran.past) (cycle_text t b);
+    }
+
+-- a proper front of what comes next, behind what was written
+in_text : (t : Scenario) (past : List Block) (run : IsRun t past) (text : List ℕ) (before middle now : Option (List ℕ)) → NextText t past text →
+    middle ≡ append_known before (cycles_text t past) → AppendsPart middle now text → StoppedInText t before now
+in_text t past run text before middle now next e part = record {
+  past = past;
+  run = run;
+  text = text;
+  next = next;
+  part = part.0;
+  proper = part.1;
+  written = part.2 ∙ ap (λ k. append_known k (take part.0 text)) e ∙ append_known-append before (cycles_text t past) (take part.0 text);
+}
+
+pub stopped_in_slot : (t : Scenario) (i : ℕ) (old : Snapshot) (tally : RunTally) (before middle now : Option (List ℕ)) →
+    old.now < t.header.until → RanSlots t i old tally before middle → StoppedInSlot t old middle now → StoppedInText t before now
+stopped_in_slot t i old tally before middle now in_run ran stop =
+    let planned : IsPlannedCycle t (state_behind t ran.past) stop.block = subst (λ (s : Snapshot). IsPlannedCycle t s stop.block) ran.state stop.planned in
+    in_text t ran.past ran.run (cycle_text t stop.block) before middle now
+    (cycle stop.block (subst (λ (s : Snapshot). s.now < t.header.until) ran.state in_run, planned, ran.run)) ran.written stop.written
+
+pub stopped_between : (t : Scenario) (i : ℕ) (old : Snapshot) (tally : RunTally) (before middle now : Option (List ℕ)) →
+    RanSlots t i old tally before middle → now ≡ middle → StoppedBetween t before now
+stopped_between t i old tally before middle now ran e = record { past = ran.past; run = ran.run; written = e ∙ ran.written }
+
+pub stopped_in_summary : (t : Scenario) (m : Summary) (before middle now : Option (List ℕ)) → RanAll t m before middle → AppendsPart middle now (summary_text m) → StoppedInText t before now
+stopped_in_summary t m before middle now ran part =
+    in_text t ran.past ran.run (summary_text (summary_of t ran.past)) before middle now (summary ran.whole) ran.written (subst (λ (s : Summary). AppendsPart middle now (summary_text s)) ran.summary part)
+
+pub wrote_report : (t : Scenario) (m : Summary) (before middle now : Option (List ℕ)) → RanAll t m before middle → now ≡ append_known middle (summary_text m) → WroteReport t before now
+wrote_report t m before middle now ran e = record {
+  past = ran.past;
+  run = ran.run;
+  whole = ran.whole;
+  written = e ∙ ap (λ k. append_known k (summary_text m)) ran.written ∙ append_known-append before (cycles_text t ran.past) (summary_text m)
+      ∙ ap (λ (s : Summary). append_known before (cycles_text t ran.past ++ summary_text s)) ran.summary;
+}

@@ -1,0 +1,83 @@
+-- How far a run has come, of the values that are kept between cycles and of the written bytes.
+use Rattle.std.specs.Prelude.{◌≡◌, ◌<◌, ℕ, List, ◌++◌, Option, length, take}
+use Rattle.std.specs.Io.KnownBytes.{append_known}
+use Rattle.tetri_io.specs.Sink.{AppendsPart}
+use Rattle.tetri_report.specs.Block.{Block}
+use Rattle.tetri_report.specs.Text.{cycle_text}
+use Rattle.tetri_report.specs.declared.cycle.Summary.{Summary}
+use Rattle.tetri_state.specs.After.{Fits, IsLaunchOf, after}
+use Rattle.tetri_state.specs.Begin.{begin}
+use Rattle.tetri_state.specs.Launch.{worth_launched}
+use Rattle.tetri_state.specs.Snapshot.{Snapshot}
+use Rattle.tetri_trace.specs.Scenario.{Scenario}
+use Rattle.tetri_run.specs.Cycle.{IsPlannedCycle, instance_at}
+use Rattle.tetri_run.specs.Run.{IsRun, NextText, cycles_text, optimal_count, optimal_cycles, report_text, state_behind, summary_of, worth_of_run}
+use Rattle.tetri_run.specs.declared.slot.Ready.{Ready}
+use Rattle.tetri_run.specs.declared.slot.SlotTally.{SlotTally}
+use Rattle.tetri_run.specs.declared.cycles.RunTally.{RunTally}
+
+-- A cycle is ready that begins in this state: its lines, what it launches, and its numbers.
+pub record IsReady (t : Scenario) (old : Snapshot) (r : Ready) : Type 0 where
+  pub block : Block
+  pub planned : IsPlannedCycle t old block
+  pub text : r.text.items ≡ cycle_text t block
+  pub launch : IsLaunchOf t (begin t old) block.grants r.prepared
+  pub fits : Fits (begin t old) r.prepared
+  pub worth : r.tally.worth ≡ worth_launched (instance_at t old) block.grants
+  pub optimal : r.tally.optimal ≡ optimal_count block.mark
+
+-- A slot was run: a cycle was planned, written and applied.
+pub record RanSlot (t : Scenario) (old new : Snapshot) (tally : SlotTally) (before now : Option (List ℕ)) : Type 0 where
+  pub block : Block
+  pub planned : IsPlannedCycle t old block
+  pub state : new ≡ after t (begin t old) block.grants
+  pub worth : tally.worth ≡ worth_launched (instance_at t old) block.grants
+  pub optimal : tally.optimal ≡ optimal_count block.mark
+  pub written : now ≡ append_known before (cycle_text t block)
+
+-- A write failed in the text of a planned cycle.
+pub record StoppedInSlot (t : Scenario) (old : Snapshot) (before now : Option (List ℕ)) : Type 0 where
+  pub block : Block
+  pub planned : IsPlannedCycle t old block
+  pub written : AppendsPart before now (cycle_text t block)
+
+-- So many slots were run from the opening state on.
+pub record RanSlots (t : Scenario) (slots : ℕ) (new : Snapshot) (tally : RunTally) (before now : Option (List ℕ)) : Type 0 where
+  pub past : List Block
+  pub run : IsRun t past
+  pub slots : length past ≡ slots
+  pub state : new ≡ state_behind t past
+  pub worth : tally.worth ≡ worth_of_run t past
+  pub optimal : tally.optimal ≡ optimal_cycles past
+  pub written : now ≡ append_known before (cycles_text t past)
+
+-- The run stopped behind some cycles, in their next text.
+pub record StoppedInText (t : Scenario) (before now : Option (List ℕ)) : Type 0 where
+  pub past : List Block
+  pub run : IsRun t past
+  pub text : List ℕ
+  pub next : NextText t past text
+  pub part : ℕ
+  pub proper : part < length text
+  pub written : now ≡ append_known before (cycles_text t past ++ take part text)
+
+-- The run stopped between two texts.
+pub record StoppedBetween (t : Scenario) (before now : Option (List ℕ)) : Type 0 where
+  pub past : List Block
+  pub run : IsRun t past
+  pub written : now ≡ append_known before (cycles_text t past)
+
+-- The report of a whole run was written.
+pub record WroteReport (t : Scenario) (before now : Option (List ℕ)) : Type 0 where
+  pub past : List Block
+  pub run : IsRun t past
+  pub whole : length past ≡ t.header.until
+  pub written : now ≡ append_known before (report_text t past)
+
+-- All slots were run, and the summary is theirs.
+pub record RanAll (t : Scenario) (summary : Summary) (before now : Option (List ℕ)) : Type 0 where
+  pub past : List Block
+  pub run : IsRun t past
+  pub whole : length past ≡ t.header.until
+  pub summary : summary ≡ summary_of t past
+  pub written : now ≡ append_known before (cycles_text t past)

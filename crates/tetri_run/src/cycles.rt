@@ -1,0 +1,84 @@
+// The cycles of a run, one a slot.
+ghost use Rattle.std.specs.Prelude.{◌≡◌, ◌≤◌, ◌<◌, ◌^◌, IfOk, IsErrOf, OnOk};
+ghost use Rattle.tetri_algebra.specs.Counts.{Rose};
+ghost use Rattle.tetri_run.specs.Progress.{RanAll, StoppedBetween, StoppedInText, WroteReport};
+ghost use Rattle.tetri_run.specs.Status.{IsRunAnswer};
+ghost use Rattle.tetri_trace.specs.Scenario.{scenario};
+ghost use Rattle.tetri_trace.specs.Sound.{IsSound};
+
+use crate::halt::Halt;
+use crate::slot::run_slot;
+use crate::status::Status;
+use std::alloc::Global;
+use tetri_io::{Sink, send_all};
+use tetri_report::{Summary, print_summary};
+use tetri_state::State;
+use tetri_trace::Trace;
+
+/// What is added up over cycles: what launched jobs are worth, and how many plans are optimal.
+#[derive(Clone, Copy, Debug)]
+pub(crate) struct RunTally {
+    pub(crate) worth: u128,
+    pub(crate) optimal: u64,
+}
+
+// Runs all slots, from the opening state on.
+fn run_slots<K: Sink>(alloc: Global, trace: &Trace, sink: &mut K) -> Result<Summary, Halt>
+    requires { IsSound (scenario trace.now) }
+    ensures ok { IfOk result (λ summary. RanAll (scenario trace.entry.now) summary (K.written sink.old) (K.written sink.new)) }
+    ensures small { IfOk result (λ summary. summary.worth < 2 ^ 127) }
+    ensures failed { IsErrOf result Halt.WriteFault → StoppedInText (scenario trace.entry.now) (K.written sink.old) (K.written sink.new) }
+    ensures memory { IsErrOf result Halt.NoMemory → StoppedBetween (scenario trace.entry.now) (K.written sink.old) (K.written sink.new) }
+    ensures write { IsErrOf result Halt.WriteFault → Rose (K.faults sink.old) (K.faults sink.new) }
+    ensures later { K.faults sink.old ≤ K.faults sink.new }
+{
+    let mut state = State::open(alloc, trace)?;
+    let mut tally = RunTally {
+        worth: 0,
+        optimal: 0,
+    };
+    for _ in 0..trace.header.until {
+        let slot = run_slot(alloc, trace, &mut state, sink)?;
+        tally.worth += u128::from(slot.worth);
+        tally.optimal += slot.optimal;
+    }
+    Ok(Summary {
+        cycles: u64::from(trace.header.until),
+        launched: state.launched(),
+        ended: state.ended(),
+        cancelled: state.cancelled(),
+        expired: state.expired(),
+        worth: tally.worth,
+        optimal: tally.optimal,
+    })
+}
+
+// Runs all slots, and then writes the summary.
+fn write_run<K: Sink>(alloc: Global, trace: &Trace, sink: &mut K) -> Result<(), Halt>
+    requires { IsSound (scenario trace.now) }
+    ensures ok { OnOk result (WroteReport (scenario trace.entry.now) (K.written sink.old) (K.written sink.new)) }
+    ensures failed { IsErrOf result Halt.WriteFault → StoppedInText (scenario trace.entry.now) (K.written sink.old) (K.written sink.new) }
+    ensures memory { IsErrOf result Halt.NoMemory → StoppedBetween (scenario trace.entry.now) (K.written sink.old) (K.written sink.new) }
+    ensures write { IsErrOf result Halt.WriteFault → Rose (K.faults sink.old) (K.faults sink.new) }
+    ensures later { K.faults sink.old ≤ K.faults sink.new }
+{
+    let summary = run_slots(alloc, trace, sink)?;
+    let text = print_summary(alloc, &summary)?;
+    send_all(sink, &text)?;
+    Ok(())
+}
+
+/// Runs a trace and writes its report: each cycle by one send once it is planned, and then the summary by one more. A fault leaves
+/// whole cycles and a proper front of the next text, and want of memory whole cycles alone.
+pub(crate) fn run_cycles<K: Sink>(alloc: Global, trace: &Trace, sink: &mut K) -> Status
+    requires { IsSound (scenario trace.now) }
+    ensures answer { IsRunAnswer result (scenario trace.entry.now) (K.written sink.old) (K.written sink.new) }
+    ensures write { result ≡ Status.WriteFault → Rose (K.faults sink.old) (K.faults sink.new) }
+    ensures later { K.faults sink.old ≤ K.faults sink.new }
+{
+    match write_run(alloc, trace, sink) {
+        Ok(()) => Status::Done,
+        Err(Halt::WriteFault) => Status::WriteFault,
+        Err(Halt::NoMemory) => Status::NoMemory,
+    }
+}

@@ -1,0 +1,100 @@
+// One slot of a run.
+ghost use Rattle.std.specs.Prelude.{◌≡◌, ◌≤◌, ◌<◌, AllPairs, IfOk, IsErrOf, OnOk};
+ghost use Rattle.tetri_algebra.specs.Counts.{Rose};
+ghost use Rattle.tetri_run.specs.Cycle.{ComesBefore, IsPlannedCycle};
+ghost use Rattle.tetri_run.specs.Progress.{IsReady, RanSlot, StoppedInSlot};
+ghost use Rattle.tetri_run.specs.Run.{optimal_count};
+ghost use Rattle.tetri_report.specs.Block.{block};
+ghost use Rattle.tetri_state.specs.Begin.{begin};
+ghost use Rattle.tetri_state.specs.Launch.{worth_launched};
+ghost use Rattle.tetri_state.specs.Planning.{instance_of};
+ghost use Rattle.tetri_state.specs.Reached.{IsReached, begun, between};
+ghost use Rattle.tetri_trace.specs.Scenario.{scenario};
+ghost use Rattle.tetri_trace.specs.Sound.{IsSound};
+
+use crate::halt::Halt;
+use crate::planner::{Told, plan_cycle};
+use std::alloc::{AllocError, Global};
+use tetri_cert::PlanMark;
+use tetri_io::{Sink, send_all};
+use tetri_report::{Cycle, print_cycle};
+use tetri_state::{Prepared, State};
+use tetri_trace::Trace;
+
+/// What one slot adds to the numbers of a run: what its launched jobs are worth, and 1 where its plan is optimal.
+#[derive(Clone, Copy, Debug)]
+pub(crate) struct SlotTally {
+    pub(crate) worth: u64,
+    pub(crate) optimal: u64,
+}
+
+fn optimal_count(mark: PlanMark) -> u64
+    ensures value { result ≡ optimal_count mark }
+    ensures most { result ≤ 1 }
+{
+    match mark {
+        PlanMark::Optimal => 1,
+        PlanMark::Spent => 0,
+        PlanMark::Wide => 0,
+    }
+}
+
+/// A cycle that is ready: its lines, and what it launches.
+#[derive(Drop)]
+pub(crate) struct Ready {
+    pub(crate) text: Vec<u8>,
+    pub(crate) prepared: Prepared,
+    pub(crate) tally: SlotTally,
+}
+
+// Plans the slot that begins in this state, and makes its lines and its launch ready. The slot has begun afterwards.
+fn ready_slot(alloc: Global, trace: &Trace, state: &mut State) -> Result<Ready, AllocError>
+    requires sound { IsSound (scenario trace.now) }
+    requires reached { IsReached (scenario trace.now) between state.old }
+    requires in_run { state.old.now < (scenario trace.now).header.until }
+    requires ordered { AllPairs ComesBefore state.old.plan }
+    ensures begun { OnOk result (state.new ≡ begin (scenario trace.entry.now) state.old) }
+    ensures ready { IfOk result (IsReady (scenario trace.entry.now) state.old) }
+    ensures most { IfOk result (λ r. r.tally.optimal ≤ 1) }
+{
+    let happened = state.begin_cycle(alloc, trace)?;
+    let inst = state.instance(alloc, trace)?;
+    let carry = state.carry(alloc, trace, &inst)?;
+    let told = plan_cycle(alloc, &inst, inst.now, happened, carry)?;
+    let text = print_cycle(alloc, trace, &told.cycle)?;
+    let prepared = state.prepare(alloc, trace, &inst, &told.cycle.grants)?;
+    let tally = SlotTally {
+        worth: told.launched_worth,
+        optimal: optimal_count(told.cycle.mark),
+    };
+    Ok(Ready {
+        text,
+        prepared,
+        tally,
+    })
+}
+
+/// Runs the slot that begins in this state: its cycle is planned and prepared, then written by one send, and then applied. What
+/// is written at a fault is a proper front of its lines, and without memory nothing is.
+pub(crate) fn run_slot<K: Sink>(
+    alloc: Global,
+    trace: &Trace,
+    state: &mut State,
+    sink: &mut K,
+) -> Result<SlotTally, Halt>
+    requires sound { IsSound (scenario trace.now) }
+    requires reached { IsReached (scenario trace.now) between state.old }
+    requires in_run { state.old.now < (scenario trace.now).header.until }
+    requires ordered { AllPairs ComesBefore state.old.plan }
+    ensures ok { IfOk result (λ tally. RanSlot (scenario trace.entry.now) state.old state.new tally (K.written sink.old) (K.written sink.new)) }
+    ensures most { IfOk result (λ tally. tally.optimal ≤ 1) }
+    ensures failed { IsErrOf result Halt.WriteFault → StoppedInSlot (scenario trace.entry.now) state.old (K.written sink.old) (K.written sink.new) }
+    ensures memory { IsErrOf result Halt.NoMemory → K.written sink.new ≡ K.written sink.old }
+    ensures write { IsErrOf result Halt.WriteFault → Rose (K.faults sink.old) (K.faults sink.new) }
+    ensures later { K.faults sink.old ≤ K.faults sink.new }
+{
+    let ready = ready_slot(alloc, trace, state)?;
+    send_all(sink, &ready.text)?;
+    state.apply(ready.prepared);
+    Ok(ready.tally)
+}

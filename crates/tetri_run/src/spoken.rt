@@ -1,0 +1,162 @@
+// What is said of a status.
+ghost use Rattle.std.specs.Prelude.{◌≡◌, ◌≤◌, ◌++◌, IfOk, OnOk, OnErr, IsErrOf, string_bytes};
+ghost use Rattle.std.specs.Io.KnownBytes.{append_known};
+ghost use Rattle.tetri_algebra.specs.Counts.{Rose};
+ghost use Rattle.tetri_io.specs.Sink.{AppendsPart};
+ghost use Rattle.tetri_run.specs.Status.{bad_trace_words, fault_words, field_words, status_words, why_words};
+ghost use Rattle.tetri_trace.specs.declared.fault.TraceWhy.{TraceWhy};
+
+use crate::status::Status;
+use std::alloc::{AllocError, Global};
+use std::fmt::Write;
+use tetri_io::{Failed, Sink, send_all};
+use tetri_parse::Fault;
+use tetri_trace::{Field, TraceWhy};
+use thiserror::Error;
+
+/// Why a status was not said.
+#[derive(Clone, Copy, Debug, PartialEq, Eq, Error)]
+pub enum SayFault {
+    /// A write failed, and was counted.
+    #[error("a write failed")]
+    Failed,
+    /// There is no memory for the line.
+    #[error("out of memory")]
+    NoMemory,
+}
+
+impl From<Failed> for SayFault {
+    ghost use Rattle.std.specs.Prelude.{◌≡◌};
+    ghost use Rattle.tetri_run.specs.declared.spoken.SayFault.TheVariants as fault;
+
+    ghost from_gives = { λ _ e. e ≡ fault.Failed };
+
+    fn from(_: Failed) -> Self {
+        SayFault::Failed
+    }
+}
+
+impl From<AllocError> for SayFault {
+    ghost use Rattle.std.specs.Prelude.{◌≡◌};
+    ghost use Rattle.tetri_run.specs.declared.spoken.SayFault.TheVariants as fault;
+
+    ghost from_gives = { λ _ e. e ≡ fault.NoMemory };
+
+    fn from(_: AllocError) -> Self {
+        SayFault::NoMemory
+    }
+}
+
+// A fault in words.
+fn fault_word(fault: Fault) -> &'static str
+    ensures { result.now ≡ fault_words fault }
+{
+    match fault {
+        Fault::Unexpected => "unexpected",
+        Fault::Ended => "ended",
+        Fault::Trailing => "trailing",
+        Fault::NumberRange => "number-range",
+        Fault::UnknownSet => "unknown-set",
+        Fault::Uneven => "uneven",
+        Fault::Mixed => "mixed",
+        Fault::TooDeep => "too-deep",
+        Fault::TooManyLeaves => "too-many-leaves",
+        Fault::TooRich => "too-rich",
+        Fault::TooManySets => "too-many-sets",
+    }
+}
+
+// A field as its key.
+fn field_word(field: Field) -> &'static str
+    ensures { result.now ≡ field_words field }
+{
+    match field {
+        Field::Nodes => "nodes",
+        Field::Window => "window",
+        Field::Budget => "budget",
+        Field::Until => "until",
+        Field::Unit => "unit",
+        Field::At => "at",
+        Field::Arrive => "arrive",
+        Field::Cancel => "cancel",
+        Field::Drain => "drain",
+        Field::Undrain => "undrain",
+        Field::Late => "late",
+        Field::Strl => "strl",
+        Field::Ask => "ask",
+        Field::K => "k",
+        Field::Set => "set",
+        Field::Dur => "dur",
+        Field::Value => "value",
+        Field::Deadline => "deadline",
+        Field::Prefer => "prefer",
+        Field::PreferSet => "prefer.set",
+        Field::PreferDur => "prefer.dur",
+        Field::Class => "class",
+        Field::Elastic => "elastic",
+    }
+}
+
+// Adds a cause in words, with its values.
+fn add_why(out: &mut String, why: TraceWhy) -> Result<(), AllocError>
+    ensures { OnOk result (string_bytes out.new ≡ string_bytes out.old ++ why_words why) }
+{
+    match why {
+        TraceWhy::LineTooLong => out.push_str("line-too-long"),
+        TraceWhy::TraceTooLong => out.push_str("trace-too-long"),
+        TraceWhy::NotJson => out.push_str("not-json"),
+        TraceWhy::NotObject => out.push_str("not-object"),
+        TraceWhy::NoHeader => out.push_str("no-header"),
+        TraceWhy::MissingField(field) => write!(out, "missing-field {}", field_word(field)),
+        TraceWhy::BadField(field) => write!(out, "bad-field {}", field_word(field)),
+        TraceWhy::UnknownEvent => out.push_str("unknown-event"),
+        TraceWhy::NotBuilt => out.push_str("not-built"),
+        TraceWhy::OutOfOrder => out.push_str("out-of-order"),
+        TraceWhy::PastEnd => out.push_str("past-end"),
+        TraceWhy::NameTaken => out.push_str("name-taken"),
+        TraceWhy::NoSuchJob => out.push_str("no-such-job"),
+        TraceWhy::NoSuchNode => out.push_str("no-such-node"),
+        TraceWhy::BadStrl { offset, fault } => {
+            write!(out, "bad-strl {offset} {}", fault_word(fault))
+        }
+        TraceWhy::TooManyJobs => out.push_str("too-many-jobs"),
+    }
+}
+
+#[tactic(auto, unfolding(crate::specs::Status::bad_trace_words))]
+fn bad_trace_line(alloc: Global, line: u64, why: TraceWhy) -> Result<String, AllocError>
+    ensures { IfOk result (λ s. string_bytes s ≡ bad_trace_words line why) }
+{
+    let mut out = String::new(alloc);
+    write!(out, "bad trace: line {line}: ")?;
+    add_why(&mut out, why)?;
+    out.push_str("\n")?;
+    Ok(out)
+}
+
+/// Writes the line of a status, and nothing for `Done`. `Failed` comes only where the count of faults rose, and then a
+/// proper prefix was written.
+pub fn say<K: Sink>(alloc: Global, status: &Status, sink: &mut K) -> Result<(), SayFault>
+    ensures ok { OnOk result (K.written sink.new ≡ append_known (K.written sink.old) (status_words status.entry.now)) }
+    ensures failed { IsErrOf result SayFault.Failed → Rose (K.faults sink.old) (K.faults sink.new) }
+    ensures part { IsErrOf result SayFault.Failed
+        → AppendsPart (K.written sink.old) (K.written sink.new) (status_words status.entry.now) }
+    ensures memory { IsErrOf result SayFault.NoMemory → K.written sink.new ≡ K.written sink.old }
+    ensures later { K.faults sink.old ≤ K.faults sink.new }
+{
+    match status {
+        Status::Done => send_all(sink, b"")?,
+        Status::Usage => send_all(
+            sink,
+            b"usage: tetri plan TRACE | check TRACE REPORT | load N\n",
+        )?,
+        Status::ReadFault => send_all(sink, b"read fault\n")?,
+        Status::WriteFault => send_all(sink, b"write fault\n")?,
+        Status::BadTrace { line, why } => {
+            let text = bad_trace_line(alloc, *line, *why)?;
+            send_all(sink, text.as_bytes())?;
+        }
+        Status::NoMemory => send_all(sink, b"out of memory\n")?,
+    }
+    Ok(())
+}
