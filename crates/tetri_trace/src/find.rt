@@ -1,0 +1,20 @@
+// Jobs by name.
+ghost use Rattle.std.specs.Prelude.{◌≡◌, ◌<◌, length, IfSome};
+ghost use Rattle.tetri_cluster.specs.Names.{number_of};
+ghost use Rattle.tetri_trace.specs.Scenario.{job_names, scenario};
+ghost use Rattle.tetri_trace.specs.Sound.{IsSound};
+
+use crate::trace::Trace;
+
+/// The job with a name. `None` exactly where no job has it. It walks over the jobs.
+pub fn job_of(trace: &Trace, name: &[u8]) -> Option<u32>
+    requires { IsSound (scenario trace.now) }
+    ensures value { result ≡ number_of name.now (job_names (scenario trace.now).submissions) }
+    ensures within { IfSome result (λ job. job < length (scenario trace.now).submissions) }
+{
+    let job = trace
+        .jobs
+        .iter()
+        .position(|job| name == job.name.bytes())?;
+    Some(job as u32)
+}
