@@ -34,12 +34,16 @@ with_event s at what = record s { events = s.events ++ (record { at = at; what =
 abbrev pub with_job : Scenario → Submission → Scenario
 with_job s job = with_event (record s { submissions = s.submissions ++ job ∷ [] }) job.arrival (Arrive (length s.submissions))
 
+-- a job is taken unless 100,000 are there
+abbrev pub admitted : Scenario → Submission → Result Scenario TraceWhy
+admitted s job = if nat_lt (length s.submissions) 100000 then Ok (with_job s job) else Err TooManyJobs
+
 -- a job with this text arrives
 unfoldable pub arrived : Scenario → ℕ → List ℕ → ℤ → List ℕ → Result Scenario TraceWhy
 arrived s at name late text =
     if is_among name (job_names s.submissions) then Err NameTaken else do
-  said ← in_text (expression text s.header.unit at s.nodes s.sets)
-  if nat_lt (length s.submissions) 100000 then Ok (with_job (record s { sets = said.1 }) (record { name = name; arrival = at; late = late; demand = strl said.0 })) else Err TooManyJobs
+      said ← in_text (expression text s.header.unit at s.nodes s.sets)
+      admitted (record s { sets = said.1 }) (record { name = name; arrival = at; late = late; demand = strl said.0 })
 
 abbrev pub happened : Scenario → ℕ → Notice → Result Scenario TraceWhy
 happened s at (arrives name late text) = arrived s at name late text
@@ -63,14 +67,18 @@ add_object (Some s) d = add_event s d
 unfoldable pub add_line : Option Scenario → List ℕ × ℕ → Result (Option Scenario) TraceWhy
 add_line so_far line =
     if nat_lt 1048576 (length line.0) then Err LineTooLong else (if nat_lt 67108864 line.1 then Err TraceTooLong else (if is_blank line.0 then Ok so_far else (do
-  object ← object_in line.0
-  s ← add_object so_far object
-  Ok (Some s))))
+      object ← object_in line.0
+      s ← add_object so_far object
+      Ok (Some s))))
+
+-- a trace has a header, which is missed at the line behind the last one
+abbrev pub ended : Option Scenario → ℕ → Result Scenario (ℕ × TraceWhy)
+ended None line = Err (line, NoHeader)
+ended (Some s) line = Ok s
 
 -- the trace that these lines and those before them make, where the next line has this number
 abbrev pub from_lines : Option Scenario → ℕ → List (List ℕ × ℕ) → Result Scenario (ℕ × TraceWhy)
-from_lines None line [] = Err (line, NoHeader)
-from_lines (Some s) line [] = Ok s
+from_lines so_far line [] = ended so_far line
 from_lines so_far line (l ∷ ls) = at_line line (add_line so_far l) >>= λ more. from_lines more (line + 1) ls
 
 -- the trace that a content is, or its first faulty line with the first fault there; lines count from 1

@@ -12,7 +12,6 @@ use Rattle.tetri_trace.specs.declared.event.EventKey.{EventKey}
 use Rattle.tetri_trace.specs.declared.event.EventKey.TheVariants.{Arrive, Cancel, Drain, Undrain}
 use Rattle.tetri_trace.specs.declared.event.Notice as code
 use Rattle.tetri_trace.specs.declared.event.Notice.TheVariants as notices
-use Rattle.tetri_trace.specs.declared.fault.Field.{Field}
 use Rattle.tetri_trace.specs.declared.fault.Field.TheVariants as fields
 use Rattle.tetri_trace.specs.declared.fault.TraceWhy.{TraceWhy}
 use Rattle.tetri_trace.specs.declared.fault.TraceWhy.TheVariants.{NoHeader, MissingField, BadField, UnknownEvent, NotBuilt, NameTaken}

@@ -1,5 +1,5 @@
 // The values of an object.
-ghost use Rattle.std.specs.Prelude.{◌≡◌, ◌<◌, ◌≤◌, ◌≤ℤ◌, ◌^◌, pos, negsuc, true, codes, IfOk, IsOkUnless, option_map, ok_or};
+ghost use Rattle.std.specs.Prelude.{◌≡◌, ◌<◌, ◌≤◌, ◌≤ℤ◌, ◌^◌, pos, negsuc, true, codes, IfOk, option_map, ok_or};
 ghost use Rattle.serde_json.specs.View.{view};
 ghost use Rattle.tetri_cluster.specs.Names.{is_name};
 ghost use Rattle.tetri_trace.specs.Answers.{Gives};
@@ -10,7 +10,7 @@ ghost use Rattle.tetri_trace.specs.declared.fault.TraceWhy.TheVariants as whys;
 
 use crate::fault::{Field, Stop, TraceWhy};
 use serde_json::Value;
-use std::alloc::Global;
+use std::alloc::{AllocError, Global};
 use tetri_cluster::{Name, NameFault, is_name};
 
 /// The object that a line is.
@@ -55,16 +55,8 @@ pub(crate) fn required<'v>(object: &'v Value, key: &str, field: Field) -> Result
 pub(crate) fn optional<'v>(object: &'v Value, key: &str) -> Option<&'v Value>
     ensures { option_map (λ v. view v.now) result ≡ optional key.now (view object.now) }
 {
-    match object.get(key) {
-        Some(value) => {
-            if value.is_null() {
-                None
-            } else {
-                Some(value)
-            }
-        }
-        None => None,
-    }
+    let value = object.get(key)?;
+    if value.is_null() { None } else { Some(value) }
 }
 
 /// Whether a key is there, whatever it holds.
@@ -86,15 +78,14 @@ pub(crate) fn name_in(value: &Value, field: Field) -> Result<&str, Stop>
 }
 
 /// The name with this text.
-pub(crate) fn read_name(alloc: Global, text: &str) -> Result<Name, Stop>
+pub(crate) fn read_name(alloc: Global, text: &str) -> Result<Name, AllocError>
     requires { is_name text.now ≡ true }
-    ensures value { IfOk result (λ n. n ≡ text.now) }
-    ensures memory { IsOkUnless result Stop.NoMemory }
+    ensures { IfOk result (λ n. n ≡ text.now) }
 {
     match Name::read(alloc, text.as_bytes()) {
         Ok(name) => Ok(name),
         Err(NameFault::NotName) => unreachable!(),
-        Err(NameFault::NoMemory) => Err(Stop::NoMemory),
+        Err(NameFault::NoMemory) => Err(AllocError),
     }
 }
 

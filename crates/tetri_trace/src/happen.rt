@@ -1,5 +1,6 @@
 // What an event does to the trace that is read so far.
-ghost use Rattle.std.specs.Prelude.{◌≡◌, ◌<◌, ◌≤◌, ◌≤ℤ◌, pos, negsuc, true, false, None, length, IfOk, IsOkUnless, ok_or};
+ghost use Rattle.std.specs.Prelude.{◌≡◌, ◌<◌, ◌≤◌, ◌≤ℤ◌, pos, negsuc, true, false, nat_lt, AllPairs, None, length, IfOk, OnOk, IsOkUnless, ok_or};
+ghost use Rattle.std.specs.List.{list_any};
 ghost use Rattle.tetri_cluster.specs.Cluster.{names_of};
 ghost use Rattle.tetri_cluster.specs.Names.{is_among, is_name, number_of};
 ghost use Rattle.tetri_parse.specs.Expression.{expression};
@@ -7,7 +8,7 @@ ghost use Rattle.tetri_parse.specs.TextTree.{IsTextTree};
 ghost use Rattle.tetri_strl.specs.Tree.{tree};
 ghost use Rattle.tetri_trace.specs.Answers.{Gives, in_text};
 ghost use Rattle.tetri_trace.specs.Draft.{so_far, with_sets, IsNextSlot, IsSoundDraft};
-ghost use Rattle.tetri_trace.specs.Lines.{arrived, happened, next_slot, with_event, with_job};
+ghost use Rattle.tetri_trace.specs.Lines.{admitted, arrived, happened, next_slot, with_event};
 ghost use Rattle.tetri_trace.specs.Notices.{IsGoodNotice};
 ghost use Rattle.tetri_trace.specs.Objects.{notice};
 ghost use Rattle.tetri_trace.specs.Scenario.{job_names, submission};
@@ -25,16 +26,25 @@ use tetri_strl::Expr;
 
 const JOBS_MOST: usize = 100_000;
 
+// Whether one of the events comes after this slot.
+fn is_before_one(events: &[Event], at: u64) -> bool
+    requires { AllPairs (λ e f. e.at ≤ f.at) events.now }
+    ensures { result ≡ list_any (λ e. nat_lt at e.at) events.now }
+{
+    match events.last() {
+        Some(last) => at < u64::from(last.at),
+        None => false,
+    }
+}
+
 /// The slot of one more event, which no earlier event comes after.
 pub(crate) fn next_slot(draft: &Draft, at: u64) -> Result<u32, Stop>
     requires { IsSoundDraft draft.now }
     ensures value { Gives (λ n. n) result (next_slot (so_far draft.now) at) }
     ensures next { IfOk result (IsNextSlot (so_far draft.now)) }
 {
-    if let Some(last) = draft.events.last() {
-        if at < u64::from(last.at) {
-            return Err(Stop::Because(TraceWhy::OutOfOrder));
-        }
+    if is_before_one(&draft.events, at) {
+        return Err(Stop::Because(TraceWhy::OutOfOrder));
     }
     if at >= u64::from(draft.header.until) {
         return Err(Stop::Because(TraceWhy::PastEnd));
@@ -43,30 +53,31 @@ pub(crate) fn next_slot(draft: &Draft, at: u64) -> Result<u32, Stop>
 }
 
 // One event more, which brings no job.
-fn with_event(mut draft: Draft, at: u32, what: Happening) -> Result<Draft, Stop>
-    requires sound { IsSoundDraft draft }
-    requires next { IsNextSlot (so_far draft) at }
-    requires known { NamesKnown (so_far draft) what }
+fn with_event(draft: &mut Draft, at: u32, what: Happening) -> Result<(), Stop>
+    requires sound { IsSoundDraft draft.old }
+    requires next { IsNextSlot (so_far draft.old) at }
+    requires known { NamesKnown (so_far draft.old) what }
     requires no_arrival { arrival_in (record { at = at; what = what }) ≡ None }
-    ensures same { IfOk result (λ d. so_far d ≡ with_event (so_far draft) at what) }
-    ensures sound { IfOk result IsSoundDraft }
+    ensures same { OnOk result (so_far draft.new ≡ with_event (so_far draft.old) at what) }
+    ensures sound { OnOk result (IsSoundDraft draft.new) }
     ensures memory { IsOkUnless result Stop.NoMemory }
 {
     draft.events.push(Event { at, what })?;
-    Ok(draft)
+    Ok(())
 }
 
 // One job more, which arrives.
-fn with_job(mut draft: Draft, job: Job) -> Result<Draft, Stop>
-    requires sound { IsSoundDraft draft }
-    requires next { IsNextSlot (so_far draft) job.arrival }
-    requires job { IsSoundSubmission (so_far draft) (submission job) }
-    requires new { is_among job.name (job_names (so_far draft).submissions) ≡ false }
-    requires room { length draft.jobs.items < 100000 }
-    ensures same { IfOk result (λ d. so_far d ≡ with_job (so_far draft) (submission job)) }
-    ensures sound { IfOk result IsSoundDraft }
-    ensures memory { IsOkUnless result Stop.NoMemory }
+fn with_job(draft: &mut Draft, job: Job) -> Result<(), Stop>
+    requires sound { IsSoundDraft draft.old }
+    requires next { IsNextSlot (so_far draft.old) job.arrival }
+    requires job { IsSoundSubmission (so_far draft.old) (submission job) }
+    requires new { is_among job.name (job_names (so_far draft.old).submissions) ≡ false }
+    ensures gives { Gives (λ _. so_far draft.new) result (admitted (so_far draft.old) (submission job)) }
+    ensures sound { OnOk result (IsSoundDraft draft.new) }
 {
+    if draft.jobs.len() >= JOBS_MOST {
+        return Err(Stop::Because(TraceWhy::TooManyJobs));
+    }
     let arrival = Event {
         at: job.arrival,
         what: Happening::Arrive(draft.jobs.len() as u32),
@@ -74,23 +85,18 @@ fn with_job(mut draft: Draft, job: Job) -> Result<Draft, Stop>
     draft.names.add(job.name.bytes())?;
     draft.jobs.push(job)?;
     draft.events.push(arrival)?;
-    Ok(draft)
+    Ok(())
 }
 
-// The expression of a job that arrives at this slot, and the trace with the sets that it names.
-fn with_text(
-    alloc: Global,
-    mut draft: Draft,
-    at: u32,
-    text: &str,
-) -> Result<(Draft, Expr), Stop>
-    requires sound { IsSoundDraft draft }
-    requires slot { at < draft.header.until }
-    ensures value { Gives (λ x. (tree x.1, x.0.sets)) result
-        (in_text (expression text.now draft.header.unit at draft.cluster draft.sets)) }
-    ensures same { IfOk result (λ x. so_far x.0 ≡ with_sets (so_far draft) x.0.sets) }
-    ensures sound { IfOk result (λ x. IsSoundDraft x.0) }
-    ensures good { IfOk result (λ x. IsTextTree at (length x.0.sets) (tree x.1)) }
+// The expression of a job that arrives at this slot. The sets that it names come to the trace.
+fn with_text(alloc: Global, draft: &mut Draft, at: u32, text: &str) -> Result<Expr, Stop>
+    requires sound { IsSoundDraft draft.old }
+    requires slot { at < draft.old.header.until }
+    ensures value { Gives (λ e. (tree e, draft.new.sets)) result
+        (in_text (expression text.now draft.old.header.unit at draft.old.cluster draft.old.sets)) }
+    ensures same { so_far draft.new ≡ with_sets (so_far draft.old) draft.new.sets }
+    ensures sound { OnOk result (IsSoundDraft draft.new) }
+    ensures good { IfOk result (λ e. IsTextTree at (length draft.new.sets) (tree e)) }
 {
     match read_expr(
         alloc,
@@ -100,7 +106,10 @@ fn with_text(
         &draft.cluster,
         &mut draft.sets,
     ) {
-        Ok(expr) => Ok((draft, expr)),
+        Ok(expr) => {
+            let _ = draft.sets.len();
+            Ok(expr)
+        }
         Err(ParseFault::At { offset, fault }) => {
             Err(Stop::Because(TraceWhy::BadStrl { offset, fault }))
         }
@@ -112,33 +121,34 @@ fn with_text(
 #[tactic(auto, unfolding(crate::specs::Lines::arrived))]
 fn arrived(
     alloc: Global,
-    draft: Draft,
+    draft: &mut Draft,
     at: u32,
     name: &str,
     late: i32,
     text: &str,
-) -> Result<Draft, Stop>
-    requires sound { IsSoundDraft draft }
-    requires next { IsNextSlot (so_far draft) at }
+) -> Result<(), Stop>
+    requires sound { IsSoundDraft draft.old }
+    requires next { IsNextSlot (so_far draft.old) at }
     requires named { is_name name.now ≡ true }
     requires late { (negsuc 9999 ≤ℤ late) × (late ≤ℤ pos 10000) }
-    ensures gives { Gives so_far result (arrived (so_far draft) at name.now late text.now) }
-    ensures sound { IfOk result IsSoundDraft }
+    ensures gives { Gives (λ _. so_far draft.new) result (arrived (so_far draft.old) at name.now late text.now) }
+    ensures sound { OnOk result (IsSoundDraft draft.new) }
 {
     if draft.names.number(name.as_bytes()).is_some() {
         return Err(Stop::Because(TraceWhy::NameTaken));
     }
-    let (draft, expr) = with_text(alloc, draft, at, text)?;
-    if draft.jobs.len() >= JOBS_MOST {
-        return Err(Stop::Because(TraceWhy::TooManyJobs));
-    }
-    let job = Job {
-        name: read_name(alloc, name)?,
-        arrival: at,
-        late,
-        work: Work::Strl(expr),
-    };
-    with_job(draft, job)
+    let name = read_name(alloc, name)?;
+    let expr = with_text(alloc, draft, at, text)?;
+    let work = Work::Strl(expr);
+    with_job(
+        draft,
+        Job {
+            name,
+            arrival: at,
+            late,
+            work,
+        },
+    )
 }
 
 fn job_named(draft: &Draft, name: &str) -> Result<u32, Stop>
@@ -163,30 +173,25 @@ fn node_named(draft: &Draft, name: &str) -> Result<u32, Stop>
 }
 
 /// Adds what a notice says.
-pub(crate) fn happened(
-    alloc: Global,
-    draft: Draft,
-    at: u32,
-    said: Notice,
-) -> Result<Draft, Stop>
-    requires sound { IsSoundDraft draft }
-    requires next { IsNextSlot (so_far draft) at }
-    requires good { IsGoodNotice (notice said.entry) }
-    ensures gives { Gives so_far result (happened (so_far draft) at (notice said.entry)) }
-    ensures sound { IfOk result IsSoundDraft }
+pub(crate) fn happened(alloc: Global, draft: &mut Draft, at: u32, said: Notice) -> Result<(), Stop>
+    requires sound { IsSoundDraft draft.old }
+    requires next { IsNextSlot (so_far draft.old) at }
+    requires good { IsGoodNotice (notice said) }
+    ensures gives { Gives (λ _. so_far draft.new) result (happened (so_far draft.old) at (notice said.entry)) }
+    ensures sound { OnOk result (IsSoundDraft draft.new) }
 {
     match said {
         Notice::Arrive { name, late, text } => arrived(alloc, draft, at, name, late, text),
         Notice::Cancel(name) => {
-            let job = job_named(&draft, name)?;
+            let job = job_named(draft, name)?;
             with_event(draft, at, Happening::Cancel(job))
         }
         Notice::Drain(name) => {
-            let node = node_named(&draft, name)?;
+            let node = node_named(draft, name)?;
             with_event(draft, at, Happening::Drain(node))
         }
         Notice::Undrain(name) => {
-            let node = node_named(&draft, name)?;
+            let node = node_named(draft, name)?;
             with_event(draft, at, Happening::Undrain(node))
         }
     }

@@ -33,13 +33,13 @@ fn is_blank(line: &[u8]) -> bool
 }
 
 #[tactic(auto, unfolding(crate::specs::Lines::add_event))]
-fn add_event(alloc: Global, draft: Draft, object: &Value) -> Result<Draft, Stop>
-    requires { IsSoundDraft draft }
-    ensures gives { Gives so_far result (add_event (so_far draft) (view object.now)) }
-    ensures sound { IfOk result IsSoundDraft }
+fn add_event(alloc: Global, draft: &mut Draft, object: &Value) -> Result<(), Stop>
+    requires { IsSoundDraft draft.old }
+    ensures gives { Gives (λ _. so_far draft.new) result (add_event (so_far draft.old) (view object.now)) }
+    ensures sound { OnOk result (IsSoundDraft draft.new) }
 {
     let (at, notice) = event_in(object)?;
-    let at = next_slot(&draft, at)?;
+    let at = next_slot(draft, at)?;
     happened(alloc, draft, at, notice)
 }
 
@@ -50,7 +50,10 @@ fn add_object(alloc: Global, draft: Option<Draft>, object: &Value) -> Result<Dra
     ensures sound { IfOk result IsSoundDraft }
 {
     match draft {
-        Some(draft) => add_event(alloc, draft, object),
+        Some(mut draft) => {
+            add_event(alloc, &mut draft, object)?;
+            Ok(draft)
+        }
         None => header_in(alloc, object),
     }
 }

@@ -1,10 +1,10 @@
 // A whole trace.
-ghost use Rattle.std.specs.Prelude.{◌≡◌, ◌≤◌, List, ℕ, Some, [], IsErrOf, IfOk, option_map};
+ghost use Rattle.std.specs.Prelude.{◌≡◌, ◌≤◌, List, ℕ, Some, IsErrOf, IfOk, option_map};
 ghost use Rattle.std.specs.Option.{ForSome};
 ghost use Rattle.tetri_algebra.specs.Counts.{Rose};
 ghost use Rattle.tetri_trace.specs.Answers.{AnswersTrace, fault_at};
 ghost use Rattle.tetri_trace.specs.Draft.{so_far, IsSoundDraft};
-ghost use Rattle.tetri_trace.specs.Lines.{from_lines, scenario_in};
+ghost use Rattle.tetri_trace.specs.Lines.{ended, scenario_in};
 ghost use Rattle.tetri_trace.specs.Scenario.{scenario};
 ghost use Rattle.tetri_trace.specs.Sound.{IsSound};
 
@@ -53,7 +53,7 @@ pub fn read_trace<S: Shelf>(alloc: Global, shelf: &mut S, name: &str) -> Result<
 fn ended(alloc: Global, draft: Option<Draft>, line: u64) -> Result<Trace, TraceFault>
     requires { ForSome draft IsSoundDraft }
     ensures not_read { IsErrOf result TraceFault.Read → ⊥ }
-    ensures exact { AnswersTrace result (from_lines (option_map so_far draft) line []) }
+    ensures exact { AnswersTrace result (ended (option_map so_far draft) line) }
     ensures sound { IfOk result (λ t. IsSound (scenario t)) }
 {
     match draft {

@@ -1,0 +1,46 @@
+-- Lines that are refused before their object is read, and the end of a content.
+use Rattle.std.proofs.Common.{◌≡◌, ℕ, ◌+◌, ◌<◌, ◌≤◌, ◌==◌, true, false, cond, List, [], ◌∷◌, ◌++◌, length, drop, refl, ap, ◌∙◌, Err, arith, lt-ltb}
+use Rattle.std.specs.Prelude.{Option}
+use Rattle.std.proofs.lemmas.Bool.{le-ltb}
+use Rattle.tetri_io.specs.Lines.{line_of, lines_from, onto}
+use Rattle.tetri_io.proofs.Lines.{line_of-le, first_line}
+use Rattle.tetri_trace.specs.Answers.{Stops}
+use Rattle.tetri_trace.specs.Fields.{object_in}
+use Rattle.tetri_trace.specs.Lines.{add_line, from_lines, is_blank}
+use Rattle.tetri_trace.specs.Scenario.{Scenario}
+use Rattle.tetri_trace.specs.declared.fault.Stop.{Stop}
+use Rattle.tetri_trace.specs.declared.fault.Stop.TheVariants as stops
+use Rattle.tetri_trace.specs.declared.fault.TraceWhy.TheVariants.{LineTooLong}
+
+-- no object stands in a line
+pub no_object : (so_far : Option Scenario) (line : List ℕ) (next : ℕ) (stop : Stop) → length line ≤ 1048576 → next ≤ 67108864 → is_blank line ≡ false → Stops stop (object_in line) → Stops stop (add_line so_far (line, next))
+unfolding add_line
+no_object so_far line next (stops.Because why) short early text h = rw (le-ltb 1048576 (length line) short, le-ltb 67108864 next early, text, h) refl
+no_object so_far line next stops.NoMemory short early text h = tt
+
+-- a line with too many bytes is refused
+too_long : (so_far : Option Scenario) (line : ℕ) (l : List ℕ × ℕ) (others : List (List ℕ × ℕ)) → 1048576 < length l.0 → from_lines so_far line (l ∷ others) ≡ Err (line, LineTooLong)
+unfolding add_line
+too_long so_far line l others h = rw (lt-ltb 1048576 (length l.0) h) refl
+
+abbrev HasFirst : List (List ℕ × ℕ) → Type 0
+HasFirst ls = (first : List ℕ × ℕ) × (others : List (List ℕ × ℕ)) × (ls ≡ first ∷ others)
+
+onto_some : (x at : ℕ) (ls : List (List ℕ × ℕ)) → HasFirst (onto (x ∷ []) at ls)
+onto_some x at [] = ((x ∷ [], at), [], refl)
+onto_some x at (l ∷ ls) = (((x ∷ []) ++ l.0, l.1), ls, refl)
+
+some_line : (at : ℕ) (xs : List ℕ) → 0 < length xs → HasFirst (lines_from at xs)
+some_line at [] h = absurd (omega arith)
+some_line at (x ∷ xs) h =
+    elim (x == 10) as (λ b. HasFirst (cond b (([], at + 1) ∷ lines_from (at + 1) xs) (onto (x ∷ []) (at + 1) (lines_from (at + 1) xs)))) [
+      | true ↦ (([], at + 1), lines_from (at + 1) xs, refl)
+      | false ↦ onto_some x (at + 1) (lines_from (at + 1) xs)
+    ]
+
+-- the next line has too many bytes
+pub goes_too_long : (so_far : Option Scenario) (line : ℕ) (content : List ℕ) (offset : ℕ) → 1048576 < length (line_of (drop offset content)) → from_lines so_far line (lines_from offset (drop offset content)) ≡ Err (line, LineTooLong)
+goes_too_long so_far line content offset h =
+    let found = some_line offset (drop offset content) (omega (arith, h, line_of-le (drop offset content))) in
+    let first = first_line offset (drop offset content) found.0.0 found.0.1 found.1 found.2 in
+    ap (from_lines so_far line) found.2 ∙ too_long so_far line found.0 found.1 (omega (arith, h, ap length first.bytes_are))
