@@ -16,3 +16,6 @@ pub use fault::{Field, TraceFault, TraceWhy};
 pub use find::job_of;
 pub use read::read_trace;
 pub use trace::{Event, Happening, Header, Job, Trace, Work};
+
+#[cfg(test)]
+mod tests;
