@@ -163,265 +163,266 @@ fn jobs_are_found_by_name(rt: HostRuntime) -> Result<(), Fail> {
     Ok(())
 }
 
+const FAULTS: [(&[&str], u64, TraceWhy); 47] = [
+    (&[HEADER, JOB, "{\"at\":0"], 3, TraceWhy::NotJson),
+    (&[HEADER, "[{}"], 2, TraceWhy::NotJson),
+    (&[HEADER, "{\"at\":-1} {}"], 2, TraceWhy::NotJson),
+    (&[HEADER, "{\"at\":-1,\"x\":1e400}"], 2, TraceWhy::NotJson),
+    (&["[]"], 1, TraceWhy::NotObject),
+    (&[HEADER, "[\"at\"]"], 2, TraceWhy::NotObject),
+    (&[HEADER, "null"], 2, TraceWhy::NotObject),
+    (&["{\"window\":0}"], 1, TraceWhy::NoHeader),
+    (&["", JOB, HEADER], 2, TraceWhy::NoHeader),
+    (&["", " \t\r"], 3, TraceWhy::NoHeader),
+    (
+        &["{\"nodes\":[],\"budget\":0}"],
+        1,
+        TraceWhy::MissingField(Field::Window),
+    ),
+    (
+        &["{\"nodes\":[],\"window\":0,\"until\":1}"],
+        1,
+        TraceWhy::MissingField(Field::Budget),
+    ),
+    (
+        &["{\"nodes\":[],\"window\":0,\"budget\":1}"],
+        1,
+        TraceWhy::MissingField(Field::Until),
+    ),
+    (
+        &["{\"nodes\":[],\"window\":0,\"budget\":0,\"until\":0,\"unit\":0}"],
+        1,
+        TraceWhy::BadField(Field::Nodes),
+    ),
+    (
+        &[
+            "{\"nodes\":[{\"name\":\"n\"},{\"name\":\"n\"}],\"window\":0,\"budget\":0,\"until\":0,\"unit\":0}",
+        ],
+        1,
+        TraceWhy::BadField(Field::Window),
+    ),
+    (
+        &[
+            "{\"nodes\":[{\"name\":\"n\"},{\"name\":\"n\"}],\"window\":1,\"budget\":0,\"until\":0,\"unit\":0}",
+        ],
+        1,
+        TraceWhy::BadField(Field::Budget),
+    ),
+    (
+        &[
+            "{\"nodes\":[{\"name\":\"n\"},{\"name\":\"n\"}],\"window\":1,\"budget\":1,\"until\":0,\"unit\":0}",
+        ],
+        1,
+        TraceWhy::BadField(Field::Until),
+    ),
+    (
+        &[
+            "{\"nodes\":[{\"name\":\"n\"},{\"name\":\"n\"}],\"window\":1,\"budget\":1,\"until\":1,\"unit\":0}",
+        ],
+        1,
+        TraceWhy::BadField(Field::Unit),
+    ),
+    (
+        &[
+            "{\"nodes\":[{\"name\":\"n\"},{\"name\":\"n\"}],\"window\":1,\"budget\":1,\"until\":1,\"unit\":1}",
+            JOB,
+            JOB,
+        ],
+        1,
+        TraceWhy::NameTaken,
+    ),
+    (
+        &[HEADER, "{\"arrive\":\"j 1\"}"],
+        2,
+        TraceWhy::MissingField(Field::At),
+    ),
+    (
+        &[HEADER, "{\"at\":-1,\"arrive\":\"j1\",\"cancel\":\"j1\"}"],
+        2,
+        TraceWhy::BadField(Field::At),
+    ),
+    (&[HEADER, "{\"at\":3}"], 2, TraceWhy::UnknownEvent),
+    (
+        &[HEADER, "{\"at\":3,\"arrive\":\"j 1\",\"cancel\":\"j1\"}"],
+        2,
+        TraceWhy::UnknownEvent,
+    ),
+    (
+        &[HEADER, "{\"at\":3,\"drain\":\"n9\",\"undrain\":\"n9\"}"],
+        2,
+        TraceWhy::UnknownEvent,
+    ),
+    (
+        &[
+            HEADER,
+            "{\"at\":3,\"arrive\":\"j 1\",\"ask\":{},\"late\":\"0\"}",
+        ],
+        2,
+        TraceWhy::NotBuilt,
+    ),
+    (
+        &[HEADER, "{\"at\":3,\"arrive\":\"j 1\",\"late\":\"0\"}"],
+        2,
+        TraceWhy::MissingField(Field::Strl),
+    ),
+    (
+        &[
+            HEADER,
+            "{\"at\":3,\"arrive\":\"j 1\",\"late\":\"0\",\"strl\":1}",
+        ],
+        2,
+        TraceWhy::BadField(Field::Arrive),
+    ),
+    (
+        &[HEADER, "{\"at\":3,\"cancel\":\"j 1\"}"],
+        2,
+        TraceWhy::BadField(Field::Cancel),
+    ),
+    (
+        &[HEADER, "{\"at\":3,\"drain\":\"n 1\"}"],
+        2,
+        TraceWhy::BadField(Field::Drain),
+    ),
+    (
+        &[HEADER, "{\"at\":3,\"undrain\":\"n 1\"}"],
+        2,
+        TraceWhy::BadField(Field::Undrain),
+    ),
+    (
+        &[
+            HEADER,
+            "{\"at\":3,\"arrive\":\"j1\",\"late\":\"0\",\"strl\":1}",
+        ],
+        2,
+        TraceWhy::BadField(Field::Late),
+    ),
+    (
+        &[HEADER, "{\"at\":3,\"arrive\":\"j1\",\"strl\":1}"],
+        2,
+        TraceWhy::BadField(Field::Strl),
+    ),
+    (
+        &[
+            HEADER,
+            "{\"at\":3,\"arrive\":\"j1\",\"strl\":\"nCk(\",\"ask\":{}}",
+        ],
+        2,
+        TraceWhy::BadField(Field::Strl),
+    ),
+    (
+        &[
+            HEADER,
+            JOB,
+            "{\"at\":0,\"arrive\":\"j1\",\"strl\":\"nCk(\"}",
+        ],
+        3,
+        TraceWhy::OutOfOrder,
+    ),
+    (
+        &[HEADER, JOB, "{\"at\":0,\"cancel\":\"j9\"}"],
+        3,
+        TraceWhy::OutOfOrder,
+    ),
+    (
+        &[
+            HEADER,
+            JOB,
+            "{\"at\":3,\"arrive\":\"j1\",\"strl\":\"nCk(\"}",
+        ],
+        3,
+        TraceWhy::PastEnd,
+    ),
+    (
+        &[HEADER, "{\"at\":3,\"drain\":\"n9\"}"],
+        2,
+        TraceWhy::PastEnd,
+    ),
+    (
+        &[
+            HEADER,
+            JOB,
+            "",
+            "{\"at\":1,\"arrive\":\"j1\",\"strl\":\"nCk(\"}",
+        ],
+        4,
+        TraceWhy::NameTaken,
+    ),
+    (
+        &[HEADER, "{\"at\":0,\"cancel\":\"j9\"}"],
+        2,
+        TraceWhy::NoSuchJob,
+    ),
+    (
+        &[HEADER, "{\"at\":1,\"cancel\":\"j1\"}", JOB],
+        2,
+        TraceWhy::NoSuchJob,
+    ),
+    (
+        &[HEADER, JOB, "{\"at\":1,\"cancel\":\"n1\"}"],
+        3,
+        TraceWhy::NoSuchJob,
+    ),
+    (
+        &[HEADER, JOB, "{\"at\":1,\"drain\":\"j1\"}"],
+        3,
+        TraceWhy::NoSuchNode,
+    ),
+    (
+        &[HEADER, "{\"at\":0,\"undrain\":\"n4\"}"],
+        2,
+        TraceWhy::NoSuchNode,
+    ),
+    (
+        &[
+            HEADER,
+            "{\"at\":0,\"arrive\":\"j1\",\"strl\":\"nCk(*,1,0,1,1\"}",
+        ],
+        2,
+        TraceWhy::BadStrl {
+            offset: 13,
+            fault: Fault::Ended,
+        },
+    ),
+    (
+        &[
+            HEADER,
+            JOB,
+            "{\"at\":1,\"arrive\":\"j2\",\"strl\":\"nCk(cpu,1,0,1,1)\"}",
+            "{",
+        ],
+        3,
+        TraceWhy::BadStrl {
+            offset: 4,
+            fault: Fault::UnknownSet,
+        },
+    ),
+    (
+        &[
+            HEADER,
+            "{\"at\":0,\"arrive\":\"j1\",\"strl\":\"min(nCk(*,1,0,1,1), nCk(*,1,1,1,1))\"}",
+        ],
+        2,
+        TraceWhy::BadStrl {
+            offset: 20,
+            fault: Fault::Mixed,
+        },
+    ),
+    (
+        &[
+            "{\"nodes\":[{\"name\":\"n1\"}],\"window\":4,\"budget\":9,\"until\":1}",
+            "{\"at\":0,\"arrive\":\"j1\",\"strl\":\"LnCk(*,4,0,1,6)\"}",
+        ],
+        2,
+        TraceWhy::BadStrl {
+            offset: 13,
+            fault: Fault::Uneven,
+        },
+    ),
+];
+
 #[test]
 fn the_first_fault_is_told(rt: HostRuntime) -> Result<(), Fail> {
-    let table: [(&[&str], u64, TraceWhy); 47] = [
-        (&[HEADER, JOB, "{\"at\":0"], 3, TraceWhy::NotJson),
-        (&[HEADER, "[{}"], 2, TraceWhy::NotJson),
-        (&[HEADER, "{\"at\":-1} {}"], 2, TraceWhy::NotJson),
-        (&[HEADER, "{\"at\":-1,\"x\":1e400}"], 2, TraceWhy::NotJson),
-        (&["[]"], 1, TraceWhy::NotObject),
-        (&[HEADER, "[\"at\"]"], 2, TraceWhy::NotObject),
-        (&[HEADER, "null"], 2, TraceWhy::NotObject),
-        (&["{\"window\":0}"], 1, TraceWhy::NoHeader),
-        (&["", JOB, HEADER], 2, TraceWhy::NoHeader),
-        (&["", " \t\r"], 3, TraceWhy::NoHeader),
-        (
-            &["{\"nodes\":[],\"budget\":0}"],
-            1,
-            TraceWhy::MissingField(Field::Window),
-        ),
-        (
-            &["{\"nodes\":[],\"window\":0,\"until\":1}"],
-            1,
-            TraceWhy::MissingField(Field::Budget),
-        ),
-        (
-            &["{\"nodes\":[],\"window\":0,\"budget\":1}"],
-            1,
-            TraceWhy::MissingField(Field::Until),
-        ),
-        (
-            &["{\"nodes\":[],\"window\":0,\"budget\":0,\"until\":0,\"unit\":0}"],
-            1,
-            TraceWhy::BadField(Field::Nodes),
-        ),
-        (
-            &[
-                "{\"nodes\":[{\"name\":\"n\"},{\"name\":\"n\"}],\"window\":0,\"budget\":0,\"until\":0,\"unit\":0}",
-            ],
-            1,
-            TraceWhy::BadField(Field::Window),
-        ),
-        (
-            &[
-                "{\"nodes\":[{\"name\":\"n\"},{\"name\":\"n\"}],\"window\":1,\"budget\":0,\"until\":0,\"unit\":0}",
-            ],
-            1,
-            TraceWhy::BadField(Field::Budget),
-        ),
-        (
-            &[
-                "{\"nodes\":[{\"name\":\"n\"},{\"name\":\"n\"}],\"window\":1,\"budget\":1,\"until\":0,\"unit\":0}",
-            ],
-            1,
-            TraceWhy::BadField(Field::Until),
-        ),
-        (
-            &[
-                "{\"nodes\":[{\"name\":\"n\"},{\"name\":\"n\"}],\"window\":1,\"budget\":1,\"until\":1,\"unit\":0}",
-            ],
-            1,
-            TraceWhy::BadField(Field::Unit),
-        ),
-        (
-            &[
-                "{\"nodes\":[{\"name\":\"n\"},{\"name\":\"n\"}],\"window\":1,\"budget\":1,\"until\":1,\"unit\":1}",
-                JOB,
-                JOB,
-            ],
-            1,
-            TraceWhy::NameTaken,
-        ),
-        (
-            &[HEADER, "{\"arrive\":\"j 1\"}"],
-            2,
-            TraceWhy::MissingField(Field::At),
-        ),
-        (
-            &[HEADER, "{\"at\":-1,\"arrive\":\"j1\",\"cancel\":\"j1\"}"],
-            2,
-            TraceWhy::BadField(Field::At),
-        ),
-        (&[HEADER, "{\"at\":3}"], 2, TraceWhy::UnknownEvent),
-        (
-            &[HEADER, "{\"at\":3,\"arrive\":\"j 1\",\"cancel\":\"j1\"}"],
-            2,
-            TraceWhy::UnknownEvent,
-        ),
-        (
-            &[HEADER, "{\"at\":3,\"drain\":\"n9\",\"undrain\":\"n9\"}"],
-            2,
-            TraceWhy::UnknownEvent,
-        ),
-        (
-            &[
-                HEADER,
-                "{\"at\":3,\"arrive\":\"j 1\",\"ask\":{},\"late\":\"0\"}",
-            ],
-            2,
-            TraceWhy::NotBuilt,
-        ),
-        (
-            &[HEADER, "{\"at\":3,\"arrive\":\"j 1\",\"late\":\"0\"}"],
-            2,
-            TraceWhy::MissingField(Field::Strl),
-        ),
-        (
-            &[
-                HEADER,
-                "{\"at\":3,\"arrive\":\"j 1\",\"late\":\"0\",\"strl\":1}",
-            ],
-            2,
-            TraceWhy::BadField(Field::Arrive),
-        ),
-        (
-            &[HEADER, "{\"at\":3,\"cancel\":\"j 1\"}"],
-            2,
-            TraceWhy::BadField(Field::Cancel),
-        ),
-        (
-            &[HEADER, "{\"at\":3,\"drain\":\"n 1\"}"],
-            2,
-            TraceWhy::BadField(Field::Drain),
-        ),
-        (
-            &[HEADER, "{\"at\":3,\"undrain\":\"n 1\"}"],
-            2,
-            TraceWhy::BadField(Field::Undrain),
-        ),
-        (
-            &[
-                HEADER,
-                "{\"at\":3,\"arrive\":\"j1\",\"late\":\"0\",\"strl\":1}",
-            ],
-            2,
-            TraceWhy::BadField(Field::Late),
-        ),
-        (
-            &[HEADER, "{\"at\":3,\"arrive\":\"j1\",\"strl\":1}"],
-            2,
-            TraceWhy::BadField(Field::Strl),
-        ),
-        (
-            &[
-                HEADER,
-                "{\"at\":3,\"arrive\":\"j1\",\"strl\":\"nCk(\",\"ask\":{}}",
-            ],
-            2,
-            TraceWhy::BadField(Field::Strl),
-        ),
-        (
-            &[
-                HEADER,
-                JOB,
-                "{\"at\":0,\"arrive\":\"j1\",\"strl\":\"nCk(\"}",
-            ],
-            3,
-            TraceWhy::OutOfOrder,
-        ),
-        (
-            &[HEADER, JOB, "{\"at\":0,\"cancel\":\"j9\"}"],
-            3,
-            TraceWhy::OutOfOrder,
-        ),
-        (
-            &[
-                HEADER,
-                JOB,
-                "{\"at\":3,\"arrive\":\"j1\",\"strl\":\"nCk(\"}",
-            ],
-            3,
-            TraceWhy::PastEnd,
-        ),
-        (
-            &[HEADER, "{\"at\":3,\"drain\":\"n9\"}"],
-            2,
-            TraceWhy::PastEnd,
-        ),
-        (
-            &[
-                HEADER,
-                JOB,
-                "",
-                "{\"at\":1,\"arrive\":\"j1\",\"strl\":\"nCk(\"}",
-            ],
-            4,
-            TraceWhy::NameTaken,
-        ),
-        (
-            &[HEADER, "{\"at\":0,\"cancel\":\"j9\"}"],
-            2,
-            TraceWhy::NoSuchJob,
-        ),
-        (
-            &[HEADER, "{\"at\":1,\"cancel\":\"j1\"}", JOB],
-            2,
-            TraceWhy::NoSuchJob,
-        ),
-        (
-            &[HEADER, JOB, "{\"at\":1,\"cancel\":\"n1\"}"],
-            3,
-            TraceWhy::NoSuchJob,
-        ),
-        (
-            &[HEADER, JOB, "{\"at\":1,\"drain\":\"j1\"}"],
-            3,
-            TraceWhy::NoSuchNode,
-        ),
-        (
-            &[HEADER, "{\"at\":0,\"undrain\":\"n4\"}"],
-            2,
-            TraceWhy::NoSuchNode,
-        ),
-        (
-            &[
-                HEADER,
-                "{\"at\":0,\"arrive\":\"j1\",\"strl\":\"nCk(*,1,0,1,1\"}",
-            ],
-            2,
-            TraceWhy::BadStrl {
-                offset: 13,
-                fault: Fault::Ended,
-            },
-        ),
-        (
-            &[
-                HEADER,
-                JOB,
-                "{\"at\":1,\"arrive\":\"j2\",\"strl\":\"nCk(cpu,1,0,1,1)\"}",
-                "{",
-            ],
-            3,
-            TraceWhy::BadStrl {
-                offset: 4,
-                fault: Fault::UnknownSet,
-            },
-        ),
-        (
-            &[
-                HEADER,
-                "{\"at\":0,\"arrive\":\"j1\",\"strl\":\"min(nCk(*,1,0,1,1), nCk(*,1,1,1,1))\"}",
-            ],
-            2,
-            TraceWhy::BadStrl {
-                offset: 20,
-                fault: Fault::Mixed,
-            },
-        ),
-        (
-            &[
-                "{\"nodes\":[{\"name\":\"n1\"}],\"window\":4,\"budget\":9,\"until\":1}",
-                "{\"at\":0,\"arrive\":\"j1\",\"strl\":\"LnCk(*,4,0,1,6)\"}",
-            ],
-            2,
-            TraceWhy::BadStrl {
-                offset: 13,
-                fault: Fault::Uneven,
-            },
-        ),
-    ];
-    for (lines, line, why) in table {
+    for (lines, line, why) in FAULTS {
         assert_eq!(rt;
             answer_to(rt.alloc(), lines)?.err(),
             Some(TraceFault::Bad { line, why }),
@@ -431,227 +432,228 @@ fn the_first_fault_is_told(rt: HostRuntime) -> Result<(), Fail> {
     Ok(())
 }
 
+const HEADERS: [(&str, &str, Option<TraceWhy>); 60] = [
+    ("\"nodes\"", "\"node\"", Some(TraceWhy::NoHeader)),
+    (
+        "\"nodes\":[",
+        "\"nodes\":null,\"node\":[",
+        Some(TraceWhy::BadField(Field::Nodes)),
+    ),
+    (
+        "\"nodes\":[",
+        "\"nodes\":{},\"node\":[",
+        Some(TraceWhy::BadField(Field::Nodes)),
+    ),
+    (
+        "\"nodes\":[",
+        "\"nodes\":\"n1\",\"node\":[",
+        Some(TraceWhy::BadField(Field::Nodes)),
+    ),
+    (
+        "\"nodes\":[",
+        "\"nodes\":[],\"node\":[",
+        Some(TraceWhy::BadField(Field::Nodes)),
+    ),
+    (
+        "\"nodes\":[",
+        "\"nodes\":[null,",
+        Some(TraceWhy::BadField(Field::Nodes)),
+    ),
+    (
+        "\"nodes\":[",
+        "\"nodes\":[\"n4\",",
+        Some(TraceWhy::BadField(Field::Nodes)),
+    ),
+    (
+        "\"nodes\":[",
+        "\"nodes\":[{\"tags\":[]},",
+        Some(TraceWhy::BadField(Field::Nodes)),
+    ),
+    (
+        "\"name\":\"n2\"",
+        "\"name\":null",
+        Some(TraceWhy::BadField(Field::Nodes)),
+    ),
+    (
+        "\"name\":\"n2\"",
+        "\"name\":2",
+        Some(TraceWhy::BadField(Field::Nodes)),
+    ),
+    ("n2", "", Some(TraceWhy::BadField(Field::Nodes))),
+    ("n2", "n 2", Some(TraceWhy::BadField(Field::Nodes))),
+    (
+        "n2",
+        TOO_LONG_A_NAME,
+        Some(TraceWhy::BadField(Field::Nodes)),
+    ),
+    ("n2", LONGEST_NAME, None),
+    ("n2", "n1", Some(TraceWhy::NameTaken)),
+    ("[\"gpu\"]", "null", None),
+    ("[\"gpu\"]", "[]", None),
+    ("[\"gpu\"]", "[\"gpu\",\"gpu\",\"n1\"]", None),
+    (
+        "[\"gpu\"]",
+        "\"gpu\"",
+        Some(TraceWhy::BadField(Field::Nodes)),
+    ),
+    ("[\"gpu\"]", "{}", Some(TraceWhy::BadField(Field::Nodes))),
+    (
+        "[\"gpu\"]",
+        "[\"gpu\",1]",
+        Some(TraceWhy::BadField(Field::Nodes)),
+    ),
+    (
+        "[\"gpu\"]",
+        "[\"gpu\",null]",
+        Some(TraceWhy::BadField(Field::Nodes)),
+    ),
+    (
+        "[\"gpu\"]",
+        "[\"\"]",
+        Some(TraceWhy::BadField(Field::Nodes)),
+    ),
+    (
+        "[\"gpu\"]",
+        "[\"g&u\"]",
+        Some(TraceWhy::BadField(Field::Nodes)),
+    ),
+    (
+        "\"window\":4",
+        "\"windows\":4",
+        Some(TraceWhy::MissingField(Field::Window)),
+    ),
+    (
+        "\"window\":4",
+        "\"window\":null",
+        Some(TraceWhy::BadField(Field::Window)),
+    ),
+    (
+        "\"window\":4",
+        "\"window\":\"4\"",
+        Some(TraceWhy::BadField(Field::Window)),
+    ),
+    (
+        "\"window\":4",
+        "\"window\":0",
+        Some(TraceWhy::BadField(Field::Window)),
+    ),
+    (
+        "\"window\":4",
+        "\"window\":65",
+        Some(TraceWhy::BadField(Field::Window)),
+    ),
+    ("\"window\":4", "\"window\":1", None),
+    ("\"window\":4", "\"window\":64", None),
+    (
+        "\"budget\":9",
+        "\"budgets\":9",
+        Some(TraceWhy::MissingField(Field::Budget)),
+    ),
+    (
+        "\"budget\":9",
+        "\"budget\":null",
+        Some(TraceWhy::BadField(Field::Budget)),
+    ),
+    (
+        "\"budget\":9",
+        "\"budget\":\"9\"",
+        Some(TraceWhy::BadField(Field::Budget)),
+    ),
+    (
+        "\"budget\":9",
+        "\"budget\":0",
+        Some(TraceWhy::BadField(Field::Budget)),
+    ),
+    (
+        "\"budget\":9",
+        "\"budget\":10001",
+        Some(TraceWhy::BadField(Field::Budget)),
+    ),
+    ("\"budget\":9", "\"budget\":1", None),
+    ("\"budget\":9", "\"budget\":10000", None),
+    (
+        "\"until\":3",
+        "\"untils\":3",
+        Some(TraceWhy::MissingField(Field::Until)),
+    ),
+    (
+        "\"until\":3",
+        "\"until\":null",
+        Some(TraceWhy::BadField(Field::Until)),
+    ),
+    (
+        "\"until\":3",
+        "\"until\":\"3\"",
+        Some(TraceWhy::BadField(Field::Until)),
+    ),
+    (
+        "\"until\":3",
+        "\"until\":0",
+        Some(TraceWhy::BadField(Field::Until)),
+    ),
+    (
+        "\"until\":3",
+        "\"until\":10001",
+        Some(TraceWhy::BadField(Field::Until)),
+    ),
+    ("\"until\":3", "\"until\":2", None),
+    ("\"until\":3", "\"until\":10000", None),
+    (
+        "\"window\":4",
+        "\"window\":4.0",
+        Some(TraceWhy::BadField(Field::Window)),
+    ),
+    (
+        "\"window\":4",
+        "\"window\":true",
+        Some(TraceWhy::BadField(Field::Window)),
+    ),
+    (
+        "\"budget\":9",
+        "\"budget\":1e1",
+        Some(TraceWhy::BadField(Field::Budget)),
+    ),
+    (
+        "\"until\":3",
+        "\"until\":18446744073709551617",
+        Some(TraceWhy::BadField(Field::Until)),
+    ),
+    ("\"unit\":10", "\"units\":0", None),
+    ("\"unit\":10", "\"unit\":null", None),
+    ("\"unit\":10", "\"unit\":1", None),
+    ("\"unit\":10", "\"unit\":1000000", None),
+    (
+        "\"unit\":10",
+        "\"unit\":0",
+        Some(TraceWhy::BadField(Field::Unit)),
+    ),
+    (
+        "\"unit\":10",
+        "\"unit\":-1",
+        Some(TraceWhy::BadField(Field::Unit)),
+    ),
+    (
+        "\"unit\":10",
+        "\"unit\":1000001",
+        Some(TraceWhy::BadField(Field::Unit)),
+    ),
+    (
+        "\"unit\":10",
+        "\"unit\":\"10\"",
+        Some(TraceWhy::BadField(Field::Unit)),
+    ),
+    ("\"window\":4", "\"window\":0,\"window\":4", None),
+    (
+        "\"window\":4",
+        "\"window\":4,\"window\":0",
+        Some(TraceWhy::BadField(Field::Window)),
+    ),
+    ("\"until\":3", "\"until\":3,\"at\":-1,\"arrive\":null", None),
+];
+
 #[test]
 fn headers_are_judged(rt: HostRuntime) -> Result<(), Fail> {
-    let table = [
-        ("\"nodes\"", "\"node\"", Some(TraceWhy::NoHeader)),
-        (
-            "\"nodes\":[",
-            "\"nodes\":null,\"node\":[",
-            Some(TraceWhy::BadField(Field::Nodes)),
-        ),
-        (
-            "\"nodes\":[",
-            "\"nodes\":{},\"node\":[",
-            Some(TraceWhy::BadField(Field::Nodes)),
-        ),
-        (
-            "\"nodes\":[",
-            "\"nodes\":\"n1\",\"node\":[",
-            Some(TraceWhy::BadField(Field::Nodes)),
-        ),
-        (
-            "\"nodes\":[",
-            "\"nodes\":[],\"node\":[",
-            Some(TraceWhy::BadField(Field::Nodes)),
-        ),
-        (
-            "\"nodes\":[",
-            "\"nodes\":[null,",
-            Some(TraceWhy::BadField(Field::Nodes)),
-        ),
-        (
-            "\"nodes\":[",
-            "\"nodes\":[\"n4\",",
-            Some(TraceWhy::BadField(Field::Nodes)),
-        ),
-        (
-            "\"nodes\":[",
-            "\"nodes\":[{\"tags\":[]},",
-            Some(TraceWhy::BadField(Field::Nodes)),
-        ),
-        (
-            "\"name\":\"n2\"",
-            "\"name\":null",
-            Some(TraceWhy::BadField(Field::Nodes)),
-        ),
-        (
-            "\"name\":\"n2\"",
-            "\"name\":2",
-            Some(TraceWhy::BadField(Field::Nodes)),
-        ),
-        ("n2", "", Some(TraceWhy::BadField(Field::Nodes))),
-        ("n2", "n 2", Some(TraceWhy::BadField(Field::Nodes))),
-        (
-            "n2",
-            TOO_LONG_A_NAME,
-            Some(TraceWhy::BadField(Field::Nodes)),
-        ),
-        ("n2", LONGEST_NAME, None),
-        ("n2", "n1", Some(TraceWhy::NameTaken)),
-        ("[\"gpu\"]", "null", None),
-        ("[\"gpu\"]", "[]", None),
-        ("[\"gpu\"]", "[\"gpu\",\"gpu\",\"n1\"]", None),
-        (
-            "[\"gpu\"]",
-            "\"gpu\"",
-            Some(TraceWhy::BadField(Field::Nodes)),
-        ),
-        ("[\"gpu\"]", "{}", Some(TraceWhy::BadField(Field::Nodes))),
-        (
-            "[\"gpu\"]",
-            "[\"gpu\",1]",
-            Some(TraceWhy::BadField(Field::Nodes)),
-        ),
-        (
-            "[\"gpu\"]",
-            "[\"gpu\",null]",
-            Some(TraceWhy::BadField(Field::Nodes)),
-        ),
-        (
-            "[\"gpu\"]",
-            "[\"\"]",
-            Some(TraceWhy::BadField(Field::Nodes)),
-        ),
-        (
-            "[\"gpu\"]",
-            "[\"g&u\"]",
-            Some(TraceWhy::BadField(Field::Nodes)),
-        ),
-        (
-            "\"window\":4",
-            "\"windows\":4",
-            Some(TraceWhy::MissingField(Field::Window)),
-        ),
-        (
-            "\"window\":4",
-            "\"window\":null",
-            Some(TraceWhy::BadField(Field::Window)),
-        ),
-        (
-            "\"window\":4",
-            "\"window\":\"4\"",
-            Some(TraceWhy::BadField(Field::Window)),
-        ),
-        (
-            "\"window\":4",
-            "\"window\":0",
-            Some(TraceWhy::BadField(Field::Window)),
-        ),
-        (
-            "\"window\":4",
-            "\"window\":65",
-            Some(TraceWhy::BadField(Field::Window)),
-        ),
-        ("\"window\":4", "\"window\":1", None),
-        ("\"window\":4", "\"window\":64", None),
-        (
-            "\"budget\":9",
-            "\"budgets\":9",
-            Some(TraceWhy::MissingField(Field::Budget)),
-        ),
-        (
-            "\"budget\":9",
-            "\"budget\":null",
-            Some(TraceWhy::BadField(Field::Budget)),
-        ),
-        (
-            "\"budget\":9",
-            "\"budget\":\"9\"",
-            Some(TraceWhy::BadField(Field::Budget)),
-        ),
-        (
-            "\"budget\":9",
-            "\"budget\":0",
-            Some(TraceWhy::BadField(Field::Budget)),
-        ),
-        (
-            "\"budget\":9",
-            "\"budget\":10001",
-            Some(TraceWhy::BadField(Field::Budget)),
-        ),
-        ("\"budget\":9", "\"budget\":1", None),
-        ("\"budget\":9", "\"budget\":10000", None),
-        (
-            "\"until\":3",
-            "\"untils\":3",
-            Some(TraceWhy::MissingField(Field::Until)),
-        ),
-        (
-            "\"until\":3",
-            "\"until\":null",
-            Some(TraceWhy::BadField(Field::Until)),
-        ),
-        (
-            "\"until\":3",
-            "\"until\":\"3\"",
-            Some(TraceWhy::BadField(Field::Until)),
-        ),
-        (
-            "\"until\":3",
-            "\"until\":0",
-            Some(TraceWhy::BadField(Field::Until)),
-        ),
-        (
-            "\"until\":3",
-            "\"until\":10001",
-            Some(TraceWhy::BadField(Field::Until)),
-        ),
-        ("\"until\":3", "\"until\":2", None),
-        ("\"until\":3", "\"until\":10000", None),
-        (
-            "\"window\":4",
-            "\"window\":4.0",
-            Some(TraceWhy::BadField(Field::Window)),
-        ),
-        (
-            "\"window\":4",
-            "\"window\":true",
-            Some(TraceWhy::BadField(Field::Window)),
-        ),
-        (
-            "\"budget\":9",
-            "\"budget\":1e1",
-            Some(TraceWhy::BadField(Field::Budget)),
-        ),
-        (
-            "\"until\":3",
-            "\"until\":18446744073709551617",
-            Some(TraceWhy::BadField(Field::Until)),
-        ),
-        ("\"unit\":10", "\"units\":0", None),
-        ("\"unit\":10", "\"unit\":null", None),
-        ("\"unit\":10", "\"unit\":1", None),
-        ("\"unit\":10", "\"unit\":1000000", None),
-        (
-            "\"unit\":10",
-            "\"unit\":0",
-            Some(TraceWhy::BadField(Field::Unit)),
-        ),
-        (
-            "\"unit\":10",
-            "\"unit\":-1",
-            Some(TraceWhy::BadField(Field::Unit)),
-        ),
-        (
-            "\"unit\":10",
-            "\"unit\":1000001",
-            Some(TraceWhy::BadField(Field::Unit)),
-        ),
-        (
-            "\"unit\":10",
-            "\"unit\":\"10\"",
-            Some(TraceWhy::BadField(Field::Unit)),
-        ),
-        ("\"window\":4", "\"window\":0,\"window\":4", None),
-        (
-            "\"window\":4",
-            "\"window\":4,\"window\":0",
-            Some(TraceWhy::BadField(Field::Window)),
-        ),
-        ("\"until\":3", "\"until\":3,\"at\":-1,\"arrive\":null", None),
-    ];
-    for (old, new, why) in table {
+    for (old, new, why) in HEADERS {
         let fault = answer_with(rt.alloc(), HEADER, old, new)?.err();
         let told = why.map(|why| TraceFault::Bad { line: 1, why });
         assert_eq!(rt; fault, told, "with {new}");
@@ -659,141 +661,142 @@ fn headers_are_judged(rt: HostRuntime) -> Result<(), Fail> {
     Ok(())
 }
 
+const EVENTS: [(&str, &str, Option<TraceWhy>); 42] = [
+    ("\"at\":1,", "", Some(TraceWhy::MissingField(Field::At))),
+    (
+        "\"at\":1",
+        "\"at\":null",
+        Some(TraceWhy::BadField(Field::At)),
+    ),
+    (
+        "\"at\":1",
+        "\"at\":\"1\"",
+        Some(TraceWhy::BadField(Field::At)),
+    ),
+    (
+        "\"at\":1",
+        "\"at\":1.0",
+        Some(TraceWhy::BadField(Field::At)),
+    ),
+    ("\"at\":1", "\"at\":-1", Some(TraceWhy::BadField(Field::At))),
+    (
+        "\"at\":1",
+        "\"at\":9223372036854775808",
+        Some(TraceWhy::BadField(Field::At)),
+    ),
+    (
+        "\"at\":1",
+        "\"at\":9223372036854775807",
+        Some(TraceWhy::PastEnd),
+    ),
+    ("\"at\":1", "\"at\":3", Some(TraceWhy::PastEnd)),
+    ("\"at\":1", "\"at\":2", None),
+    ("\"at\":1", "\"at\":0", None),
+    ("\"at\":1", "\"at\":null,\"at\":1", None),
+    ("\"arrive\":\"j1\",", "", Some(TraceWhy::UnknownEvent)),
+    (
+        "\"arrive\"",
+        "\"cancel\":null,\"arrive\"",
+        Some(TraceWhy::UnknownEvent),
+    ),
+    (
+        "\"arrive\"",
+        "\"drain\":null,\"arrive\"",
+        Some(TraceWhy::UnknownEvent),
+    ),
+    (
+        "\"arrive\"",
+        "\"undrain\":null,\"arrive\"",
+        Some(TraceWhy::UnknownEvent),
+    ),
+    ("\"j1\"", "null", Some(TraceWhy::BadField(Field::Arrive))),
+    ("\"j1\"", "1", Some(TraceWhy::BadField(Field::Arrive))),
+    ("j1", "", Some(TraceWhy::BadField(Field::Arrive))),
+    ("j1", "j 1", Some(TraceWhy::BadField(Field::Arrive))),
+    (
+        "j1",
+        TOO_LONG_A_NAME,
+        Some(TraceWhy::BadField(Field::Arrive)),
+    ),
+    ("j1", LONGEST_NAME, None),
+    ("j1", "n1", None),
+    (
+        "\"arrive\":\"j1\"",
+        "\"cancel\":null",
+        Some(TraceWhy::BadField(Field::Cancel)),
+    ),
+    (
+        "\"arrive\":\"j1\"",
+        "\"drain\":null",
+        Some(TraceWhy::BadField(Field::Drain)),
+    ),
+    (
+        "\"arrive\":\"j1\"",
+        "\"undrain\":null",
+        Some(TraceWhy::BadField(Field::Undrain)),
+    ),
+    ("\"arrive\":\"j1\"", "\"drain\":\"n3\"", None),
+    ("\"arrive\":\"j1\"", "\"undrain\":\"n3\"", None),
+    ("\"at\"", "\"late\":null,\"at\"", None),
+    ("\"at\"", "\"late\":10000,\"at\"", None),
+    ("\"at\"", "\"late\":-10000,\"at\"", None),
+    (
+        "\"at\"",
+        "\"late\":10001,\"at\"",
+        Some(TraceWhy::BadField(Field::Late)),
+    ),
+    (
+        "\"at\"",
+        "\"late\":-10001,\"at\"",
+        Some(TraceWhy::BadField(Field::Late)),
+    ),
+    (
+        "\"at\"",
+        "\"late\":0.0,\"at\"",
+        Some(TraceWhy::BadField(Field::Late)),
+    ),
+    (
+        "\"at\"",
+        "\"late\":\"0\",\"at\"",
+        Some(TraceWhy::BadField(Field::Late)),
+    ),
+    ("\"at\"", "\"late\":\"0\",\"late\":null,\"at\"", None),
+    (
+        "\"strl\"",
+        "\"STRL\"",
+        Some(TraceWhy::MissingField(Field::Strl)),
+    ),
+    (
+        "\"nCk(*,2,1,3,5)\"",
+        "null",
+        Some(TraceWhy::BadField(Field::Strl)),
+    ),
+    (
+        "\"nCk(*,2,1,3,5)\"",
+        "[\"nCk(*,2,1,3,5)\"]",
+        Some(TraceWhy::BadField(Field::Strl)),
+    ),
+    (
+        "\"at\"",
+        "\"ask\":null,\"at\"",
+        Some(TraceWhy::BadField(Field::Strl)),
+    ),
+    (
+        "\"strl\":\"nCk(*,2,1,3,5)\"",
+        "\"ask\":null",
+        Some(TraceWhy::NotBuilt),
+    ),
+    ("\"at\"", "\"more\":[{\"at\":null}],\"at\"", None),
+    (
+        "nCk(*,2,1,3,5)",
+        " nCk\\t(\\n* ,02, 000,3,\\r0000000000000000000000005 ) ",
+        None,
+    ),
+];
+
 #[test]
 fn events_are_judged(rt: HostRuntime) -> Result<(), Fail> {
-    let table = [
-        ("\"at\":1,", "", Some(TraceWhy::MissingField(Field::At))),
-        (
-            "\"at\":1",
-            "\"at\":null",
-            Some(TraceWhy::BadField(Field::At)),
-        ),
-        (
-            "\"at\":1",
-            "\"at\":\"1\"",
-            Some(TraceWhy::BadField(Field::At)),
-        ),
-        (
-            "\"at\":1",
-            "\"at\":1.0",
-            Some(TraceWhy::BadField(Field::At)),
-        ),
-        ("\"at\":1", "\"at\":-1", Some(TraceWhy::BadField(Field::At))),
-        (
-            "\"at\":1",
-            "\"at\":9223372036854775808",
-            Some(TraceWhy::BadField(Field::At)),
-        ),
-        (
-            "\"at\":1",
-            "\"at\":9223372036854775807",
-            Some(TraceWhy::PastEnd),
-        ),
-        ("\"at\":1", "\"at\":3", Some(TraceWhy::PastEnd)),
-        ("\"at\":1", "\"at\":2", None),
-        ("\"at\":1", "\"at\":0", None),
-        ("\"at\":1", "\"at\":null,\"at\":1", None),
-        ("\"arrive\":\"j1\",", "", Some(TraceWhy::UnknownEvent)),
-        (
-            "\"arrive\"",
-            "\"cancel\":null,\"arrive\"",
-            Some(TraceWhy::UnknownEvent),
-        ),
-        (
-            "\"arrive\"",
-            "\"drain\":null,\"arrive\"",
-            Some(TraceWhy::UnknownEvent),
-        ),
-        (
-            "\"arrive\"",
-            "\"undrain\":null,\"arrive\"",
-            Some(TraceWhy::UnknownEvent),
-        ),
-        ("\"j1\"", "null", Some(TraceWhy::BadField(Field::Arrive))),
-        ("\"j1\"", "1", Some(TraceWhy::BadField(Field::Arrive))),
-        ("j1", "", Some(TraceWhy::BadField(Field::Arrive))),
-        ("j1", "j 1", Some(TraceWhy::BadField(Field::Arrive))),
-        (
-            "j1",
-            TOO_LONG_A_NAME,
-            Some(TraceWhy::BadField(Field::Arrive)),
-        ),
-        ("j1", LONGEST_NAME, None),
-        ("j1", "n1", None),
-        (
-            "\"arrive\":\"j1\"",
-            "\"cancel\":null",
-            Some(TraceWhy::BadField(Field::Cancel)),
-        ),
-        (
-            "\"arrive\":\"j1\"",
-            "\"drain\":null",
-            Some(TraceWhy::BadField(Field::Drain)),
-        ),
-        (
-            "\"arrive\":\"j1\"",
-            "\"undrain\":null",
-            Some(TraceWhy::BadField(Field::Undrain)),
-        ),
-        ("\"arrive\":\"j1\"", "\"drain\":\"n3\"", None),
-        ("\"arrive\":\"j1\"", "\"undrain\":\"n3\"", None),
-        ("\"at\"", "\"late\":null,\"at\"", None),
-        ("\"at\"", "\"late\":10000,\"at\"", None),
-        ("\"at\"", "\"late\":-10000,\"at\"", None),
-        (
-            "\"at\"",
-            "\"late\":10001,\"at\"",
-            Some(TraceWhy::BadField(Field::Late)),
-        ),
-        (
-            "\"at\"",
-            "\"late\":-10001,\"at\"",
-            Some(TraceWhy::BadField(Field::Late)),
-        ),
-        (
-            "\"at\"",
-            "\"late\":0.0,\"at\"",
-            Some(TraceWhy::BadField(Field::Late)),
-        ),
-        (
-            "\"at\"",
-            "\"late\":\"0\",\"at\"",
-            Some(TraceWhy::BadField(Field::Late)),
-        ),
-        ("\"at\"", "\"late\":\"0\",\"late\":null,\"at\"", None),
-        (
-            "\"strl\"",
-            "\"STRL\"",
-            Some(TraceWhy::MissingField(Field::Strl)),
-        ),
-        (
-            "\"nCk(*,2,1,3,5)\"",
-            "null",
-            Some(TraceWhy::BadField(Field::Strl)),
-        ),
-        (
-            "\"nCk(*,2,1,3,5)\"",
-            "[\"nCk(*,2,1,3,5)\"]",
-            Some(TraceWhy::BadField(Field::Strl)),
-        ),
-        (
-            "\"at\"",
-            "\"ask\":null,\"at\"",
-            Some(TraceWhy::BadField(Field::Strl)),
-        ),
-        (
-            "\"strl\":\"nCk(*,2,1,3,5)\"",
-            "\"ask\":null",
-            Some(TraceWhy::NotBuilt),
-        ),
-        ("\"at\"", "\"more\":[{\"at\":null}],\"at\"", None),
-        (
-            "nCk(*,2,1,3,5)",
-            " nCk\\t(\\n* ,02, 000,3,\\r0000000000000000000000005 ) ",
-            None,
-        ),
-    ];
-    for (old, new, why) in table {
+    for (old, new, why) in EVENTS {
         let fault = answer_with(rt.alloc(), JOB, old, new)?.err();
         let told = why.map(|why| TraceFault::Bad { line: 2, why });
         assert_eq!(rt; fault, told, "with {new}");
