@@ -1,54 +1,44 @@
-// Traces that are read, and that are not.
-use crate::{Event, Happening, Header, Trace, TraceFault, TraceWhy, Work, read_trace};
+// Traces that are read, and that are refused at their first faulty line.
+ghost use Rattle.std.specs.Prelude.{IfOk};
+ghost use Rattle.tetri_trace.specs.Scenario.{scenario};
+ghost use Rattle.tetri_trace.specs.Sound.{IsSound};
+
+use crate::{
+    Event, Field, Happening, Header, Trace, TraceFault, TraceWhy, Work, job_of, read_trace,
+};
 use std::alloc::{AllocError, Global};
 use std::test::Fail;
 use tetri_io::MemShelf;
 use tetri_parse::Fault;
 use tetri_strl::{Expr, Leaf};
 
-const EXAMPLE: &str =
-    "{\"nodes\":[{\"name\":\"n1\"},{\"name\":\"n2\"}],\"window\":4,\"budget\":9,\"until\":1}\n{\"at\":0,\"arrive\":\"j1\",\"strl\":\"nCk(*,2,0,3,5)\"}";
+const HEADER: &str =
+    "{\"nodes\":[{\"name\":\"n1\",\"tags\":[\"gpu\"]},{\"name\":\"n2\",\"tags\":[\"r1\",\"gpu\"]},{\"name\":\"n3\",\"tags\":null}],\"window\":4,\"budget\":9,\"until\":3,\"unit\":10}";
 
-const TAGGED_HEADER: &str =
-    "{\"nodes\":[{\"name\":\"n1\",\"tags\":[\"gpu\"]},{\"name\":\"n2\",\"tags\":[\"r1\",\"gpu\"]},{\"name\":\"n3\",\"tags\":null}],\"window\":4,\"budget\":9,\"until\":1,\"unit\":1000000}";
+const JOB: &str = "{\"at\":1,\"arrive\":\"j1\",\"strl\":\"nCk(*,2,1,3,5)\"}";
 
-const MAX_JOB: &str =
-    "{\"at\":0,\"arrive\":\"j1\",\"strl\":\"max(nCk(gpu,2,0,2,4), LnCk(*,3,1,3,6))\"}";
-
-const BARRIER_JOB: &str =
-    "{\"at\":0,\"arrive\":\"j2\",\"late\":null,\"strl\":\"barrier(nCk(gpu&r1,1,2,1,7),5)\"}";
-
-const UNKNOWN_SET_JOB: &str = "{\"at\":0,\"arrive\":\"j3\",\"strl\":\"nCk(cpu,1,0,1,1)\"}";
-
-const ENDED_JOB: &str = "{\"at\":0,\"arrive\":\"j4\",\"strl\":\"max(\"}";
-
-const LATE_JOB: &str = "{\"at\":0,\"arrive\":\"j5\",\"late\":1,\"strl\":\"nCk(*,1,0,1,1)\"}";
+const SECOND_JOB: &str =
+    "{\"at\":1,\"arrive\":\"j2\",\"late\":-3,\"strl\":\"max(LnCk(gpu&r1,4,0,2,6),nCk({n3,n1},1,2,1,4))\"}";
 
 const LONGEST_NAME: &str = "0123456789-abcdefghijklmnopqrstuvwxyz:ABCDEFGHIJKLMNOPQRSTUVWXYZ";
 
 const TOO_LONG_A_NAME: &str = "0123456789-abcdefghijklmnopqrstuvwxyz:ABCDEFGHIJKLMNOPQRSTUVWXYZ_";
 
-const NOT_BUILT: TraceFault = TraceFault::Bad {
-    line: 0,
-    why: TraceWhy::NotBuilt,
-};
+const LINE_MOST: usize = 1_048_576;
 
 // What reading a content answers.
-fn answer(alloc: Global, content: &[u8]) -> Result<Result<Trace, TraceFault>, AllocError> {
-    let mut shelf = MemShelf::new(alloc, 64, &[])?;
+fn answer(alloc: Global, content: &[u8]) -> Result<Result<Trace, TraceFault>, AllocError>
+    ensures { IfOk result (λ r. IfOk r (λ t. IsSound (scenario t))) }
+{
+    let mut shelf = MemShelf::new(alloc, 4000, &[])?;
     shelf.put("trace", content)?;
     Ok(read_trace(alloc, &mut shelf, "trace"))
 }
 
-// What reading the example answers, with one of its texts replaced.
-fn answer_with(alloc: Global, old: &str, new: &str) -> Result<Result<Trace, TraceFault>, Fail> {
-    let (front, back) = EXAMPLE.split_once(old).ok_or("no such text")?;
-    let content = format!(in alloc; "{front}{new}{back}")?;
-    Ok(answer(alloc, content.as_bytes())?)
-}
-
 // What reading these lines answers.
-fn answer_to(alloc: Global, lines: &[&str]) -> Result<Result<Trace, TraceFault>, AllocError> {
+fn answer_to(alloc: Global, lines: &[&str]) -> Result<Result<Trace, TraceFault>, AllocError>
+    ensures { IfOk result (λ r. IfOk r (λ t. IsSound (scenario t))) }
+{
     let mut content = String::new(alloc);
     for line in lines {
         content.push_str(line)?;
@@ -57,341 +47,382 @@ fn answer_to(alloc: Global, lines: &[&str]) -> Result<Result<Trace, TraceFault>,
     answer(alloc, content.as_bytes())
 }
 
-#[test]
-fn an_example_is_read(rt: HostRuntime) -> Result<(), Fail> {
-    let table = [
-        ("j1", "j1"),
-        ("{", " {"),
-        ("\n", " \t\r\n\r\n \t\n"),
-        ("5)\"}", "5)\"}\n"),
-        ("5)\"}", "5)\"} \n\t"),
-        (
-            "nCk(*,2,0,3,5)",
-            " nCk\\t(\\n* ,02, 000,3,\\r0000000000000000000000005 ) ",
-        ),
-        ("(*", "({n2, n1}"),
-        (",\"until\"", ",\"unit\":null,\"more\":[],\"until\""),
-        (",\"until\"", ",\"unit\":1,\"until\""),
-        ("\"at\"", "\"late\":null,\"at\""),
-        ("\"n1\"", "\"n1\",\"tags\":null"),
-        ("\"n1\"", "\"n1\",\"tags\":[]"),
-        ("\"n1\"", "\"n1\",\"tags\":[\"gpu\",\"n1\"]"),
-    ];
-    let alloc = rt.alloc();
-    for (old, new) in table {
-        let trace = answer_with(alloc, old, new)??;
-        let header = Header {
-            window: 4,
-            budget: 9,
-            until: 1,
-            unit: 1,
-        };
-        assert!(rt; trace.header == header, "with {new}");
-        assert_eq!(rt; trace.cluster.count(), 2, "with {new}");
-        assert_eq!(rt; trace.cluster.name_of(1).text(), "n2", "with {new}");
-        assert_eq!(rt; trace.sets.len(), 1, "with {new}");
-        assert_eq!(rt;
-            trace.sets.nodes_of(0).as_slice(),
-            [0, 1].as_slice(),
-            "with {new}"
-        );
-        assert_eq!(rt; trace.jobs.len(), 1, "with {new}");
-        let job = &trace.jobs[0];
-        assert_eq!(rt; job.name.text(), "j1", "with {new}");
-        assert_eq!(rt; (job.arrival, job.late), (0, 0), "with {new}");
-        let asked = Leaf {
-            num: 0,
-            set: 0,
-            k: 2,
-            start: 0,
-            dur: 3,
-            v: 5,
-            linear: false,
-        };
-        match &job.work {
-            Work::Strl(Expr::One(leaf)) => assert!(rt; *leaf == asked, "with {new}"),
-            _ => assert!(rt; false, "with {new}"),
-        }
-        let arrival = Event {
-            at: 0,
-            what: Happening::Arrive(0),
-        };
-        assert!(rt;
-            trace.events.as_slice() == [arrival].as_slice(),
-            "with {new}"
-        );
+// What reading the header and a job answers, with a text of one line replaced.
+fn answer_with(
+    alloc: Global,
+    line: &str,
+    old: &str,
+    new: &str,
+) -> Result<Result<Trace, TraceFault>, Fail> {
+    let (front, back) = line.split_once(old).ok_or("no such text")?;
+    let changed = format!(in alloc; "{front}{new}{back}")?;
+    if line == HEADER {
+        Ok(answer_to(alloc, &[changed.as_str(), JOB])?)
+    } else {
+        Ok(answer_to(alloc, &[HEADER, changed.as_str()])?)
     }
-    Ok(())
 }
 
 #[test]
-fn tags_are_read(rt: HostRuntime) -> Result<(), Fail> {
-    let trace = answer_to(rt.alloc(), &[TAGGED_HEADER, MAX_JOB, BARRIER_JOB])??;
+fn a_trace_is_read(rt: HostRuntime) -> Result<(), Fail> {
+    let lines = [
+        HEADER,
+        "{\"at\":0,\"drain\":\"n3\",\"late\":\"x\",\"strl\":0,\"ask\":null}",
+        JOB,
+        " \t\r",
+        SECOND_JOB,
+        "{\"at\":2,\"cancel\":\"j1\"}",
+        "{\"at\":2,\"undrain\":\"n3\"}",
+        "{\"at\":2,\"cancel\":\"j1\"}",
+    ];
+    let trace = answer_to(rt.alloc(), &lines)??;
+    let header = Header {
+        window: 4,
+        budget: 9,
+        until: 3,
+        unit: 10,
+    };
+    assert!(rt; trace.header == header);
     assert_eq!(rt; trace.cluster.count(), 3);
-    let table: [(u32, &[u8], bool); 6] = [
-        (0, b"gpu", true),
-        (0, b"r1", false),
-        (1, b"gpu", true),
-        (1, b"r1", true),
-        (2, b"gpu", false),
-        (2, b"r1", false),
-    ];
-    for (node, tag, has) in table {
-        assert!(rt; node < trace.cluster.count());
-        assert_eq!(rt; trace.cluster.has_tag(node, tag), has, "at node {node}");
-    }
+    assert_eq!(rt; trace.cluster.name_of(1).text(), "n2");
+    assert!(rt; trace.cluster.has_tag(1, b"r1"));
+    assert!(rt; !trace.cluster.has_tag(2, b"gpu"));
     assert_eq!(rt; trace.sets.len(), 3);
-    assert_eq!(rt; trace.sets.nodes_of(0).as_slice(), [0, 1].as_slice());
-    assert_eq!(rt; trace.sets.nodes_of(1).as_slice(), [0, 1, 2].as_slice());
-    assert_eq!(rt; trace.sets.nodes_of(2).as_slice(), [1].as_slice());
+    assert_eq!(rt; trace.sets.nodes_of(0).as_slice(), [0, 1, 2].as_slice());
+    assert_eq!(rt; trace.sets.nodes_of(1).as_slice(), [1].as_slice());
+    assert_eq!(rt; trace.sets.nodes_of(2).as_slice(), [0, 2].as_slice());
+    let events = [
+        event(0, Happening::Drain(2)),
+        event(1, Happening::Arrive(0)),
+        event(1, Happening::Arrive(1)),
+        event(2, Happening::Cancel(0)),
+        event(2, Happening::Undrain(2)),
+        event(2, Happening::Cancel(0)),
+    ];
+    assert!(rt; trace.events.as_slice() == events.as_slice());
     Ok(())
 }
 
+fn event(at: u32, what: Happening) -> Event {
+    Event { at, what }
+}
+
 #[test]
-fn worths_are_multiplied_by_the_unit(rt: HostRuntime) -> Result<(), Fail> {
-    let trace = answer_to(rt.alloc(), &[TAGGED_HEADER, MAX_JOB, BARRIER_JOB])??;
-    assert_eq!(rt; trace.header.unit, 1_000_000);
+fn jobs_are_read(rt: HostRuntime) -> Result<(), Fail> {
+    let trace = answer_to(rt.alloc(), &[HEADER, JOB, SECOND_JOB])??;
     assert_eq!(rt; trace.jobs.len(), 2);
-    let Work::Strl(Expr::Max(parts)) = &trace.jobs[0].work else {
+    let (first, second) = (&trace.jobs[0], &trace.jobs[1]);
+    assert_eq!(rt;
+        (first.name.text(), first.arrival, first.late),
+        ("j1", 1, 0)
+    );
+    assert_eq!(rt;
+        (second.name.text(), second.arrival, second.late),
+        ("j2", 1, -3)
+    );
+    let asked = Leaf {
+        num: 0,
+        set: 0,
+        k: 2,
+        start: 2,
+        dur: 3,
+        v: 50,
+        linear: false,
+    };
+    match &first.work {
+        Work::Strl(Expr::One(leaf)) => assert!(rt; *leaf == asked),
+        _ => return Err(Fail::from("no leaf")),
+    }
+    let Work::Strl(Expr::Max(parts)) = &second.work else {
         return Err(Fail::from("no max"));
     };
-    let [Expr::One(whole), Expr::One(linear)] = parts.as_slice() else {
+    let [Expr::One(linear), Expr::One(whole)] = parts.as_slice() else {
         return Err(Fail::from("no leaves"));
     };
-    assert_eq!(rt; (whole.num, whole.set, whole.k), (0, 0, 2));
-    assert_eq!(rt; (whole.start, whole.dur, whole.v), (0, 2, 4_000_000));
-    assert_eq!(rt; (linear.num, linear.set, linear.k), (1, 1, 3));
-    assert_eq!(rt; (linear.start, linear.dur, linear.v), (1, 3, 6_000_000));
-    assert_eq!(rt; (whole.linear, linear.linear), (false, true));
-    let Work::Strl(Expr::Barrier(part, least)) = &trace.jobs[1].work else {
-        return Err(Fail::from("no barrier"));
-    };
-    let Expr::One(leaf) = &**part else {
-        return Err(Fail::from("no leaf"));
-    };
-    assert_eq!(rt; (leaf.num, leaf.set, leaf.k), (0, 2, 1));
-    assert_eq!(rt; (leaf.start, leaf.dur, leaf.v), (2, 1, 7_000_000));
-    assert_eq!(rt; *least, 5_000_000);
+    assert_eq!(rt; (linear.num, linear.set, linear.k), (0, 1, 4));
+    assert_eq!(rt; (linear.start, linear.dur, linear.v), (1, 2, 60));
+    assert_eq!(rt; (whole.num, whole.set, whole.k), (1, 2, 1));
+    assert_eq!(rt; (whole.start, whole.dur, whole.v), (3, 1, 40));
+    assert_eq!(rt; (linear.linear, whole.linear), (true, false));
     Ok(())
 }
 
 #[test]
-fn limits_are_read(rt: HostRuntime) -> Result<(), Fail> {
-    let table = [
-        ("n1", LONGEST_NAME),
-        ("j1", LONGEST_NAME),
-        ("w\":4", "w\":1"),
-        ("w\":4", "w\":64"),
-        ("9", "10000"),
-        ("l\":1", "l\":1,\"unit\":1000000"),
-        ("*,2", "*,4096"),
-        ("0,3,5", "0,10000,1000000000000"),
-        ("2,0", "2,10000"),
-        ("3,5", "1,0"),
-        ("nCk(*,2,0,3,5)", "LnCk(*,5,0,3,5)"),
-        ("nCk(*,2,0,3,5)", "max(nCk(*,2,0,3,5),nCk(*,2,1,3,4))"),
-        ("nCk(*,2,0,3,5)", "min(nCk({n1},1,0,3,5),nCk({n2},1,0,3,5))"),
-        ("nCk(*,2,0,3,5)", "sum(nCk({},1,0,3,5),nCk(*,1,0,3,5))"),
-        ("nCk(*,2,0,3,5)", "scale(nCk(*,2,0,3,5),0)"),
-        ("nCk(*,2,0,3,5)", "barrier(nCk(*,2,0,3,5),6)"),
+fn jobs_are_found_by_name(rt: HostRuntime) -> Result<(), Fail> {
+    let trace = answer_to(rt.alloc(), &[HEADER, JOB, SECOND_JOB])??;
+    let table: [(&[u8], Option<u32>); 5] = [
+        (b"j1", Some(0)),
+        (b"j2", Some(1)),
+        (b"j3", None),
+        (b"n1", None),
+        (b"", None),
     ];
-    for (old, new) in table {
-        let fault = answer_with(rt.alloc(), old, new)?.err();
-        assert_eq!(rt; fault, None, "with {new}");
-    }
-    let trace = answer_to(rt.alloc(), &[TAGGED_HEADER])??;
-    assert_eq!(rt; (trace.jobs.len(), trace.events.len()), (0, 0));
-    assert_eq!(rt; trace.sets.len(), 0);
-    Ok(())
-}
-
-#[test]
-fn other_contents_are_refused(rt: HostRuntime) -> Result<(), Fail> {
-    let contents: [&[u8]; 9] = [
-        b"",
-        b" \t\r\n\n",
-        b"{",
-        b"\xff",
-        b"[]",
-        b"null",
-        b"\"nodes\"",
-        b"{}",
-        b"{\"at\":0,\"arrive\":\"j1\",\"strl\":\"nCk(*,2,0,3,5)\"}",
-    ];
-    for content in contents {
-        assert_eq!(rt;
-            answer(rt.alloc(), content)?.err(),
-            Some(NOT_BUILT),
-            "of {content:?}"
-        );
+    for (name, job) in table {
+        assert_eq!(rt; job_of(&trace, name), job, "of {name:?}");
     }
     Ok(())
 }
 
-#[test]
-fn other_headers_are_refused(rt: HostRuntime) -> Result<(), Fail> {
-    let table = [
-        ("nodes", "node"),
-        ("{\"name\":\"n1\"},{\"name\":\"n2\"}", ""),
-        ("n2", "n1"),
-        ("n2", ""),
-        ("n2", "n 2"),
-        ("n2", TOO_LONG_A_NAME),
-        ("\"n2\"", "2"),
-        ("\"n1\"", "\"n1\",\"tags\":\"gpu\""),
-        ("\"n1\"", "\"n1\",\"tags\":{}"),
-        ("\"n1\"", "\"n1\",\"tags\":[\"gpu\",1]"),
-        ("\"n1\"", "\"n1\",\"tags\":[\"gpu\",null]"),
-        ("\"n1\"", "\"n1\",\"tags\":[\"\"]"),
-        ("\"n1\"", "\"n1\",\"tags\":[\"g&u\"]"),
-        ("window", "windows"),
-        ("w\":4", "w\":0"),
-        ("w\":4", "w\":65"),
-        ("w\":4", "w\":4.0"),
-        ("w\":4", "w\":\"4\""),
-        ("budget", "budgets"),
-        ("9", "0"),
-        ("9", "10001"),
-        ("until", "till"),
-        ("l\":1", "l\":0"),
-        ("l\":1", "l\":2"),
-        ("l\":1", "l\":1,\"unit\":0"),
-        ("l\":1", "l\":1,\"unit\":1000001"),
-        ("l\":1", "l\":1,\"unit\":-1"),
-        ("l\":1", "l\":1,\"unit\":\"1\""),
-        ("1}\n", "1} 1\n"),
-        ("\n", ""),
-    ];
-    for (old, new) in table {
-        let fault = answer_with(rt.alloc(), old, new)?.err();
-        assert_eq!(rt; fault, Some(NOT_BUILT), "with {new}");
-    }
-    Ok(())
-}
-
-#[test]
-fn other_jobs_are_refused(rt: HostRuntime) -> Result<(), Fail> {
-    let table = [
-        ("\"at\":0,", ""),
-        ("at\":0", "at\":1"),
-        ("at\":0", "at\":-1"),
-        ("\"arrive\":\"j1\",", ""),
-        ("j1", "j 1"),
-        ("j1", TOO_LONG_A_NAME),
-        ("strl", "STRL"),
-        ("\"nCk(*,2,0,3,5)\"", "[]"),
-        ("\"nCk(*,2,0,3,5)\"", "null"),
-        ("\"at\"", "\"late\":0,\"at\""),
-        ("\"at\"", "\"ask\":null,\"at\""),
-        ("\"at\"", "\"cancel\":null,\"at\""),
-        ("\"at\"", "\"drain\":null,\"at\""),
-        ("\"at\"", "\"undrain\":null,\"at\""),
-        (
-            "5)\"}",
-            "5)\"}\n{\"at\":0,\"arrive\":\"j1\",\"strl\":\"nCk(*,1,0,1,1)\"}",
-        ),
-        ("5)\"}", "5)\"}\n[]"),
-    ];
-    for (old, new) in table {
-        let fault = answer_with(rt.alloc(), old, new)?.err();
-        assert_eq!(rt; fault, Some(NOT_BUILT), "with {new}");
-    }
-    Ok(())
-}
-
-#[test]
-fn other_texts_are_refused(rt: HostRuntime) -> Result<(), Fail> {
-    let table = [
-        ("nCk(*,2,0,3,5)", "", 0, Fault::Ended),
-        ("nCk", "nck", 0, Fault::Unexpected),
-        ("nCk", "\\tnck", 1, Fault::Unexpected),
-        ("nCk", "LnCk", 13, Fault::Uneven),
-        ("(*", "(n1", 4, Fault::UnknownSet),
-        ("(*", "({n3}", 4, Fault::UnknownSet),
-        ("*,2", "*,0", 6, Fault::NumberRange),
-        ("*,2", "*,4097", 6, Fault::NumberRange),
-        ("*,2", "*,2.0", 7, Fault::Unexpected),
-        ("*,2", "*,", 6, Fault::Unexpected),
-        ("2,0", "2,10001", 8, Fault::NumberRange),
-        ("0,3", "0,0", 10, Fault::NumberRange),
-        ("0,3", "0,10001", 10, Fault::NumberRange),
-        ("5)", "1000000000001)", 12, Fault::NumberRange),
-        ("5)", "18446744073709551617)", 12, Fault::NumberRange),
-        ("5)", "5", 13, Fault::Ended),
-        ("5)", "5,1)", 13, Fault::Unexpected),
-        ("5)", "5) x", 15, Fault::Trailing),
-        (
-            "nCk(*,2,0,3,5)",
-            "min(nCk(*,1,0,1,1),nCk(*,1,1,1,1))",
-            19,
-            Fault::Mixed,
-        ),
-        (
-            "nCk(*,2,0,3,5)",
-            "scale(nCk(*,2,0,3,5),200000000001)",
-            0,
-            Fault::TooRich,
-        ),
-    ];
-    for (old, new, offset, fault) in table {
-        let why = TraceWhy::BadStrl { offset, fault };
-        assert_eq!(rt;
-            answer_with(rt.alloc(), old, new)?.err(),
-            Some(TraceFault::Bad { line: 2, why }),
-            "with {new}"
-        );
-    }
-    Ok(())
-}
-
-const NO_SUCH_SET: TraceWhy = TraceWhy::BadStrl {
-    offset: 4,
-    fault: Fault::UnknownSet,
-};
-
-const ENDED: TraceWhy = TraceWhy::BadStrl {
-    offset: 4,
-    fault: Fault::Ended,
-};
+const FAULTS: [(&[&str], u64, TraceWhy); 47] = [
+    (&[HEADER, JOB, "{\"at\":0"], 3, TraceWhy::NotJson),
+    (&[HEADER, "[{}"], 2, TraceWhy::NotJson),
+    (&[HEADER, "{\"at\":-1} {}"], 2, TraceWhy::NotJson),
+    (&[HEADER, "{\"at\":-1,\"x\":1e400}"], 2, TraceWhy::NotJson),
+    (&["[]"], 1, TraceWhy::NotObject),
+    (&[HEADER, "[\"at\"]"], 2, TraceWhy::NotObject),
+    (&[HEADER, "null"], 2, TraceWhy::NotObject),
+    (&["{\"window\":0}"], 1, TraceWhy::NoHeader),
+    (&["", JOB, HEADER], 2, TraceWhy::NoHeader),
+    (&["", " \t\r"], 3, TraceWhy::NoHeader),
+    (
+        &["{\"nodes\":[],\"budget\":0}"],
+        1,
+        TraceWhy::MissingField(Field::Window),
+    ),
+    (
+        &["{\"nodes\":[],\"window\":0,\"until\":1}"],
+        1,
+        TraceWhy::MissingField(Field::Budget),
+    ),
+    (
+        &["{\"nodes\":[],\"window\":0,\"budget\":1}"],
+        1,
+        TraceWhy::MissingField(Field::Until),
+    ),
+    (
+        &["{\"nodes\":[],\"window\":0,\"budget\":0,\"until\":0,\"unit\":0}"],
+        1,
+        TraceWhy::BadField(Field::Nodes),
+    ),
+    (
+        &[
+            "{\"nodes\":[{\"name\":\"n\"},{\"name\":\"n\"}],\"window\":0,\"budget\":0,\"until\":0,\"unit\":0}",
+        ],
+        1,
+        TraceWhy::BadField(Field::Window),
+    ),
+    (
+        &[
+            "{\"nodes\":[{\"name\":\"n\"},{\"name\":\"n\"}],\"window\":1,\"budget\":0,\"until\":0,\"unit\":0}",
+        ],
+        1,
+        TraceWhy::BadField(Field::Budget),
+    ),
+    (
+        &[
+            "{\"nodes\":[{\"name\":\"n\"},{\"name\":\"n\"}],\"window\":1,\"budget\":1,\"until\":0,\"unit\":0}",
+        ],
+        1,
+        TraceWhy::BadField(Field::Until),
+    ),
+    (
+        &[
+            "{\"nodes\":[{\"name\":\"n\"},{\"name\":\"n\"}],\"window\":1,\"budget\":1,\"until\":1,\"unit\":0}",
+        ],
+        1,
+        TraceWhy::BadField(Field::Unit),
+    ),
+    (
+        &[
+            "{\"nodes\":[{\"name\":\"n\"},{\"name\":\"n\"}],\"window\":1,\"budget\":1,\"until\":1,\"unit\":1}",
+            JOB,
+            JOB,
+        ],
+        1,
+        TraceWhy::NameTaken,
+    ),
+    (
+        &[HEADER, "{\"arrive\":\"j 1\"}"],
+        2,
+        TraceWhy::MissingField(Field::At),
+    ),
+    (
+        &[HEADER, "{\"at\":-1,\"arrive\":\"j1\",\"cancel\":\"j1\"}"],
+        2,
+        TraceWhy::BadField(Field::At),
+    ),
+    (&[HEADER, "{\"at\":3}"], 2, TraceWhy::UnknownEvent),
+    (
+        &[HEADER, "{\"at\":3,\"arrive\":\"j 1\",\"cancel\":\"j1\"}"],
+        2,
+        TraceWhy::UnknownEvent,
+    ),
+    (
+        &[HEADER, "{\"at\":3,\"drain\":\"n9\",\"undrain\":\"n9\"}"],
+        2,
+        TraceWhy::UnknownEvent,
+    ),
+    (
+        &[
+            HEADER,
+            "{\"at\":3,\"arrive\":\"j 1\",\"ask\":{},\"late\":\"0\"}",
+        ],
+        2,
+        TraceWhy::NotBuilt,
+    ),
+    (
+        &[HEADER, "{\"at\":3,\"arrive\":\"j 1\",\"late\":\"0\"}"],
+        2,
+        TraceWhy::MissingField(Field::Strl),
+    ),
+    (
+        &[
+            HEADER,
+            "{\"at\":3,\"arrive\":\"j 1\",\"late\":\"0\",\"strl\":1}",
+        ],
+        2,
+        TraceWhy::BadField(Field::Arrive),
+    ),
+    (
+        &[HEADER, "{\"at\":3,\"cancel\":\"j 1\"}"],
+        2,
+        TraceWhy::BadField(Field::Cancel),
+    ),
+    (
+        &[HEADER, "{\"at\":3,\"drain\":\"n 1\"}"],
+        2,
+        TraceWhy::BadField(Field::Drain),
+    ),
+    (
+        &[HEADER, "{\"at\":3,\"undrain\":\"n 1\"}"],
+        2,
+        TraceWhy::BadField(Field::Undrain),
+    ),
+    (
+        &[
+            HEADER,
+            "{\"at\":3,\"arrive\":\"j1\",\"late\":\"0\",\"strl\":1}",
+        ],
+        2,
+        TraceWhy::BadField(Field::Late),
+    ),
+    (
+        &[HEADER, "{\"at\":3,\"arrive\":\"j1\",\"strl\":1}"],
+        2,
+        TraceWhy::BadField(Field::Strl),
+    ),
+    (
+        &[
+            HEADER,
+            "{\"at\":3,\"arrive\":\"j1\",\"strl\":\"nCk(\",\"ask\":{}}",
+        ],
+        2,
+        TraceWhy::BadField(Field::Strl),
+    ),
+    (
+        &[
+            HEADER,
+            JOB,
+            "{\"at\":0,\"arrive\":\"j1\",\"strl\":\"nCk(\"}",
+        ],
+        3,
+        TraceWhy::OutOfOrder,
+    ),
+    (
+        &[HEADER, JOB, "{\"at\":0,\"cancel\":\"j9\"}"],
+        3,
+        TraceWhy::OutOfOrder,
+    ),
+    (
+        &[
+            HEADER,
+            JOB,
+            "{\"at\":3,\"arrive\":\"j1\",\"strl\":\"nCk(\"}",
+        ],
+        3,
+        TraceWhy::PastEnd,
+    ),
+    (
+        &[HEADER, "{\"at\":3,\"drain\":\"n9\"}"],
+        2,
+        TraceWhy::PastEnd,
+    ),
+    (
+        &[
+            HEADER,
+            JOB,
+            "",
+            "{\"at\":1,\"arrive\":\"j1\",\"strl\":\"nCk(\"}",
+        ],
+        4,
+        TraceWhy::NameTaken,
+    ),
+    (
+        &[HEADER, "{\"at\":0,\"cancel\":\"j9\"}"],
+        2,
+        TraceWhy::NoSuchJob,
+    ),
+    (
+        &[HEADER, "{\"at\":1,\"cancel\":\"j1\"}", JOB],
+        2,
+        TraceWhy::NoSuchJob,
+    ),
+    (
+        &[HEADER, JOB, "{\"at\":1,\"cancel\":\"n1\"}"],
+        3,
+        TraceWhy::NoSuchJob,
+    ),
+    (
+        &[HEADER, JOB, "{\"at\":1,\"drain\":\"j1\"}"],
+        3,
+        TraceWhy::NoSuchNode,
+    ),
+    (
+        &[HEADER, "{\"at\":0,\"undrain\":\"n4\"}"],
+        2,
+        TraceWhy::NoSuchNode,
+    ),
+    (
+        &[
+            HEADER,
+            "{\"at\":0,\"arrive\":\"j1\",\"strl\":\"nCk(*,1,0,1,1\"}",
+        ],
+        2,
+        TraceWhy::BadStrl {
+            offset: 13,
+            fault: Fault::Ended,
+        },
+    ),
+    (
+        &[
+            HEADER,
+            JOB,
+            "{\"at\":1,\"arrive\":\"j2\",\"strl\":\"nCk(cpu,1,0,1,1)\"}",
+            "{",
+        ],
+        3,
+        TraceWhy::BadStrl {
+            offset: 4,
+            fault: Fault::UnknownSet,
+        },
+    ),
+    (
+        &[
+            HEADER,
+            "{\"at\":0,\"arrive\":\"j1\",\"strl\":\"min(nCk(*,1,0,1,1), nCk(*,1,1,1,1))\"}",
+        ],
+        2,
+        TraceWhy::BadStrl {
+            offset: 20,
+            fault: Fault::Mixed,
+        },
+    ),
+    (
+        &[
+            "{\"nodes\":[{\"name\":\"n1\"}],\"window\":4,\"budget\":9,\"until\":1}",
+            "{\"at\":0,\"arrive\":\"j1\",\"strl\":\"LnCk(*,4,0,1,6)\"}",
+        ],
+        2,
+        TraceWhy::BadStrl {
+            offset: 13,
+            fault: Fault::Uneven,
+        },
+    ),
+];
 
 #[test]
 fn the_first_fault_is_told(rt: HostRuntime) -> Result<(), Fail> {
-    let table: [(&[&str], u64, TraceWhy); 13] = [
-        (&[TAGGED_HEADER, UNKNOWN_SET_JOB], 2, NO_SUCH_SET),
-        (&["", TAGGED_HEADER, ENDED_JOB], 3, ENDED),
-        (
-            &[TAGGED_HEADER, " \t\r", "", UNKNOWN_SET_JOB, ""],
-            4,
-            NO_SUCH_SET,
-        ),
-        (
-            &[TAGGED_HEADER, MAX_JOB, "", BARRIER_JOB, ENDED_JOB],
-            5,
-            ENDED,
-        ),
-        (&[TAGGED_HEADER, UNKNOWN_SET_JOB, ENDED_JOB], 2, NO_SUCH_SET),
-        (
-            &[TAGGED_HEADER, MAX_JOB, ENDED_JOB, "", UNKNOWN_SET_JOB],
-            3,
-            ENDED,
-        ),
-        (&[TAGGED_HEADER, ENDED_JOB, LATE_JOB], 0, TraceWhy::NotBuilt),
-        (
-            &[TAGGED_HEADER, ENDED_JOB, ENDED_JOB],
-            0,
-            TraceWhy::NotBuilt,
-        ),
-        (
-            &[TAGGED_HEADER, ENDED_JOB, TAGGED_HEADER],
-            0,
-            TraceWhy::NotBuilt,
-        ),
-        (&[TAGGED_HEADER, ENDED_JOB, "", "{"], 0, TraceWhy::NotBuilt),
-        (&[TAGGED_HEADER, ENDED_JOB, "{}"], 0, TraceWhy::NotBuilt),
-        (&[TAGGED_HEADER, LATE_JOB, ENDED_JOB], 0, TraceWhy::NotBuilt),
-        (&[ENDED_JOB, TAGGED_HEADER], 0, TraceWhy::NotBuilt),
-    ];
-    for (lines, line, why) in table {
+    for (lines, line, why) in FAULTS {
         assert_eq!(rt;
             answer_to(rt.alloc(), lines)?.err(),
             Some(TraceFault::Bad { line, why }),
@@ -401,11 +432,486 @@ fn the_first_fault_is_told(rt: HostRuntime) -> Result<(), Fail> {
     Ok(())
 }
 
+const HEADERS: [(&str, &str, Option<TraceWhy>); 60] = [
+    ("\"nodes\"", "\"node\"", Some(TraceWhy::NoHeader)),
+    (
+        "\"nodes\":[",
+        "\"nodes\":null,\"node\":[",
+        Some(TraceWhy::BadField(Field::Nodes)),
+    ),
+    (
+        "\"nodes\":[",
+        "\"nodes\":{},\"node\":[",
+        Some(TraceWhy::BadField(Field::Nodes)),
+    ),
+    (
+        "\"nodes\":[",
+        "\"nodes\":\"n1\",\"node\":[",
+        Some(TraceWhy::BadField(Field::Nodes)),
+    ),
+    (
+        "\"nodes\":[",
+        "\"nodes\":[],\"node\":[",
+        Some(TraceWhy::BadField(Field::Nodes)),
+    ),
+    (
+        "\"nodes\":[",
+        "\"nodes\":[null,",
+        Some(TraceWhy::BadField(Field::Nodes)),
+    ),
+    (
+        "\"nodes\":[",
+        "\"nodes\":[\"n4\",",
+        Some(TraceWhy::BadField(Field::Nodes)),
+    ),
+    (
+        "\"nodes\":[",
+        "\"nodes\":[{\"tags\":[]},",
+        Some(TraceWhy::BadField(Field::Nodes)),
+    ),
+    (
+        "\"name\":\"n2\"",
+        "\"name\":null",
+        Some(TraceWhy::BadField(Field::Nodes)),
+    ),
+    (
+        "\"name\":\"n2\"",
+        "\"name\":2",
+        Some(TraceWhy::BadField(Field::Nodes)),
+    ),
+    ("n2", "", Some(TraceWhy::BadField(Field::Nodes))),
+    ("n2", "n 2", Some(TraceWhy::BadField(Field::Nodes))),
+    (
+        "n2",
+        TOO_LONG_A_NAME,
+        Some(TraceWhy::BadField(Field::Nodes)),
+    ),
+    ("n2", LONGEST_NAME, None),
+    ("n2", "n1", Some(TraceWhy::NameTaken)),
+    ("[\"gpu\"]", "null", None),
+    ("[\"gpu\"]", "[]", None),
+    ("[\"gpu\"]", "[\"gpu\",\"gpu\",\"n1\"]", None),
+    (
+        "[\"gpu\"]",
+        "\"gpu\"",
+        Some(TraceWhy::BadField(Field::Nodes)),
+    ),
+    ("[\"gpu\"]", "{}", Some(TraceWhy::BadField(Field::Nodes))),
+    (
+        "[\"gpu\"]",
+        "[\"gpu\",1]",
+        Some(TraceWhy::BadField(Field::Nodes)),
+    ),
+    (
+        "[\"gpu\"]",
+        "[\"gpu\",null]",
+        Some(TraceWhy::BadField(Field::Nodes)),
+    ),
+    (
+        "[\"gpu\"]",
+        "[\"\"]",
+        Some(TraceWhy::BadField(Field::Nodes)),
+    ),
+    (
+        "[\"gpu\"]",
+        "[\"g&u\"]",
+        Some(TraceWhy::BadField(Field::Nodes)),
+    ),
+    (
+        "\"window\":4",
+        "\"windows\":4",
+        Some(TraceWhy::MissingField(Field::Window)),
+    ),
+    (
+        "\"window\":4",
+        "\"window\":null",
+        Some(TraceWhy::BadField(Field::Window)),
+    ),
+    (
+        "\"window\":4",
+        "\"window\":\"4\"",
+        Some(TraceWhy::BadField(Field::Window)),
+    ),
+    (
+        "\"window\":4",
+        "\"window\":0",
+        Some(TraceWhy::BadField(Field::Window)),
+    ),
+    (
+        "\"window\":4",
+        "\"window\":65",
+        Some(TraceWhy::BadField(Field::Window)),
+    ),
+    ("\"window\":4", "\"window\":1", None),
+    ("\"window\":4", "\"window\":64", None),
+    (
+        "\"budget\":9",
+        "\"budgets\":9",
+        Some(TraceWhy::MissingField(Field::Budget)),
+    ),
+    (
+        "\"budget\":9",
+        "\"budget\":null",
+        Some(TraceWhy::BadField(Field::Budget)),
+    ),
+    (
+        "\"budget\":9",
+        "\"budget\":\"9\"",
+        Some(TraceWhy::BadField(Field::Budget)),
+    ),
+    (
+        "\"budget\":9",
+        "\"budget\":0",
+        Some(TraceWhy::BadField(Field::Budget)),
+    ),
+    (
+        "\"budget\":9",
+        "\"budget\":10001",
+        Some(TraceWhy::BadField(Field::Budget)),
+    ),
+    ("\"budget\":9", "\"budget\":1", None),
+    ("\"budget\":9", "\"budget\":10000", None),
+    (
+        "\"until\":3",
+        "\"untils\":3",
+        Some(TraceWhy::MissingField(Field::Until)),
+    ),
+    (
+        "\"until\":3",
+        "\"until\":null",
+        Some(TraceWhy::BadField(Field::Until)),
+    ),
+    (
+        "\"until\":3",
+        "\"until\":\"3\"",
+        Some(TraceWhy::BadField(Field::Until)),
+    ),
+    (
+        "\"until\":3",
+        "\"until\":0",
+        Some(TraceWhy::BadField(Field::Until)),
+    ),
+    (
+        "\"until\":3",
+        "\"until\":10001",
+        Some(TraceWhy::BadField(Field::Until)),
+    ),
+    ("\"until\":3", "\"until\":2", None),
+    ("\"until\":3", "\"until\":10000", None),
+    (
+        "\"window\":4",
+        "\"window\":4.0",
+        Some(TraceWhy::BadField(Field::Window)),
+    ),
+    (
+        "\"window\":4",
+        "\"window\":true",
+        Some(TraceWhy::BadField(Field::Window)),
+    ),
+    (
+        "\"budget\":9",
+        "\"budget\":1e1",
+        Some(TraceWhy::BadField(Field::Budget)),
+    ),
+    (
+        "\"until\":3",
+        "\"until\":18446744073709551617",
+        Some(TraceWhy::BadField(Field::Until)),
+    ),
+    ("\"unit\":10", "\"units\":0", None),
+    ("\"unit\":10", "\"unit\":null", None),
+    ("\"unit\":10", "\"unit\":1", None),
+    ("\"unit\":10", "\"unit\":1000000", None),
+    (
+        "\"unit\":10",
+        "\"unit\":0",
+        Some(TraceWhy::BadField(Field::Unit)),
+    ),
+    (
+        "\"unit\":10",
+        "\"unit\":-1",
+        Some(TraceWhy::BadField(Field::Unit)),
+    ),
+    (
+        "\"unit\":10",
+        "\"unit\":1000001",
+        Some(TraceWhy::BadField(Field::Unit)),
+    ),
+    (
+        "\"unit\":10",
+        "\"unit\":\"10\"",
+        Some(TraceWhy::BadField(Field::Unit)),
+    ),
+    ("\"window\":4", "\"window\":0,\"window\":4", None),
+    (
+        "\"window\":4",
+        "\"window\":4,\"window\":0",
+        Some(TraceWhy::BadField(Field::Window)),
+    ),
+    ("\"until\":3", "\"until\":3,\"at\":-1,\"arrive\":null", None),
+];
+
+#[test]
+fn headers_are_judged(rt: HostRuntime) -> Result<(), Fail> {
+    for (old, new, why) in HEADERS {
+        let fault = answer_with(rt.alloc(), HEADER, old, new)?.err();
+        let told = why.map(|why| TraceFault::Bad { line: 1, why });
+        assert_eq!(rt; fault, told, "with {new}");
+    }
+    Ok(())
+}
+
+const EVENTS: [(&str, &str, Option<TraceWhy>); 42] = [
+    ("\"at\":1,", "", Some(TraceWhy::MissingField(Field::At))),
+    (
+        "\"at\":1",
+        "\"at\":null",
+        Some(TraceWhy::BadField(Field::At)),
+    ),
+    (
+        "\"at\":1",
+        "\"at\":\"1\"",
+        Some(TraceWhy::BadField(Field::At)),
+    ),
+    (
+        "\"at\":1",
+        "\"at\":1.0",
+        Some(TraceWhy::BadField(Field::At)),
+    ),
+    ("\"at\":1", "\"at\":-1", Some(TraceWhy::BadField(Field::At))),
+    (
+        "\"at\":1",
+        "\"at\":9223372036854775808",
+        Some(TraceWhy::BadField(Field::At)),
+    ),
+    (
+        "\"at\":1",
+        "\"at\":9223372036854775807",
+        Some(TraceWhy::PastEnd),
+    ),
+    ("\"at\":1", "\"at\":3", Some(TraceWhy::PastEnd)),
+    ("\"at\":1", "\"at\":2", None),
+    ("\"at\":1", "\"at\":0", None),
+    ("\"at\":1", "\"at\":null,\"at\":1", None),
+    ("\"arrive\":\"j1\",", "", Some(TraceWhy::UnknownEvent)),
+    (
+        "\"arrive\"",
+        "\"cancel\":null,\"arrive\"",
+        Some(TraceWhy::UnknownEvent),
+    ),
+    (
+        "\"arrive\"",
+        "\"drain\":null,\"arrive\"",
+        Some(TraceWhy::UnknownEvent),
+    ),
+    (
+        "\"arrive\"",
+        "\"undrain\":null,\"arrive\"",
+        Some(TraceWhy::UnknownEvent),
+    ),
+    ("\"j1\"", "null", Some(TraceWhy::BadField(Field::Arrive))),
+    ("\"j1\"", "1", Some(TraceWhy::BadField(Field::Arrive))),
+    ("j1", "", Some(TraceWhy::BadField(Field::Arrive))),
+    ("j1", "j 1", Some(TraceWhy::BadField(Field::Arrive))),
+    (
+        "j1",
+        TOO_LONG_A_NAME,
+        Some(TraceWhy::BadField(Field::Arrive)),
+    ),
+    ("j1", LONGEST_NAME, None),
+    ("j1", "n1", None),
+    (
+        "\"arrive\":\"j1\"",
+        "\"cancel\":null",
+        Some(TraceWhy::BadField(Field::Cancel)),
+    ),
+    (
+        "\"arrive\":\"j1\"",
+        "\"drain\":null",
+        Some(TraceWhy::BadField(Field::Drain)),
+    ),
+    (
+        "\"arrive\":\"j1\"",
+        "\"undrain\":null",
+        Some(TraceWhy::BadField(Field::Undrain)),
+    ),
+    ("\"arrive\":\"j1\"", "\"drain\":\"n3\"", None),
+    ("\"arrive\":\"j1\"", "\"undrain\":\"n3\"", None),
+    ("\"at\"", "\"late\":null,\"at\"", None),
+    ("\"at\"", "\"late\":10000,\"at\"", None),
+    ("\"at\"", "\"late\":-10000,\"at\"", None),
+    (
+        "\"at\"",
+        "\"late\":10001,\"at\"",
+        Some(TraceWhy::BadField(Field::Late)),
+    ),
+    (
+        "\"at\"",
+        "\"late\":-10001,\"at\"",
+        Some(TraceWhy::BadField(Field::Late)),
+    ),
+    (
+        "\"at\"",
+        "\"late\":0.0,\"at\"",
+        Some(TraceWhy::BadField(Field::Late)),
+    ),
+    (
+        "\"at\"",
+        "\"late\":\"0\",\"at\"",
+        Some(TraceWhy::BadField(Field::Late)),
+    ),
+    ("\"at\"", "\"late\":\"0\",\"late\":null,\"at\"", None),
+    (
+        "\"strl\"",
+        "\"STRL\"",
+        Some(TraceWhy::MissingField(Field::Strl)),
+    ),
+    (
+        "\"nCk(*,2,1,3,5)\"",
+        "null",
+        Some(TraceWhy::BadField(Field::Strl)),
+    ),
+    (
+        "\"nCk(*,2,1,3,5)\"",
+        "[\"nCk(*,2,1,3,5)\"]",
+        Some(TraceWhy::BadField(Field::Strl)),
+    ),
+    (
+        "\"at\"",
+        "\"ask\":null,\"at\"",
+        Some(TraceWhy::BadField(Field::Strl)),
+    ),
+    (
+        "\"strl\":\"nCk(*,2,1,3,5)\"",
+        "\"ask\":null",
+        Some(TraceWhy::NotBuilt),
+    ),
+    ("\"at\"", "\"more\":[{\"at\":null}],\"at\"", None),
+    (
+        "nCk(*,2,1,3,5)",
+        " nCk\\t(\\n* ,02, 000,3,\\r0000000000000000000000005 ) ",
+        None,
+    ),
+];
+
+#[test]
+fn events_are_judged(rt: HostRuntime) -> Result<(), Fail> {
+    for (old, new, why) in EVENTS {
+        let fault = answer_with(rt.alloc(), JOB, old, new)?.err();
+        let told = why.map(|why| TraceFault::Bad { line: 2, why });
+        assert_eq!(rt; fault, told, "with {new}");
+    }
+    Ok(())
+}
+
+// The header with so many blanks behind it that the line has this length.
+fn blanks_to(alloc: Global, line: &str, len: usize) -> Result<String, AllocError> {
+    let mut text = String::from_str(alloc, line)?;
+    for _ in line.len()..len {
+        text.push(' ')?;
+    }
+    Ok(text)
+}
+
+#[test]
+fn long_lines_are_refused(rt: HostRuntime) -> Result<(), Fail> {
+    let alloc = rt.alloc();
+    let longest = blanks_to(alloc, HEADER, LINE_MOST)?;
+    let longer = blanks_to(alloc, HEADER, LINE_MOST + 1)?;
+    let blank = blanks_to(alloc, "", LINE_MOST + 1)?;
+    let no_json = blanks_to(alloc, "{", LINE_MOST + 1)?;
+    let too_long = |line| {
+        Some(TraceFault::Bad {
+            line,
+            why: TraceWhy::LineTooLong,
+        })
+    };
+    assert_eq!(rt; answer(alloc, longest.as_bytes())?.err(), None);
+    assert_eq!(rt; answer_to(alloc, &[longest.as_str(), JOB])?.err(), None);
+    assert_eq!(rt; answer(alloc, longer.as_bytes())?.err(), too_long(1));
+    assert_eq!(rt;
+        answer_to(alloc, &[HEADER, "", blank.as_str()])?.err(),
+        too_long(3)
+    );
+    assert_eq!(rt;
+        answer_to(alloc, &[HEADER, no_json.as_str(), "{"])?.err(),
+        too_long(2)
+    );
+    Ok(())
+}
+
+// So many arrays, one in another.
+fn nested(alloc: Global, count: usize) -> Result<String, AllocError> {
+    let mut text = String::new(alloc);
+    for _ in 0..count {
+        text.push('[')?;
+    }
+    for _ in 0..count {
+        text.push(']')?;
+    }
+    Ok(text)
+}
+
+#[test]
+fn bytes_are_judged(rt: HostRuntime) -> Result<(), Fail> {
+    let alloc = rt.alloc();
+    let (deep, deeper) = (nested(alloc, 127)?, nested(alloc, 128)?);
+    let table: [(&[u8], u64, TraceWhy); 7] = [
+        (b"", 1, TraceWhy::NoHeader),
+        (b"\n\n \n", 4, TraceWhy::NoHeader),
+        (b" \t", 2, TraceWhy::NoHeader),
+        (b"\xff", 1, TraceWhy::NotJson),
+        (b"\x0c", 1, TraceWhy::NotJson),
+        (deep.as_bytes(), 1, TraceWhy::NotObject),
+        (deeper.as_bytes(), 1, TraceWhy::NotJson),
+    ];
+    for (content, line, why) in table {
+        assert_eq!(rt;
+            answer(alloc, content)?.err(),
+            Some(TraceFault::Bad { line, why }),
+            "of {content:?}"
+        );
+    }
+    let trace = answer(alloc, HEADER.as_bytes())??;
+    assert_eq!(rt; (trace.jobs.len(), trace.events.len()), (0, 0));
+    assert_eq!(rt; trace.sets.len(), 0);
+    let unended = format!(in alloc; "\r\n{HEADER}\r\n\n{JOB}")?;
+    assert_eq!(rt; answer(alloc, unended.as_bytes())??.jobs.len(), 1);
+    Ok(())
+}
+
+// A header of so many nodes.
+fn header_of(alloc: Global, count: u32) -> Result<String, AllocError> {
+    let mut text = String::from_str(alloc, "{\"window\":1,\"budget\":1,\"until\":1,\"nodes\":[")?;
+    for node in 0..count {
+        write!(text, "{{\"name\":\"{node}\"}},")?;
+    }
+    text.push_str("{\"name\":\"last\"}]}")?;
+    Ok(text)
+}
+
+#[test]
+fn there_are_4096_nodes_at_most(rt: HostRuntime) -> Result<(), Fail> {
+    let alloc = rt.alloc();
+    let most = answer(alloc, header_of(alloc, 4095)?.as_bytes())??;
+    assert_eq!(rt; most.cluster.count(), 4096);
+    let more = answer(alloc, header_of(alloc, 4096)?.as_bytes())?;
+    assert_eq!(rt;
+        more.err(),
+        Some(TraceFault::Bad {
+            line: 1,
+            why: TraceWhy::BadField(Field::Nodes)
+        })
+    );
+    Ok(())
+}
+
 #[test]
 fn a_failed_read_is_no_trace(rt: HostRuntime) -> Result<(), Fail> {
-    for failing in [1, 2] {
-        let mut shelf = MemShelf::new(rt.alloc(), 64, &[failing])?;
-        shelf.put("trace", EXAMPLE.as_bytes())?;
+    let content = format!(in rt.alloc(); "{HEADER}\n{JOB}")?;
+    for failing in [1, 2, 3] {
+        let mut shelf = MemShelf::new(rt.alloc(), 150, &[failing])?;
+        shelf.put("trace", content.as_bytes())?;
         let fault = read_trace(rt.alloc(), &mut shelf, "trace").err();
         assert_eq!(rt; fault, Some(TraceFault::Read), "at read {failing}");
     }
