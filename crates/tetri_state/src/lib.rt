@@ -1,9 +1,12 @@
 //! The state of the cycles: what happens at the beginning of a cycle, what it plans for, and what it launches.
 #![tactic(auto)]
 
+mod events;
+mod expiry;
 mod happened;
 mod launches;
 mod pieces;
+mod told;
 
 pub use happened::{Happened, PieceId};
 pub use launches::{Launch, launch_of, starts_of};
