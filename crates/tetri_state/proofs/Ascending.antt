@@ -12,7 +12,7 @@ abbrev pub Ascend : List ℕ → Type 0
 Ascend [] = Unit {0}
 Ascend (n ∷ ns) = Each (λ m. n < m) ns × Ascend ns
 
-each_from : {X : Type 0} (P : X → Type 0) (xs : List X) → ((k : ℕ) (d : X) → k < length xs → P (get_or xs k d)) → Each P xs
+pub each_from : {X : Type 0} (P : X → Type 0) (xs : List X) → ((k : ℕ) (d : X) → k < length xs → P (get_or xs k d)) → Each P xs
 each_from P [] all = tt
 each_from P (x ∷ xs) all = (all 0 x (omega arith), each_from P xs (λ k d lt. all (suc k) d (omega arith)))
 
@@ -76,7 +76,7 @@ without_absent n (m ∷ ns) absent = by_test (m == n) absent (without_absent n n
     by_test false none rest = ap (λ ms. m ∷ ms) (rest none)
 
 -- a part of numbers that ascend
-each_filtered : {X : Type 0} (P : X → Type 0) (test : X → Bool) (xs : List X) → Each P xs → Each P (filter test xs)
+pub each_filtered : {X : Type 0} (P : X → Type 0) (test : X → Bool) (xs : List X) → Each P xs → Each P (filter test xs)
 each_filtered P test [] each = tt
 each_filtered P test (x ∷ xs) each = by_test (test x) (each_filtered P test xs each.1)
   where
@@ -84,15 +84,15 @@ each_filtered P test (x ∷ xs) each = by_test (test x) (each_filtered P test xs
     by_test true rest = (each.0, rest)
     by_test false rest = rest
 
-each_parts : {X : Type 0} (P : X → Type 0) (xs ys : List X) → Each P xs → Each P ys → Each P (xs ++ ys)
+pub each_parts : {X : Type 0} (P : X → Type 0) (xs ys : List X) → Each P xs → Each P ys → Each P (xs ++ ys)
 each_parts P [] ys front back = back
 each_parts P (x ∷ xs) ys front back = (front.0, each_parts P xs ys front.1 back)
 
-each_front : {X : Type 0} (P : X → Type 0) (xs ys : List X) → Each P (xs ++ ys) → Each P xs
+pub each_front : {X : Type 0} (P : X → Type 0) (xs ys : List X) → Each P (xs ++ ys) → Each P xs
 each_front P [] ys each = tt
 each_front P (x ∷ xs) ys each = (each.0, each_front P xs ys each.1)
 
-each_back : {X : Type 0} (P : X → Type 0) (xs ys : List X) → Each P (xs ++ ys) → Each P ys
+pub each_back : {X : Type 0} (P : X → Type 0) (xs ys : List X) → Each P (xs ++ ys) → Each P ys
 each_back P [] ys each = each
 each_back P (x ∷ xs) ys each = each_back P xs ys each.1
 

@@ -1,6 +1,9 @@
 pub mod Ascending
+pub mod BeginLemmas
+pub mod BusyLemmas
 pub mod RunLemmas
 pub mod SearchLemmas
 pub mod SlotLemmas
+pub mod SoundLemmas
 pub mod ToldLemmas
 pub mod TurnLemmas

@@ -1,13 +1,18 @@
 //! The state of the cycles: what happens at the beginning of a cycle, what it plans for, and what it launches.
 #![tactic(auto)]
 
+mod beginning;
+mod busy;
 mod events;
 mod expiry;
 mod happened;
 mod launches;
 mod pieces;
+mod planning;
+mod state;
 mod told;
 
 pub use happened::{Happened, PieceId};
 pub use launches::{Launch, launch_of, starts_of};
 pub use pieces::Piece;
+pub use state::State;

@@ -18,7 +18,8 @@ fn named(piece: &Piece) -> PieceId
 }
 
 fn sorted(ids: Vec<PieceId>) -> Result<Vec<PieceId>, AllocError>
-    ensures { IfOk result (λ v. v.items ≡ in_order ids.items) }
+    ensures order { IfOk result (λ v. v.items ≡ in_order ids.items) }
+    ensures rise { IfOk result (λ v. IsNonDecreasingBy (λ a. a.job) v.items) }
 {
     let mut ids = ids;
     ids.sort()?;
@@ -35,7 +36,8 @@ pub fn runs(ids: &[PieceId], job: u32) -> bool
 
 // The pieces that end.
 pub fn ended(alloc: Global, pieces: &[Piece], now: u32) -> Result<Vec<PieceId>, AllocError>
-    ensures { IfOk result (λ v. v.items ≡ told (filter (has_ended now) pieces.now)) }
+    ensures told { IfOk result (λ v. v.items ≡ told (filter (has_ended now) pieces.now)) }
+    ensures rise { IfOk result (λ v. IsNonDecreasingBy (λ a. a.job) v.items) }
 {
     let mut ids = Vec::new(alloc);
     for piece in pieces {
@@ -48,7 +50,8 @@ pub fn ended(alloc: Global, pieces: &[Piece], now: u32) -> Result<Vec<PieceId>, 
 
 // The pieces that do not end.
 pub fn running(alloc: Global, pieces: &[Piece], now: u32) -> Result<Vec<PieceId>, AllocError>
-    ensures { IfOk result (λ v. v.items ≡ told (filter (λ p. not (has_ended now p)) pieces.now)) }
+    ensures told { IfOk result (λ v. v.items ≡ told (filter (λ p. not (has_ended now p)) pieces.now)) }
+    ensures rise { IfOk result (λ v. IsNonDecreasingBy (λ a. a.job) v.items) }
 {
     let mut ids = Vec::new(alloc);
     for piece in pieces {

@@ -1,0 +1,17 @@
+-- What the beginning of a cycle leaves.
+use Rattle.std.proofs.Common.{◌≡◌, ℕ, ◌&&◌, Bool, true, false, cond, List, [], ◌∷◌, filter, refl, sym, ap, ◌∙◌}
+
+-- what passes both tests
+pub filter_both : {X : Type 0} (p q : X → Bool) (xs : List X) → filter (λ x. p x && q x) xs ≡ filter q (filter p xs)
+filter_both p q [] = refl
+filter_both {X} p q (x ∷ xs) = by_tests (p x) (q x) refl (filter_both p q xs)
+  where
+    by_tests : (s t : Bool) → q x ≡ t → filter (λ y. p y && q y) xs ≡ filter q (filter p xs) →
+        cond (s && t) (x ∷ filter (λ y. p y && q y) xs) (filter (λ y. p y && q y) xs) ≡ filter q (cond s (x ∷ filter p xs) (filter p xs))
+    by_tests true true is rest = ap (λ ys. x ∷ ys) rest ∙ ap (λ b. cond b (x ∷ filter q (filter p xs)) (filter q (filter p xs))) (sym is)
+    by_tests true false is rest = rest ∙ ap (λ b. cond b (x ∷ filter q (filter p xs)) (filter q (filter p xs))) (sym is)
+    by_tests false t is rest = rest
+
+pub same_parts : {A B C D R : Type 0} (made : A → B → C → D → R) {a b : A} {c d : B} {e f : C} {g h : D} → a ≡ b → c ≡ d → e ≡ f → g ≡ h → made a c e g ≡ made b d f h
+same_parts made {a} {b} {c} {d} {e} {f} {g} {h} p q r s =
+    ap (λ x. made x c e g) p ∙ ap (λ x. made b x e g) q ∙ ap (λ x. made b d x g) r ∙ ap (λ x. made b d f x) s

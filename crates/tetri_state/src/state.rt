@@ -1,0 +1,114 @@
+// The state of the cycles.
+ghost use Rattle.std.specs.Prelude.{◌≡◌, ◌<◌, ◌≤◌, ◌++◌, All, length, IfOk, OnErr, OnOk, option_map, slice_get};
+ghost use Rattle.std.specs.List.Sorted.{IsNonDecreasingBy, IsStrictlyIncreasing};
+ghost use Rattle.tetri_state.specs.Begin.{arriving, begin, ending, events_at, finished, occurrences, occurring, running_on, told, turn};
+ghost use Rattle.tetri_state.specs.Snapshot.{opening_state};
+ghost use Rattle.tetri_trace.specs.Scenario.{scenario};
+ghost use Rattle.tetri_trace.specs.Sound.{IsSound};
+
+use crate::beginning::{Begun, keep, prolong};
+use crate::events::{events_at, take_all};
+use crate::expiry::part;
+use crate::happened::Happened;
+use crate::pieces::Piece;
+use crate::told::{ended, finished, over, running};
+use std::alloc::{AllocError, Global};
+use std::marker::Model;
+use tetri_strl::Allotment;
+use tetri_trace::Trace;
+
+/// The state of a run between two cycles, or in a cycle once its slot has begun: the slot, the drained nodes, the pending
+/// jobs, the running pieces, what became of the other jobs, and the last plan.
+#[derive(Drop)]
+pub struct State {
+    now: u32,
+    // By node.
+    drained: Vec<bool>,
+    // Ascending.
+    pending: Vec<u32>,
+    // In order of launch.
+    pieces: Vec<Piece>,
+    // With room for all that are pending.
+    launched: Vec<u32>,
+    ended: Vec<u32>,
+    cancelled: Vec<u32>,
+    expired: Vec<u32>,
+    plan: Allotment,
+}
+
+impl Model for State {
+    ghost use Rattle.std.specs.Prelude.{◌+◌, ◌≤◌, vec_capacity, vec_len};
+    ghost use Rattle.tetri_state.specs.Snapshot.{Snapshot};
+
+    ghost Value = { Snapshot };
+
+    ghost view = { λ s. record {
+        now = s.now;
+        drained = s.drained.items;
+        pending = s.pending.items;
+        pieces = s.pieces.items;
+        launched = s.launched.items;
+        ended = s.ended.items;
+        cancelled = s.cancelled.items;
+        expired = s.expired.items;
+        plan = s.plan;
+    } };
+
+    ghost invariant = { λ s. vec_len s.launched + vec_len s.pending ≤ vec_capacity s.launched };
+}
+
+impl State {
+    // The state before the first cycle.
+    fn opening(alloc: Global, trace: &Trace) -> Result<State, AllocError>
+        ensures { IfOk result (λ s. s ≡ opening_state (scenario trace.now)) }
+    {
+        let nodes = trace.cluster.count();
+        Ok(State {
+            now: 0,
+            drained: vec![in alloc; false; nodes as usize]?,
+            pending: Vec::new(alloc),
+            pieces: Vec::new(alloc),
+            launched: Vec::new(alloc),
+            ended: Vec::new(alloc),
+            cancelled: Vec::new(alloc),
+            expired: Vec::new(alloc),
+            plan: Allotment::new(alloc),
+        })
+    }
+
+    // What the beginning of the cycle leaves.
+    #[tactic(auto, using(crate::proofs::SoundLemmas::slots_rise))]
+    fn begun(&self, alloc: Global, trace: &Trace) -> Result<Begun, AllocError>
+        requires sound { IsSound (scenario trace.now) }
+        requires drained { length self.now.drained ≡ length (scenario trace.now).nodes }
+        requires arrivals { IsStrictlyIncreasing (self.now.pending ++ arriving (events_at (scenario trace.now) self.now.now)) }
+        requires known { All (λ j. j < length (scenario trace.now).submissions)
+            (self.now.pending ++ arriving (events_at (scenario trace.now) self.now.now)) }
+        ensures drained { IfOk result (λ b. b.drained.items ≡ (turn (scenario trace.now) self.entry.now).drained) }
+        ensures pending { IfOk result (λ b. b.pending.items ≡ (begin (scenario trace.now) self.entry.now).pending) }
+        ensures running { IfOk result (λ b. b.running.items ≡ (turn (scenario trace.now) self.entry.now).running) }
+        ensures rise { IfOk result (λ b. IsNonDecreasingBy (λ a. a.job) b.running.items) }
+        ensures finished { IfOk result (λ b. b.finished.items ≡ finished (told (running_on self.entry.now)) (told (ending self.entry.now))) }
+        ensures happened { IfOk result (λ b. occurrences b.happened ≡ occurring (scenario trace.now) self.entry.now) }
+    {
+        let ended = ended(alloc, &self.pieces, self.now)?;
+        let running = running(alloc, &self.pieces, self.now)?;
+        let finished = finished(alloc, &running, &ended)?;
+        let events = events_at(&trace.events, self.now);
+        let turn = take_all(alloc, &self.drained, &self.pending, &running, events)?;
+        let over = over(alloc, &self.pieces, self.now, &turn.running)?;
+        let parted = part(alloc, trace, self.now, &turn.pending)?;
+        Ok(Begun {
+            drained: turn.drained,
+            pending: parted.pending,
+            running: turn.running,
+            finished,
+            happened: Happened {
+                ended,
+                cancelled: turn.cancelled,
+                over,
+                expired: parted.expired,
+            },
+        })
+    }
+}
