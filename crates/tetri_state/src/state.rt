@@ -111,4 +111,32 @@ impl State {
             },
         })
     }
+
+    // The beginning of the cycle. What takes memory comes first.
+    fn begin(&mut self, alloc: Global, trace: &Trace) -> Result<Happened, AllocError>
+        requires sound { IsSound (scenario trace.now) }
+        requires early { self.old.now < 20000 }
+        requires drained { length self.old.drained ≡ length (scenario trace.now).nodes }
+        requires arrivals { IsStrictlyIncreasing (self.old.pending ++ arriving (events_at (scenario trace.now) self.old.now)) }
+        requires known { All (λ j. j < length (scenario trace.now).submissions)
+            (self.old.pending ++ arriving (events_at (scenario trace.now) self.old.now)) }
+        ensures state { OnOk result (self.new ≡ begin (scenario trace.now) self.old) }
+        ensures happened { IfOk result (λ h. occurrences h ≡ occurring (scenario trace.now) self.old) }
+        ensures err { OnErr result (self.new ≡ self.old) }
+    {
+        let mut begun = self.begun(alloc, trace)?;
+        self.launched.reserve(begun.pending.len())?;
+        self.ended.reserve(begun.finished.len())?;
+        self.cancelled.reserve(begun.happened.cancelled.len())?;
+        self.expired.reserve(begun.happened.expired.len())?;
+        let now = self.now;
+        keep(&mut self.pieces, now, &begun.running);
+        prolong(&mut self.pieces, now);
+        self.drained = begun.drained;
+        self.pending = begun.pending;
+        let _ = self.ended.append(&mut begun.finished);
+        let _ = self.cancelled.extend_from_slice(&begun.happened.cancelled);
+        let _ = self.expired.extend_from_slice(&begun.happened.expired);
+        Ok(begun.happened)
+    }
 }
