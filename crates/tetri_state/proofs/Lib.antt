@@ -1,9 +1,13 @@
+pub mod ArrivalLemmas
 pub mod Ascending
 pub mod BeginLemmas
 pub mod BusyLemmas
+pub mod InstanceLemmas
+pub mod PieceLemmas
 pub mod RunLemmas
 pub mod SearchLemmas
 pub mod SlotLemmas
 pub mod SoundLemmas
 pub mod ToldLemmas
+pub mod StandLemmas
 pub mod TurnLemmas

@@ -53,7 +53,7 @@ module _ (P : ℕ → Type 0) where
   happen_pending (Drain node) at v es each = each
   happen_pending (Undrain node) at v es each = each
 
-  happen_all-pending : (es : List Event) (v : Turn) → Each P (v.pending ++ arriving es) → Each P (happen_all es v).pending
+  pub happen_all-pending : (es : List Event) (v : Turn) → Each P (v.pending ++ arriving es) → Each P (happen_all es v).pending
   happen_all-pending [] v each = each_front P v.pending [] each
   happen_all-pending (e ∷ es) v each = happen_all-pending es (happen e.what v) (happen_pending e.what e.at v es each)
 
