@@ -108,3 +108,11 @@ ascend_filtered test (n ∷ ns) ms up = by_test (test n) (ascend_filtered test n
 pub ascend_front : (ns ms : List ℕ) → Ascend (ns ++ ms) → Ascend ns
 ascend_front [] ms up = tt
 ascend_front (n ∷ ns) ms up = (each_front (λ m. n < m) ns ms up.0, ascend_front ns ms up.1)
+
+pub ascend_filter : (test : ℕ → Bool) (ns : List ℕ) → Ascend ns → Ascend (filter test ns)
+ascend_filter test [] up = tt
+ascend_filter test (n ∷ ns) up = by_test (test n) (ascend_filter test ns up.1)
+  where
+    by_test : (t : Bool) → Ascend (filter test ns) → Ascend (cond t (n ∷ filter test ns) (filter test ns))
+    by_test true rest = (each_filtered (λ m. n < m) test ns up.0, rest)
+    by_test false rest = rest

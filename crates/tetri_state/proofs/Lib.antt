@@ -3,6 +3,7 @@ pub mod Ascending
 pub mod BeginLemmas
 pub mod BusyLemmas
 pub mod InstanceLemmas
+pub mod LaunchLemmas
 pub mod PieceLemmas
 pub mod RunLemmas
 pub mod SearchLemmas

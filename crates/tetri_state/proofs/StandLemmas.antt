@@ -9,7 +9,7 @@ use Rattle.tetri_state.specs.declared.pieces.Piece.{Piece}
 use Rattle.tetri_state.specs.Begin.{Turn, arriving, begin, events_at, happen, happen_all, has_ended, has_expired, named, prolonged, running_on, runs, staying, told, turn}
 use Rattle.tetri_state.specs.Snapshot.{Snapshot, demanded, opening_state}
 use Rattle.tetri_state.proofs.ArrivalLemmas.{ArrivedBefore, all_arrived, pending_then_arrivals}
-use Rattle.tetri_state.proofs.Ascending.{Ascend, ascend_filtered, ascend_front, each_filtered}
+use Rattle.tetri_state.proofs.Ascending.{Ascend, ascend_filter, ascend_front, each_filtered}
 use Rattle.tetri_state.proofs.PieceLemmas.{NoneShare, each_mapped, each_of, prolonged-ahead, prolonged-nodes, prolonged-within, share_filter, share_prolonged}
 use Rattle.tetri_state.proofs.SoundLemmas.{happen_all-pending}
 use Rattle.tetri_state.proofs.ToldLemmas.{Each, in_order-rises}
@@ -53,9 +53,7 @@ module _ (t : Scenario) (s : Snapshot) (sound : IsSound t) (stands : Stands t s.
   -- once its slot has begun
   pub begin_stands : s.now < 10000 → Stands t (s.now + 1) (begin t s)
   begin_stands early = record {
-    ascending =
-        subst Ascend (append-nil (filter (λ j. not (has_expired t s.now j)) (turn t s).pending))
-        (ascend_filtered (λ j. not (has_expired t s.now j)) (turn t s).pending [] (subst Ascend (sym (append-nil (turn t s).pending)) turn_ascends));
+    ascending = ascend_filter (λ j. not (has_expired t s.now j)) (turn t s).pending turn_ascends;
     arrived = each_filtered (ArrivedBefore t (s.now + 1)) (λ j. not (has_expired t s.now j)) (turn t s).pending turn_arrived;
     drained = turn_keeps.drained;
     pieces =
