@@ -132,7 +132,7 @@ no_position test k (x ∷ xs) none =
     ∙ no_position test (k + 1) xs (All-tail (λ y. test y ≡ false) x xs none)
 
 -- where no grant is the job's, nothing is wasted
-thrifty_without : (a : List Grant) (job : ℕ) (e : Tree) → IsSoundTree e → All (λ g. g.job ≡ job → ⊥) a → IsThriftyFor a job e
+pub thrifty_without : (a : List Grant) (job : ℕ) (e : Tree) → IsSoundTree e → All (λ g. g.job ≡ job → ⊥) a → IsThriftyFor a job e
 thrifty_without a job e sound others =
     (waste_is_exact a job e sound).0
     (no_position (wastes job (idle (leaf_worth a job) e)) 0 a (λ k d lt. other (get_or a k d) (others k d lt)))

@@ -5,6 +5,7 @@ pub mod BusyLemmas
 pub mod InstanceLemmas
 pub mod LaunchLemmas
 pub mod PieceLemmas
+pub mod ReachedLemmas
 pub mod RunLemmas
 pub mod SearchLemmas
 pub mod SlotLemmas

@@ -2,18 +2,27 @@
 ghost use Rattle.std.specs.Prelude.{◌≡◌, ◌<◌, ◌≤◌, ◌++◌, All, length, IfOk, OnErr, OnOk, option_map, slice_get};
 ghost use Rattle.std.specs.List.Sorted.{IsNonDecreasingBy, IsStrictlyIncreasing};
 ghost use Rattle.tetri_state.specs.Begin.{arriving, begin, ending, events_at, finished, occurrences, occurring, running_on, told, turn};
+ghost use Rattle.tetri_space.specs.Space.{space};
+ghost use Rattle.tetri_space.specs.Sound.{IsSound as IsSoundSpace};
+ghost use Rattle.tetri_state.specs.Planning.{IsNumbered, instance_of};
+ghost use Rattle.tetri_state.specs.Reached as moment;
+ghost use Rattle.tetri_state.specs.Reached.{IsReached};
 ghost use Rattle.tetri_state.specs.Snapshot.{opening_state};
 ghost use Rattle.tetri_trace.specs.Scenario.{scenario};
 ghost use Rattle.tetri_trace.specs.Sound.{IsSound};
 
 use crate::beginning::{Begun, keep, prolong};
+use crate::busy::busy_row;
 use crate::events::{events_at, take_all};
 use crate::expiry::part;
 use crate::happened::Happened;
 use crate::pieces::Piece;
+use crate::planning::offers;
 use crate::told::{ended, finished, over, running};
 use std::alloc::{AllocError, Global};
 use std::marker::Model;
+use std::rc::Rc;
+use tetri_space::Instance;
 use tetri_strl::Allotment;
 use tetri_trace::Trace;
 
@@ -58,6 +67,87 @@ impl Model for State {
 }
 
 impl State {
+    /// The state as a run of the trace opens: slot 0, and nothing drained, pending or running. Its only error is want of
+    /// memory.
+    #[tactic(auto, using(crate::proofs::ReachedLemmas::opening_reached))]
+    pub fn open(alloc: Global, trace: &Trace) -> Result<State, AllocError>
+        requires { IsSound (scenario trace.now) }
+        ensures state { IfOk result (λ s. s ≡ opening_state (scenario trace.entry.now)) }
+        ensures reached { IfOk result (IsReached (scenario trace.entry.now) moment.between) }
+    {
+        State::opening(alloc, trace)
+    }
+
+    /// Begins the cycle of the slot: pieces that really end do so, the events of the slot happen, pieces that run longer
+    /// than expected are prolonged, and pending jobs whose remaining leaves are worth nothing expire. Its only error is want
+    /// of memory, which changes nothing.
+    #[tactic(auto, using(crate::proofs::ReachedLemmas::begin_reached))]
+    pub fn begin_cycle(&mut self, alloc: Global, trace: &Trace) -> Result<Happened, AllocError>
+        requires sound { IsSound (scenario trace.now) }
+        requires reached { IsReached (scenario trace.now) moment.between self.old }
+        requires more { self.old.now < (scenario trace.now).header.until }
+        ensures state { OnOk result (self.new ≡ begin (scenario trace.entry.now) self.old) }
+        ensures happened { IfOk result (λ h. occurrences h ≡ occurring (scenario trace.entry.now) self.old) }
+        ensures reached { OnOk result (IsReached (scenario trace.entry.now) moment.begun self.new) }
+        ensures err { OnErr result (self.new ≡ self.old) }
+    {
+        self.begin(alloc, trace)
+    }
+
+    /// What the cycle plans for, once its slot has begun. The sets of nodes are the trace's. Its only error is want of memory.
+    pub fn instance(&self, alloc: Global, trace: &Trace) -> Result<Instance, AllocError>
+        requires sound { IsSound (scenario trace.now) }
+        requires reached { IsReached (scenario trace.now) moment.begun self.now }
+        ensures instance { IfOk result (λ i. space i ≡ instance_of (scenario trace.entry.now) self.entry.now) }
+        ensures sound { IfOk result (λ i. IsSoundSpace (space i)) }
+        ensures sets { IfOk result (λ i. All IsStrictlyIncreasing (space i).sets) }
+        ensures numbered { IfOk result (λ i. All IsNumbered (space i).bids) }
+    {
+        self.instance_made(alloc, trace)
+    }
+
+    /// The slot.
+    pub fn now(&self) -> u32
+        ensures { result ≡ self.entry.now.now }
+    {
+        self.now
+    }
+
+    /// The running piece at a place in order of launch. `None` exactly where the place is not below their number.
+    pub fn piece(&self, place: usize) -> Option<&Piece>
+        ensures { option_map (λ p. p.now) result ≡ slice_get self.entry.now.pieces place }
+    {
+        self.pieces.get(place)
+    }
+
+    /// How many jobs were launched so far.
+    pub fn launched_count(&self) -> usize
+        ensures { result ≡ length self.entry.now.launched }
+    {
+        self.launched.len()
+    }
+
+    /// How many jobs ended so far, with the last of their pieces.
+    pub fn ended_count(&self) -> usize
+        ensures { result ≡ length self.entry.now.ended }
+    {
+        self.ended.len()
+    }
+
+    /// How many jobs were cancelled so far, pending or running.
+    pub fn cancelled_count(&self) -> usize
+        ensures { result ≡ length self.entry.now.cancelled }
+    {
+        self.cancelled.len()
+    }
+
+    /// How many jobs expired so far.
+    pub fn expired_count(&self) -> usize
+        ensures { result ≡ length self.entry.now.expired }
+    {
+        self.expired.len()
+    }
+
     // The state before the first cycle.
     fn opening(alloc: Global, trace: &Trace) -> Result<State, AllocError>
         ensures { IfOk result (λ s. s ≡ opening_state (scenario trace.now)) }
@@ -138,5 +228,22 @@ impl State {
         let _ = self.cancelled.extend_from_slice(&begun.happened.cancelled);
         let _ = self.expired.extend_from_slice(&begun.happened.expired);
         Ok(begun.happened)
+    }
+
+    fn instance_made(&self, alloc: Global, trace: &Trace) -> Result<Instance, AllocError>
+        requires jobs { All (λ j. j < length (scenario trace.now).submissions) self.now.pending }
+        requires nodes { All (λ p. All (λ n. n < length (scenario trace.now).nodes) p.nodes) self.now.pieces }
+        ensures { IfOk result (λ i. space i ≡ instance_of (scenario trace.entry.now) self.entry.now) }
+    {
+        let nodes = trace.cluster.count();
+        Ok(Instance {
+            now: self.now,
+            window: trace.header.window,
+            nodes,
+            sets: Rc::clone(&trace.sets)?,
+            busy_until: busy_row(alloc, nodes, self.now, &self.pieces)?,
+            drained: Vec::from_slice(alloc, &self.drained)?,
+            jobs: offers(alloc, trace, &self.pending)?,
+        })
     }
 }

@@ -5,7 +5,6 @@ use Rattle.tetri_trace.specs.Scenario.{Scenario, scenario}
 use Rattle.tetri_state.specs.declared.pieces.Piece.{Piece}
 use Rattle.tetri_state.specs.Begin.{Occurrences, begin, has_ended, prolonged, running_on, runs, staying, turn}
 use Rattle.tetri_state.specs.Snapshot.{Snapshot}
-use Rattle.tetri_state.proofs.LaunchLemmas.{after_stands}
 use Rattle.tetri_state.proofs.BeginLemmas.{appended, filter_both, same_state}
 use Rattle.tetri_state.proofs.state.State.begin.Goals as goal
 
