@@ -6,6 +6,7 @@ pub mod InstanceLemmas
 pub mod LaunchLemmas
 pub mod PieceLemmas
 pub mod ReachedLemmas
+pub mod ReadyLemmas
 pub mod RunLemmas
 pub mod SearchLemmas
 pub mod SlotLemmas

@@ -9,10 +9,12 @@ mod happened;
 mod launches;
 mod pieces;
 mod planning;
+mod prepared;
 mod state;
 mod told;
 
 pub use happened::{Happened, PieceId};
 pub use launches::{Launch, launch_of, starts_of};
 pub use pieces::Piece;
+pub use prepared::Prepared;
 pub use state::State;
