@@ -1,5 +1,5 @@
 -- What the beginning of a cycle leaves.
-use Rattle.std.proofs.Common.{◌≡◌, ℕ, ◌&&◌, Bool, true, false, cond, List, [], ◌∷◌, ◌++◌, filter, refl, sym, ap, ◌∙◌}
+use Rattle.std.proofs.Common.{◌≡◌, ℕ, ◌&&◌, Bool, true, false, cond, List, [], ◌∷◌, ◌++◌, filter, length, refl, sym, ap, ◌∙◌, arith, Vec, vec_len}
 use Rattle.tetri_strl.specs.declared.grants.Grant.{Grant}
 use Rattle.tetri_state.specs.declared.pieces.Piece.{Piece}
 use Rattle.tetri_state.specs.Snapshot.{Snapshot}
@@ -30,3 +30,7 @@ same_state now plan drained pending pieces launched ended cancelled expired = cc
 pub appended : {X : Type 0} {b : Bool} {xs ys zs us vs : List X} → xs ≡ cond b (ys ++ zs) ys → b ≡ true → ys ≡ us → zs ≡ vs → xs ≡ us ++ vs
 appended {X} {b} {xs} {ys} {zs} {us} {vs} is ok front back =
     is ∙ ap (λ t. cond t (ys ++ zs) ys) ok ∙ ap (λ ws. ws ++ zs) front ∙ ap (λ ws. us ++ ws) back
+
+-- the length of a vector
+pub len_is : {X Z : Type 0} (v : Vec X Z) → vec_len v ≡ length v.items
+len_is v = omega (arith, v.ok.0)

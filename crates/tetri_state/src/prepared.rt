@@ -1,5 +1,5 @@
 // A launch, made ready.
-ghost use Rattle.std.specs.Prelude.{◌≡◌, ◌<◌, ◌≤◌, ◌==◌, ℕ, ℤ, negsuc, pos, ◌≤ℤ◌, All, filter, length, map, option_map, IfOk};
+ghost use Rattle.std.specs.Prelude.{◌≡◌, ◌<◌, ◌≤◌, ◌==◌, ℕ, ℤ, negsuc, pos, ◌≤ℤ◌, All, filter, length, map, not, option_map, IfOk};
 ghost use Rattle.std.specs.List.{filter_map, list_any};
 ghost use Rattle.std.specs.List.Sorted.{IsNonDecreasing};
 ghost use Rattle.tetri_space.specs.Sound.{IsSound as IsSoundSpace};
@@ -142,8 +142,10 @@ pub fn is_among(jobs: &[u32], job: u32) -> bool
 
 // The jobs that are among the others.
 pub fn common_jobs(alloc: Global, jobs: &[u32], others: &[u32]) -> Result<Vec<u32>, AllocError>
-    requires { IsNonDecreasing others.now }
-    ensures { IfOk result (λ v. v.items ≡ filter (has others.now) jobs.now) }
+    requires rise { IsNonDecreasing jobs.now }
+    requires others_rise { IsNonDecreasing others.now }
+    ensures common { IfOk result (λ v. v.items ≡ filter (has others.now) jobs.now) }
+    ensures rise { IfOk result (λ v. IsNonDecreasing v.items) }
 {
     let mut common = Vec::new(alloc);
     for job in jobs {
@@ -152,4 +154,12 @@ pub fn common_jobs(alloc: Global, jobs: &[u32], others: &[u32]) -> Result<Vec<u3
         }
     }
     Ok(common)
+}
+
+// Takes these jobs away.
+pub fn leave(jobs: &mut Vec<u32>, launched: &[u32])
+    requires { IsNonDecreasing launched.now }
+    ensures { jobs.new.items ≡ filter (λ j. not (has launched.now j)) jobs.old.items }
+{
+    jobs.retain(|job| !is_among(launched, *job));
 }
