@@ -151,7 +151,7 @@ has_bid t (n ∷ ns) job there = by_test (n == job) refl there (has_bid t ns job
     by_test false differ e rest = let later = rest e in (suc later.0, omega (arith, later.1), later.2)
 
 -- a bid is one of a pending job
-bid_known : (t : Scenario) (ns : List ℕ) (b : Bid) → Contains (map (bid_of t) ns) b → (b.expr ≡ demanded t b.job) × (has ns b.job ≡ true)
+pub bid_known : (t : Scenario) (ns : List ℕ) (b : Bid) → Contains (map (bid_of t) ns) b → (b.expr ≡ demanded t b.job) × (has ns b.job ≡ true)
 bid_known t ns b at =
     let lt : at.0 < length ns = omega (arith, at.1, length-map ns (bid_of t)) in
     let is : b ≡ bid_of t (get_or ns at.0 0) = sym at.2 ∙ get_or-map (bid_of t) ns at.0 0 b lt in

@@ -2,6 +2,7 @@ pub mod ArrivalLemmas
 pub mod Ascending
 pub mod BeginLemmas
 pub mod BusyLemmas
+pub mod CarryLemmas
 pub mod InstanceLemmas
 pub mod LaunchLemmas
 pub mod PieceLemmas

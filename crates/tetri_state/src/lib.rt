@@ -3,6 +3,7 @@
 
 mod beginning;
 mod busy;
+mod carrying;
 mod events;
 mod expiry;
 mod happened;

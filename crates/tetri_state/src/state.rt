@@ -6,7 +6,7 @@ ghost use Rattle.tetri_space.specs.Lawful.{IsLawful};
 ghost use Rattle.tetri_space.specs.Space.{space};
 ghost use Rattle.tetri_space.specs.Sound.{IsSound as IsSoundSpace};
 ghost use Rattle.tetri_state.specs.After.{after};
-ghost use Rattle.tetri_state.specs.Planning.{AreThrifty, IsNumbered, instance_of};
+ghost use Rattle.tetri_state.specs.Planning.{AreThrifty, IsCarry, IsNumbered, instance_of};
 ghost use Rattle.tetri_state.specs.Reached as moment;
 ghost use Rattle.tetri_state.specs.Reached.{IsReached};
 ghost use Rattle.tetri_state.specs.Readied.{Fits, IsLaunchOf, launched_from};
@@ -17,6 +17,7 @@ ghost use Rattle.tetri_trace.specs.Sound.{IsSound};
 
 use crate::beginning::{Begun, keep, prolong};
 use crate::busy::busy_row;
+use crate::carrying::grants_of;
 use crate::events::{events_at, take_all};
 use crate::expiry::part;
 use crate::happened::Happened;
@@ -27,7 +28,7 @@ use crate::told::{ended, finished, over, running};
 use std::alloc::{AllocError, Global};
 use std::marker::Model;
 use std::rc::Rc;
-use tetri_space::Instance;
+use tetri_space::{Instance, lawful};
 use tetri_strl::{Allotment, copy_grants};
 use tetri_trace::Trace;
 
@@ -109,6 +110,29 @@ impl State {
         ensures numbered { IfOk result (λ i. All IsNumbered (space i).bids) }
     {
         self.instance_made(alloc, trace)
+    }
+
+    /// What is carried over of the last plan: the grants of its jobs that are still pending, where these are lawful together
+    /// in the instance of this state, and else none. Its only error is want of memory.
+    pub fn carry(
+        &self,
+        alloc: Global,
+        trace: &Trace,
+        inst: &Instance,
+    ) -> Result<Allotment, AllocError>
+        requires sound { IsSound (scenario trace.now) }
+        requires reached { IsReached (scenario trace.now) moment.begun self.now }
+        requires instance { space inst.now ≡ instance_of (scenario trace.now) self.now }
+        ensures carry { IfOk result (IsCarry (space inst.entry.now) self.entry.now.plan) }
+        ensures lawful { IfOk result (IsLawful (space inst.entry.now)) }
+        ensures thrifty { IfOk result (AreThrifty (space inst.entry.now)) }
+    {
+        let _ = trace;
+        let kept = grants_of(alloc, self.plan.as_slice(), &self.pending)?;
+        match lawful(inst, &kept) {
+            Ok(()) => Ok(kept),
+            Err(_) => Ok(Allotment::new(alloc)),
+        }
     }
 
     /// Makes the launch of grants ready, which are lawful and thrifty in the instance of this state. It takes all memory
