@@ -1,1 +1,17 @@
+pub mod ArrivalLemmas
+pub mod Ascending
+pub mod BeginLemmas
+pub mod BusyLemmas
+pub mod CarryLemmas
+pub mod InstanceLemmas
+pub mod LaunchLemmas
+pub mod PieceLemmas
+pub mod ReachedLemmas
+pub mod ReadyLemmas
 pub mod RunLemmas
+pub mod SearchLemmas
+pub mod SlotLemmas
+pub mod SoundLemmas
+pub mod ToldLemmas
+pub mod StandLemmas
+pub mod TurnLemmas

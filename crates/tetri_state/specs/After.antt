@@ -1,13 +1,11 @@
 -- The end of a cycle: what its plan launches runs from now on.
-use Rattle.std.specs.Prelude.{◌≡◌, ℕ, ℤ, pos, negsuc, ◌+◌, ◌-◌, ◌<◌, ◌≤◌, max, not, List, ◌++◌, filter, length, Option, option_map}
+use Rattle.std.specs.Prelude.{ℕ, ℤ, pos, negsuc, ◌+◌, ◌-◌, max, not, List, ◌++◌, filter, option_map}
 use Rattle.std.specs.List.{filter_map}
-use Rattle.std.specs.List.Sorted.{IsNonDecreasing}
 use Rattle.tetri_strl.specs.declared.expr.Leaf.{Leaf}
 use Rattle.tetri_strl.specs.declared.grants.Grant.{Grant}
 use Rattle.tetri_space.specs.Space.{Space, leaf_in}
 use Rattle.tetri_trace.specs.Scenario.{Scenario}
 use Rattle.tetri_state.specs.declared.pieces.Piece.{Piece}
-use Rattle.tetri_state.specs.Begin.{has}
 use Rattle.tetri_state.specs.Launch.{starts_now, launched_in}
 use Rattle.tetri_state.specs.Planning.{instance_of}
 use Rattle.tetri_state.specs.Snapshot.{Snapshot, submission_of}
@@ -45,22 +43,3 @@ after t s a = record {
   expired = s.expired;
   plan = a;
 }
-
--- a launch with its memory: the jobs, their pieces, all grants of the plan, and room for so many pieces
-pub record Readied : Type 0 where
-  pub jobs : List ℕ
-  pub pieces : List Piece
-  pub grants : List Grant
-  pub room : ℕ
-
--- the launch of this plan from this state
-pub record IsLaunchOf (t : Scenario) (s : Snapshot) (a : List Grant) (r : Readied) : Type 0 where
-  pub jobs : r.jobs ≡ launched_in (instance_of t s) a
-  pub pieces : r.pieces ≡ new_pieces t (instance_of t s) a
-  pub grants : r.grants ≡ a
-
--- the launch is one of pending jobs, and its memory suffices for the state
-pub record Fits (s : Snapshot) (r : Readied) : Type 0 where
-  pub early : s.now < 20000
-  pub pending : r.jobs ≡ filter (has r.jobs) s.pending
-  pub room : length s.pieces + length r.pieces ≤ r.room

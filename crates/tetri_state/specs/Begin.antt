@@ -1,5 +1,5 @@
 -- The beginning of a cycle: pieces end, the events of the slot happen, pieces run over, and jobs expire.
-use Rattle.std.specs.Prelude.{ℕ, ◌+◌, ◌==◌, ◌&&◌, ◌||◌, Bool, true, false, not, nat_lt, nat_le, if◌then◌else◌, List, [], ◌∷◌, ◌++◌, map, filter, slice_set, Option, Some, None}
+use Rattle.std.specs.Prelude.{ℕ, ◌+◌, ◌==◌, ◌&&◌, ◌||◌, Bool, true, false, not, nat_lt, nat_le, ◌<◌, if◌then◌else◌, List, [], ◌∷◌, ◌++◌, map, filter, slice_set, Option, Some, None}
 use Rattle.std.specs.List.{filter_map, list_any}
 use Rattle.tetri_strl.specs.Worth.{top_of}
 use Rattle.tetri_trace.specs.declared.trace.Event.{Event}
@@ -52,14 +52,10 @@ ending s = filter (has_ended s.now) s.pieces
 abbrev pub running_on : Snapshot → List Piece
 running_on s = filter (λ p. not (has_ended s.now p)) s.pieces
 
--- each number once
-abbrev pub each_once : List ℕ → List ℕ
-each_once [] = []
-each_once (n ∷ ns) = if has ns n then each_once ns else n ∷ each_once ns
-
--- the jobs of ended pieces of which no piece runs on
+-- the jobs of ended pieces of which none runs on, each once
 abbrev pub finished : List PieceId → List PieceId → List ℕ
-finished running ended = filter (λ j. not (runs running j)) (each_once (map (λ a. a.job) ended))
+finished running [] = []
+finished running (a ∷ ended) = if runs ended a.job || runs running a.job then finished running ended else a.job ∷ finished running ended
 
 -- Then the events of the slot happen, in the order of their lines.
 
@@ -149,6 +145,13 @@ occurring t s = record {
 -- what is told of it
 abbrev pub occurrences : Happened → Occurrences
 occurrences h = record { ended = h.ended.items; cancelled = h.cancelled.items; over = h.over.items; expired = h.expired.items }
+
+-- an event of a node is of one below this number
+abbrev pub IsOfNodeBelow : ℕ → Happening → Type 0
+IsOfNodeBelow nodes (Arrive job) = Unit {0}
+IsOfNodeBelow nodes (Cancel job) = Unit {0}
+IsOfNodeBelow nodes (Drain node) = node < nodes
+IsOfNodeBelow nodes (Undrain node) = node < nodes
 
 -- the jobs that arrive among events, in order
 abbrev pub arrived : Event → Option ℕ

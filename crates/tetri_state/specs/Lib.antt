@@ -5,3 +5,4 @@ pub mod Planning
 pub mod After
 pub mod Reached
 pub mod Pieces
+pub mod Readied

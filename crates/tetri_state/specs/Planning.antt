@@ -1,5 +1,5 @@
 -- What a cycle plans for, and what it carries over.
-use Rattle.std.specs.Prelude.{◌≡◌, ℕ, ◌==◌, ◌⊎◌, List, [], map, filter, find, length, All, Option, Some, None}
+use Rattle.std.specs.Prelude.{◌≡◌, ℕ, ◌==◌, ◌⊎◌, List, [], ◌∷◌, slice_set, map, filter, find, length, All, Option, Some, None}
 use Rattle.std.specs.List.{list_any, range_with_len}
 use Rattle.tetri_strl.specs.declared.grants.Grant.{Grant}
 use Rattle.tetri_strl.specs.Thrifty.{IsThriftyFor}
@@ -18,6 +18,11 @@ expected_or now (Some p) = p.expected
 -- the slot in which the piece on a node is expected to have ended, or now
 abbrev pub busy_until : ℕ → List Piece → ℕ → ℕ
 busy_until now pieces node = expected_or now (find (λ p. has p.nodes node) pieces)
+
+-- a row with this number at each of the places
+abbrev pub marked : ℕ → List ℕ → List ℕ → List ℕ
+marked until row [] = row
+marked until row (n ∷ ns) = marked until (slice_set row n until) ns
 
 abbrev pub bid_of : Scenario → ℕ → Bid
 bid_of t job = record { job = job; expr = demanded t job }

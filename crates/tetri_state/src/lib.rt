@@ -1,10 +1,21 @@
 //! The state of the cycles: what happens at the beginning of a cycle, what it plans for, and what it launches.
 #![tactic(auto)]
 
+mod beginning;
+mod busy;
+mod carrying;
+mod events;
+mod expiry;
 mod happened;
 mod launches;
 mod pieces;
+mod planning;
+mod prepared;
+mod state;
+mod told;
 
 pub use happened::{Happened, PieceId};
 pub use launches::{Launch, launch_of, starts_of};
 pub use pieces::Piece;
+pub use prepared::Prepared;
+pub use state::State;

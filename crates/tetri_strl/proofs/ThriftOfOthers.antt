@@ -53,7 +53,7 @@ held_leaves-others (g ∷ gs) job other =
     ∙ held_leaves-others gs job (All-tail (λ h. h.job ≢ job) g gs other)
 
 -- an allotment that gives the job the same, leaf by leaf
-thrifty_of-same : (a b : List Grant) (job : ℕ) (t : Tree) → ((leaf : ℕ) → granted a job leaf ≡ granted b job leaf) → held_leaves a job ≡ held_leaves b job →
+pub thrifty_of-same : (a b : List Grant) (job : ℕ) (t : Tree) → ((leaf : ℕ) → granted a job leaf ≡ granted b job leaf) → held_leaves a job ≡ held_leaves b job →
     IsThriftyFor a job t → IsThriftyFor b job t
 thrifty_of-same a b job t counts leaves_same h =
     subst (λ ns. IsThrifty (leaf_worth b job) ns t) leaves_same

@@ -12,7 +12,7 @@ mod trimming;
 mod wasting;
 mod worths;
 
-pub use copy::{copy_expr, copy_grants};
+pub use copy::{copy_expr, copy_grant, copy_grants, copy_nodes};
 pub use expr::{Expr, Leaf};
 pub use grants::{Allotment, Grant, NodeList};
 pub use laws::thrifty_grants_start_together;

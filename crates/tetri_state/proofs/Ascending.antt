@@ -1,0 +1,118 @@
+-- Numbers that ascend.
+use Rattle.std.proofs.Common.{◌≡◌, ℕ, ◌+◌, ◌<◌, ◌≤◌, ◌==◌, ◌||◌, Bool, true, false, cond, List, [], ◌∷◌, ◌++◌, length, get_or, refl, sym, ap, ◌∙◌, subst, arith, not, filter, suc, zero, AllPairs, add-one}
+use Rattle.std.specs.List.{list_any, remove}
+use Rattle.std.specs.List.Sorted.{IsStrictlyIncreasing}
+use Rattle.std.proofs.lemmas.Bool.Decides.{nat_tests}
+use Rattle.std.proofs.lemmas.List.Kept.{AllPairs-from_increasing}
+use Rattle.tetri_state.specs.Begin.{has, without}
+use Rattle.tetri_state.proofs.ToldLemmas.{Each, each_at, each_weaker}
+
+-- each number is below all that stand behind it
+abbrev pub Ascend : List ℕ → Type 0
+Ascend [] = Unit {0}
+Ascend (n ∷ ns) = Each (λ m. n < m) ns × Ascend ns
+
+pub each_from : {X : Type 0} (P : X → Type 0) (xs : List X) → ((k : ℕ) (d : X) → k < length xs → P (get_or xs k d)) → Each P xs
+each_from P [] all = tt
+each_from P (x ∷ xs) all = (all 0 x (omega arith), each_from P xs (λ k d lt. all (suc k) d (omega arith)))
+
+ascend_pairs : (ns : List ℕ) → AllPairs (λ m n. m < n) ns → Ascend ns
+ascend_pairs [] pairs = tt
+ascend_pairs (n ∷ ns) pairs =
+    (each_from (λ m. n < m) ns (λ k d lt. pairs 0 (suc k) d (omega arith) (omega arith)),
+    ascend_pairs ns (λ i j d before lt. pairs (suc i) (suc j) d (omega arith) (omega arith)))
+
+pub ascend_from : (ns : List ℕ) → IsStrictlyIncreasing ns → Ascend ns
+ascend_from ns rises = ascend_pairs ns (AllPairs-from_increasing ns rises)
+
+next_above : (ns : List ℕ) (k : ℕ) → Ascend ns → suc k < length ns → get_or ns k 0 < get_or ns (suc k) 0
+next_above [] k up lt = absurd (omega arith)
+next_above (n ∷ ns) zero up lt = each_at (λ m. n < m) ns 0 0 (omega arith) up.0
+next_above (n ∷ ns) (suc k) up lt = next_above ns k up.1 (omega arith)
+
+pub ascend_to : (ns : List ℕ) → Ascend ns → IsStrictlyIncreasing ns
+ascend_to ns up k lt = rw add-one (next_above ns k up (omega arith))
+
+other_kept : (m n : ℕ) (ms : List ℕ) → n < m → cond (not (m == n)) (m ∷ ms) ms ≡ m ∷ ms
+other_kept m n ms lt = by_test (m == n) refl
+  where
+    by_test : (t : Bool) → (m == n) ≡ t → cond (not t) (m ∷ ms) ms ≡ m ∷ ms
+    by_test true same = let no_way : ⊥ = grind (arith, nat_tests) in absurd no_way
+    by_test false differ = refl
+
+without_above : (n : ℕ) (ns : List ℕ) → Each (λ m. n < m) ns → without n ns ≡ ns
+without_above n [] above = refl
+without_above n (m ∷ ns) above = other_kept m n (without n ns) above.0 ∙ ap (λ ms. m ∷ ms) (without_above n ns above.1)
+
+lesser_kept : (m n : ℕ) (ms : List ℕ) → m < n → cond (not (m == n)) (m ∷ ms) ms ≡ m ∷ ms
+lesser_kept m n ms lt = by_test (m == n) refl
+  where
+    by_test : (t : Bool) → (m == n) ≡ t → cond (not t) (m ∷ ms) ms ≡ m ∷ ms
+    by_test true same = let no_way : ⊥ = grind (arith, nat_tests) in absurd no_way
+    by_test false differ = refl
+
+itself_dropped : (n : ℕ) (ms : List ℕ) → cond (not (n == n)) (n ∷ ms) ms ≡ ms
+itself_dropped n ms = by_test (n == n) refl
+  where
+    by_test : (t : Bool) → (n == n) ≡ t → cond (not t) (n ∷ ms) ms ≡ ms
+    by_test true same = refl
+    by_test false differ = let no_way : ⊥ = grind (arith, nat_tests) in absurd no_way
+
+-- to remove the number at a place is to leave it out
+pub remove_is : (ns : List ℕ) (i : ℕ) (d : ℕ) → Ascend ns → i < length ns → remove ns i ≡ without (get_or ns i d) ns
+remove_is [] i d up lt = absurd (omega arith)
+remove_is (n ∷ ns) zero d up lt = sym (itself_dropped n (without n ns) ∙ without_above n ns up.0)
+remove_is (n ∷ ns) (suc i) d up lt =
+    ap (λ ms. n ∷ ms) (remove_is ns i d up.1 (omega arith))
+    ∙ sym (lesser_kept n (get_or ns i d) (without (get_or ns i d) ns) (each_at (λ m. n < m) ns i d (omega arith) up.0))
+
+-- what is not there cannot be left out
+pub without_absent : (n : ℕ) (ns : List ℕ) → has ns n ≡ false → without n ns ≡ ns
+without_absent n [] absent = refl
+without_absent n (m ∷ ns) absent = by_test (m == n) absent (without_absent n ns)
+  where
+    by_test : (t : Bool) → (t || has ns n) ≡ false → (has ns n ≡ false → without n ns ≡ ns) → cond (not t) (m ∷ without n ns) (without n ns) ≡ m ∷ ns
+    by_test true none rest = absurd cc
+    by_test false none rest = ap (λ ms. m ∷ ms) (rest none)
+
+-- a part of numbers that ascend
+pub each_filtered : {X : Type 0} (P : X → Type 0) (test : X → Bool) (xs : List X) → Each P xs → Each P (filter test xs)
+each_filtered P test [] each = tt
+each_filtered P test (x ∷ xs) each = by_test (test x) (each_filtered P test xs each.1)
+  where
+    by_test : (t : Bool) → Each P (filter test xs) → Each P (cond t (x ∷ filter test xs) (filter test xs))
+    by_test true rest = (each.0, rest)
+    by_test false rest = rest
+
+pub each_parts : {X : Type 0} (P : X → Type 0) (xs ys : List X) → Each P xs → Each P ys → Each P (xs ++ ys)
+each_parts P [] ys front back = back
+each_parts P (x ∷ xs) ys front back = (front.0, each_parts P xs ys front.1 back)
+
+pub each_front : {X : Type 0} (P : X → Type 0) (xs ys : List X) → Each P (xs ++ ys) → Each P xs
+each_front P [] ys each = tt
+each_front P (x ∷ xs) ys each = (each.0, each_front P xs ys each.1)
+
+pub each_back : {X : Type 0} (P : X → Type 0) (xs ys : List X) → Each P (xs ++ ys) → Each P ys
+each_back P [] ys each = each
+each_back P (x ∷ xs) ys each = each_back P xs ys each.1
+
+pub ascend_filtered : (test : ℕ → Bool) (ns ms : List ℕ) → Ascend (ns ++ ms) → Ascend (filter test ns ++ ms)
+ascend_filtered test [] ms up = up
+ascend_filtered test (n ∷ ns) ms up = by_test (test n) (ascend_filtered test ns ms up.1)
+  where
+    by_test : (t : Bool) → Ascend (filter test ns ++ ms) → Ascend (cond t (n ∷ filter test ns) (filter test ns) ++ ms)
+    by_test true rest =
+        (each_parts (λ m. n < m) (filter test ns) ms (each_filtered (λ m. n < m) test ns (each_front (λ m. n < m) ns ms up.0)) (each_back (λ m. n < m) ns ms up.0), rest)
+    by_test false rest = rest
+
+pub ascend_front : (ns ms : List ℕ) → Ascend (ns ++ ms) → Ascend ns
+ascend_front [] ms up = tt
+ascend_front (n ∷ ns) ms up = (each_front (λ m. n < m) ns ms up.0, ascend_front ns ms up.1)
+
+pub ascend_filter : (test : ℕ → Bool) (ns : List ℕ) → Ascend ns → Ascend (filter test ns)
+ascend_filter test [] up = tt
+ascend_filter test (n ∷ ns) up = by_test (test n) (ascend_filter test ns up.1)
+  where
+    by_test : (t : Bool) → Ascend (filter test ns) → Ascend (cond t (n ∷ filter test ns) (filter test ns))
+    by_test true rest = (each_filtered (λ m. n < m) test ns up.0, rest)
+    by_test false rest = rest

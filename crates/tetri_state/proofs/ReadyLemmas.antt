@@ -1,0 +1,207 @@
+-- A launch that is made ready.
+use Rattle.std.proofs.Common.{◌≡◌, ℕ, ◌+◌, ◌<◌, ◌≤◌, ◌==◌, ◌&&◌, ◌||◌, Bool, true, false, cond, List, [], ◌∷◌, ◌++◌, length, get_or, map, filter, not, All, Contains, Option, Some, None, refl, sym, ap, ◌∙◌, subst, arith, zero, suc}
+use Rattle.std.specs.List.{cons_option, filter_map, list_any}
+use Rattle.std.proofs.lemmas.Bool.Decides.{nat_tests}
+use Rattle.std.proofs.lemmas.List.{get_or-map, length-map}
+use Rattle.tetri_trace.specs.declared.trace.Job.{Job}
+use Rattle.tetri_trace.specs.declared.trace.Trace.{Trace}
+use Rattle.tetri_trace.specs.Scenario.{Scenario, scenario, submission}
+use Rattle.tetri_trace.specs.Sound.{IsSound, IsSoundSubmission}
+use Rattle.std.specs.Option.{option_map}
+use Rattle.std.proofs.lemmas.List.Elements.{All-contains_itself, Contains-get_or}
+use Rattle.std.proofs.lemmas.List.Folds.{list_any_at, list_any_none}
+use Rattle.tetri_strl.specs.declared.expr.Leaf.{Leaf}
+use Rattle.tetri_strl.specs.declared.grants.Grant.{Grant}
+use Rattle.tetri_space.specs.Lawful.{IsLawful, MayBeGranted}
+use Rattle.tetri_space.specs.Space.{Bid, Space, leaf_in}
+use Rattle.tetri_space.proofs.LeafLemmas.{leaf_in-within}
+use Rattle.tetri_state.specs.declared.pieces.Piece.{Piece}
+use Rattle.tetri_state.specs.After.{after, new_pieces, piece_of}
+use Rattle.tetri_state.specs.Begin.{has}
+use Rattle.tetri_state.specs.Launch.{launched_in, start_of, start_or_0, starts_now}
+use Rattle.tetri_state.specs.Planning.{AreThrifty, bid_of, instance_of}
+use Rattle.tetri_state.specs.Reached.{IsPlan}
+use Rattle.tetri_state.specs.Readied.{IsLaunchOf, Readied, launched_from}
+use Rattle.tetri_state.specs.Snapshot.{Snapshot}
+use Rattle.tetri_state.proofs.ArrivalLemmas.{ArrivedBefore}
+use Rattle.tetri_state.proofs.Ascending.{each_filtered, each_from}
+use Rattle.tetri_state.proofs.BeginLemmas.{same_state}
+use Rattle.tetri_state.proofs.LaunchLemmas.{grant_leaf, starts_here}
+use Rattle.tetri_state.proofs.StandLemmas.{Stands}
+use Rattle.tetri_state.proofs.ToldLemmas.{Each, each_at, each_weaker}
+
+-- a job of one of the pieces
+pub any_job : (ps : List Piece) (job : ℕ) → has (map (λ (p : Piece). p.job) ps) job ≡ list_any (λ p. p.job == job) ps
+any_job [] job = refl
+any_job (p ∷ ps) job = ap (λ b. p.job == job || b) (any_job ps job)
+
+-- a job of a sound trace
+pub sound_job : (trace : Trace) → IsSound (scenario trace) → (job : ℕ) (j : Job) → job < length (scenario trace).submissions → j ≡ get_or trace.jobs.items job j →
+    IsSoundSubmission (scenario trace) (submission j)
+sound_job trace sound job j known is =
+    subst (IsSoundSubmission (scenario trace)) (get_or-map submission trace.jobs.items job j (submission j) (omega (arith, known, length-map trace.jobs.items submission)) ∙ ap submission (sym is))
+    (sound.jobs job (submission j) known)
+
+module _ {X : Type 0} (p q : X → Bool) where
+  -- tests that agree on the elements keep the same
+  pub filter_on : (xs : List X) → Each (λ x. p x ≡ q x) xs → filter p xs ≡ filter q xs
+  filter_on [] same = refl
+  filter_on (x ∷ xs) same = ap (λ b. cond b (x ∷ filter p xs) (filter p xs)) same.0 ∙ ap (λ ys. cond (q x) (x ∷ ys) ys) (filter_on xs same.1)
+
+  -- one of those that pass a test
+  any_filtered : (xs : List X) → list_any q (filter p xs) ≡ list_any (λ x. q x && p x) xs
+  any_filtered [] = refl
+  any_filtered (x ∷ xs) = by_test (p x) refl (any_filtered xs)
+    where
+      dropped : (s : Bool) (b : Bool) → b ≡ (s && false || b)
+      dropped true b = refl
+      dropped false b = refl
+
+      kept : (s : Bool) (b : Bool) → (s || b) ≡ (s && true || b)
+      kept true b = refl
+      kept false b = refl
+
+      by_test : (b : Bool) → p x ≡ b → list_any q (filter p xs) ≡ list_any (λ y. q y && p y) xs →
+          list_any q (cond b (x ∷ filter p xs) (filter p xs)) ≡ (q x && p x || list_any (λ y. q y && p y) xs)
+      by_test true is rest =
+          kept (q x) (list_any q (filter p xs)) ∙ ap (λ b. q x && true || b) rest ∙ ap (λ b. q x && b || list_any (λ y. q y && p y) xs) (sym is)
+      by_test false is rest = rest ∙ dropped (q x) (list_any (λ y. q y && p y) xs) ∙ ap (λ b. q x && b || list_any (λ y. q y && p y) xs) (sym is)
+
+-- of those that pass a test
+has_filtered : (f : ℕ → Bool) (ns : List ℕ) (n : ℕ) → has (filter f ns) n ≡ list_any (λ m. m == n && f m) ns
+has_filtered f ns n = any_filtered f (λ m. m == n) ns
+
+each_itself : (f : ℕ → Bool) (ns : List ℕ) → Each (λ n. has (filter f ns) n ≡ f n) ns
+each_itself f ns = each_from (λ n. has (filter f ns) n ≡ f n) ns (λ k d lt. has_filtered f ns (get_or ns k d) ∙ among ns (get_or ns k d) (Contains-get_or ns k d lt))
+  where
+    test_true : (m n : ℕ) → m ≡ n → (m == n) ≡ true
+    test_true m n e = grind (arith, nat_tests)
+
+    same_or_false : (ms : List ℕ) (n : ℕ) → f n ≡ false → list_any (λ m. m == n && f m) ms ≡ false
+    same_or_false ms n fails = list_any_none (λ m. m == n && f m) ms (λ k d lt. by_test (get_or ms k d) (get_or ms k d == n) refl)
+      where
+        by_test : (m : ℕ) (b : Bool) → (m == n) ≡ b → (b && f m) ≡ false
+        by_test m true same = let at : m ≡ n = grind (arith, nat_tests) in ap f at ∙ fails
+        by_test m false differ = refl
+
+    among : (ms : List ℕ) (n : ℕ) → Contains ms n → list_any (λ m. m == n && f m) ms ≡ f n
+    among ms n at = by_value (f n) refl
+      where
+        by_value : (b : Bool) → f n ≡ b → list_any (λ m. m == n && f m) ms ≡ b
+        by_value true is =
+            let here : get_or ms at.0 n ≡ n = at.2 in
+            list_any_at (λ m. m == n && f m) ms at.0 n at.1 (ap (λ b. b && f (get_or ms at.0 n)) (test_true (get_or ms at.0 n) n here) ∙ ap f here ∙ is)
+        by_value false is = same_or_false ms n is
+
+-- a part of a list is what it has of the list
+pub part_is : (f : ℕ → Bool) (ns : List ℕ) → filter f ns ≡ filter (has (filter f ns)) ns
+part_is f ns = sym (filter_on (has (filter f ns)) f ns (each_itself f ns))
+
+pub rest_is : (f : ℕ → Bool) (ns : List ℕ) → filter (λ n. not (has (filter f ns) n)) ns ≡ filter (λ n. not (f n)) ns
+rest_is f ns =
+    filter_on (λ n. not (has (filter f ns) n)) (λ n. not (f n)) ns
+    (each_weaker (λ n. has (filter f ns) n ≡ f n) (λ n. not (has (filter f ns) n) ≡ not (f n)) (λ n same. ap not same) ns (each_itself f ns))
+
+-- the launched jobs are the pending ones that have a grant which starts now
+pub launched_is : (t : Scenario) (s : Snapshot) (a : List Grant) → launched_in (instance_of t s) a ≡ filter (starts_now (instance_of t s) a) s.pending
+launched_is t s a = along s.pending
+  where
+    along : (ns : List ℕ) → map (λ (b : Bid). b.job) (filter (λ b. starts_now (instance_of t s) a b.job) (map (bid_of t) ns)) ≡ filter (starts_now (instance_of t s) a) ns
+    along [] = refl
+    along (n ∷ ns) = by_test (starts_now (instance_of t s) a n) (along ns)
+      where
+        by_test : (b : Bool) → map (λ (c : Bid). c.job) (filter (λ c. starts_now (instance_of t s) a c.job) (map (bid_of t) ns)) ≡ filter (starts_now (instance_of t s) a) ns →
+            map (λ (c : Bid). c.job) (cond b (bid_of t n ∷ filter (λ c. starts_now (instance_of t s) a c.job) (map (bid_of t) ns)) (filter (λ c. starts_now (instance_of t s) a c.job) (map (bid_of t) ns)))
+            ≡ cond b (n ∷ filter (starts_now (instance_of t s) a) ns) (filter (starts_now (instance_of t s) a) ns)
+        by_test true rest = ap (λ ms. n ∷ ms) rest
+        by_test false rest = rest
+
+-- what a launch leaves is the state after the plan
+pub launch_is_after : (t : Scenario) (s : Snapshot) (a : List Grant) (r : Readied) → IsLaunchOf t s a r → launched_from s r ≡ after t s a
+launch_is_after t s a r launch =
+    let f = starts_now (instance_of t s) a in
+    let jobs : r.jobs ≡ filter f s.pending = launch.jobs ∙ launched_is t s a in
+    let pending : filter (λ j. not (has r.jobs j)) s.pending ≡ filter (λ j. not (f j)) s.pending =
+        ap (λ js. filter (λ j. not (has js j)) s.pending) jobs ∙ rest_is f s.pending in
+    same_state refl launch.grants refl pending (ap (λ ps. s.pieces ++ ps) launch.pieces) (ap (λ js. s.launched ++ js) launch.jobs) refl refl refl
+
+-- the jobs that stay and those that leave are all
+pub parts_count : (test : ℕ → Bool) (ns : List ℕ) → length (filter (λ n. not (test n)) ns) + length (filter test ns) ≡ length ns
+parts_count test [] = omega arith
+parts_count test (n ∷ ns) = by_test (test n) (parts_count test ns)
+  where
+    by_test : (b : Bool) → length (filter (λ m. not (test m)) ns) + length (filter test ns) ≡ length ns →
+        length (cond (not b) (n ∷ filter (λ m. not (test m)) ns) (filter (λ m. not (test m)) ns)) + length (cond b (n ∷ filter test ns) (filter test ns)) ≡ suc (length ns)
+    by_test true rest = omega (arith, rest)
+    by_test false rest = omega (arith, rest)
+
+module _ (t : Scenario) (s : Snapshot) (sound : IsSound t) (stands : Stands t (s.now + 1) s) (early : s.now < 10000) (a : List Grant) (plan : IsPlan t s a) where
+  abbrev i : Space
+  i = instance_of t s
+
+  -- a grant starts now exactly where its job is launched
+  starts_alike : Each (λ g. (start_of i g == i.now) ≡ starts_now i a g.job) a
+  starts_alike = each_from (λ g. (start_of i g == i.now) ≡ starts_now i a g.job) a (λ k d lt. alike (get_or a k d) (Contains-get_or a k d lt))
+    where
+      test_true : (m n : ℕ) → m ≡ n → (m == n) ≡ true
+      test_true m n e = grind (arith, nat_tests)
+
+      alike : (g : Grant) → Contains a g → (start_of i g == i.now) ≡ starts_now i a g.job
+      alike g at = by_job (starts_now i a g.job) refl
+        where
+          held : (b : Bool) → (start_of i g == i.now) ≡ b → starts_now i a g.job ≡ false → b ≡ false
+          held true here none =
+              let found : starts_now i a g.job ≡ true =
+                  list_any_at (λ h. h.job == g.job && start_of i h == i.now) a at.0 g at.1
+                  (subst (λ (h : Grant). (h.job == g.job && start_of i h == i.now) ≡ true) (sym at.2)
+                  (ap (λ b. b && start_of i g == i.now) (test_true g.job g.job refl) ∙ here)) in
+              let e : true ≡ false = sym found ∙ none in
+              absurd cc
+          held false here none = refl
+
+          by_job : (b : Bool) → starts_now i a g.job ≡ b → (start_of i g == i.now) ≡ b
+          by_job true launched =
+              let l = grant_leaf t s sound stands early a plan g at in
+              test_true (start_of i g) i.now (ap start_or_0 l.1 ∙ starts_here t s sound stands early a plan g l.0 at launched l.1)
+          by_job false none = held (start_of i g == i.now) refl none
+
+  pub pieces_alike : filter (λ g. start_of i g == i.now) a ≡ filter (λ g. starts_now i a g.job) a
+  pieces_alike = filter_on (λ g. start_of i g == i.now) (λ g. starts_now i a g.job) a starts_alike
+
+  any_made : (job : ℕ) (gs : List Grant) → Each (Contains a) gs →
+      list_any (λ p. p.job == job) (filter_map (λ g. option_map (piece_of t g) (leaf_in i.bids g.job g.leaf)) gs) ≡ list_any (λ g. g.job == job) gs
+  any_made job [] at = refl
+  any_made job (g ∷ gs) at = by_leaf (grant_leaf t s sound stands early a plan g at.0) (any_made job gs at.1)
+    where
+      by_leaf : (l : Leaf) × (leaf_in i.bids g.job g.leaf ≡ Some l) × MayBeGranted i l g.nodes →
+          list_any (λ p. p.job == job) (filter_map (λ h. option_map (piece_of t h) (leaf_in i.bids h.job h.leaf)) gs) ≡ list_any (λ h. h.job == job) gs →
+          list_any (λ p. p.job == job) (cons_option (option_map (piece_of t g) (leaf_in i.bids g.job g.leaf))
+          (filter_map (λ h. option_map (piece_of t h) (leaf_in i.bids h.job h.leaf)) gs)) ≡ (g.job == job || list_any (λ h. h.job == job) gs)
+      by_leaf l rest =
+          ap (λ o. list_any (λ (p : Piece). p.job == job) (cons_option (option_map (piece_of t g) o) (filter_map (λ h. option_map (piece_of t h) (leaf_in i.bids h.job h.leaf)) gs))) l.1
+          ∙ ap (λ b. g.job == job || b) rest
+
+  -- a job is launched exactly where one of the new pieces is its
+  pub pieces_tell : (job : ℕ) → list_any (λ p. p.job == job) (new_pieces t i a) ≡ starts_now i a job
+  pieces_tell job =
+      any_made job (filter (λ g. starts_now i a g.job) a)
+      (each_filtered (Contains a) (λ g. starts_now i a g.job) a (each_from (Contains a) a (All-contains_itself a)))
+      ∙ ap (list_any (λ (g : Grant). g.job == job)) (sym pieces_alike)
+      ∙ any_filtered (λ g. start_of i g == i.now) (λ (g : Grant). g.job == job) a
+
+  -- each grant's job is there
+  pub grants_known : All (λ g. g.job < length t.submissions) a
+  grants_known k d lt =
+      let g = get_or a k d in
+      let l = grant_leaf t s sound stands early a plan g (Contains-get_or a k d lt) in
+      let b = leaf_in-within i.bids g.job g.leaf l.0 l.1 in
+      let m : b.1.pending.0 < length s.pending = omega (arith, b.1.pending.1, length-map s.pending (bid_of t)) in
+      let is : b.0 ≡ bid_of t (get_or s.pending b.1.pending.0 0) = sym b.1.pending.2 ∙ get_or-map (bid_of t) s.pending b.1.pending.0 0 b.0 m in
+      let job : get_or s.pending b.1.pending.0 0 ≡ g.job = sym (ap (λ (c : Bid). c.job) is) ∙ b.1.of_job in
+      omega (arith, job, (each_at (ArrivedBefore t (s.now + 1)) s.pending b.1.pending.0 0 m stands.arrived).0)
+
+pub plan_of : (t : Scenario) (s : Snapshot) (a : List Grant) (i : Space) → i ≡ instance_of t s → IsLawful i a → AreThrifty i a → IsPlan t s a
+plan_of t s a i is lawful thrifty = record {
+  lawful = subst (λ j. IsLawful j a) is lawful;
+  thrifty = subst (λ j. AreThrifty j a) is thrifty;
+}

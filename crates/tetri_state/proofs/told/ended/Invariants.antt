@@ -1,0 +1,7 @@
+use Rattle.std.proofs.Common.{◌≡◌, ◌++◌, drop, map, filter}
+use Rattle.std.specs.Prelude.{not}
+use Rattle.tetri_state.specs.Begin.{has_ended, named}
+use Rattle.tetri_state.proofs.told.ended.Given as goal
+
+abbrev pub invariant-loop-piece : goal.invariant-loop-piece
+invariant-loop-piece l = l.ids.items ++ map named (filter (has_ended l.now) (drop l.piece-index l.pieces)) ≡ map named (filter (has_ended l.now) l.pieces)

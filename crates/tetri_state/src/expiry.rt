@@ -1,0 +1,61 @@
+// Which pending jobs expire.
+ghost use Rattle.std.specs.Prelude.{◌≡◌, ◌<◌, ◌≤◌, All, filter, length, not, IfOk};
+ghost use Rattle.tetri_state.specs.Begin.{has_expired};
+ghost use Rattle.tetri_state.specs.Snapshot.{demanded};
+ghost use Rattle.tetri_strl.specs.Tree.{tree};
+ghost use Rattle.tetri_trace.specs.Scenario.{scenario};
+ghost use Rattle.tetri_trace.specs.Sound.{IsSound};
+
+use std::alloc::{AllocError, Global};
+use tetri_strl::{Expr, top_in};
+use tetri_trace::{Trace, Work};
+
+// No leaf starts at or after this slot.
+const END_OF_STARTS: u32 = 20001;
+
+// What a job asks for.
+pub fn demand(trace: &Trace, job: u32) -> &Expr
+    requires { job < length (scenario trace.now).submissions }
+    ensures { tree result.now ≡ demanded (scenario trace.now) job }
+{
+    match &trace.jobs[job as usize].work {
+        Work::Strl(expr) => expr,
+    }
+}
+
+fn has_expired(trace: &Trace, now: u32, job: u32) -> bool
+    requires sound { IsSound (scenario trace.now) }
+    requires there { job < length (scenario trace.now).submissions }
+    ensures { result ≡ has_expired (scenario trace.now) now job }
+{
+    top_in(demand(trace, job), now, END_OF_STARTS) == 0
+}
+
+// Pending jobs.
+#[derive(Drop)]
+pub struct Parted {
+    // Those that have not expired.
+    pub pending: Vec<u32>,
+    // Those that have.
+    pub expired: Vec<u32>,
+}
+
+pub fn part(alloc: Global, trace: &Trace, now: u32, pending: &[u32]) -> Result<Parted, AllocError>
+    requires sound { IsSound (scenario trace.now) }
+    requires there { All (λ j. j < length (scenario trace.now).submissions) pending.now }
+    ensures pending { IfOk result (λ v. v.pending.items ≡ filter (λ j. not (has_expired (scenario trace.now) now j)) pending.now) }
+    ensures expired { IfOk result (λ v. v.expired.items ≡ filter (has_expired (scenario trace.now) now) pending.now) }
+{
+    let mut parted = Parted {
+        pending: Vec::new(alloc),
+        expired: Vec::new(alloc),
+    };
+    for job in pending {
+        if has_expired(trace, now, *job) {
+            parted.expired.push(*job)?;
+        } else {
+            parted.pending.push(*job)?;
+        }
+    }
+    Ok(parted)
+}
