@@ -2,3 +2,4 @@ pub mod FirstFitLaw
 pub mod FirstFits
 pub mod KeptLemmas
 pub mod PrintLemmas
+pub mod RunLemmas

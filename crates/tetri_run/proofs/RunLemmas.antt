@@ -1,6 +1,7 @@
 -- How a run grows by a slot, and where it stops.
 use Rattle.std.proofs.Common.{◌≡◌, ℕ, ◌+◌, ◌*◌, ◌^◌, ◌<◌, ◌≤◌, List, [], ◌∷◌, ◌++◌, length, take, AllPairs, refl, sym, ap, ◌∙◌, subst, arith}
-use Rattle.std.specs.Prelude.{Option}
+use Rattle.std.specs.Prelude.{Option, Some, None}
+use Rattle.std.proofs.lemmas.List.{append-nil}
 use Rattle.std.specs.Io.KnownBytes.{append_known}
 use Rattle.tetri_io.specs.Sink.{AppendsPart}
 use Rattle.tetri_io.proofs.Known.{append_known-append}
@@ -38,7 +39,19 @@ last_ordered t [] run = λ i j d lt within. absurd (omega (arith, within))
 last_ordered t (b ∷ past) run = run.1.kept_for.ordered
 
 no_slots : (t : Scenario) (tally : RunTally) (before : Option (List ℕ)) (s : Snapshot) → s ≡ state_behind t [] → tally.worth ≡ 0 → tally.optimal ≡ 0 → RanSlots t 0 s tally before before
-no_slots t tally before s e w o = ?
+no_slots t tally before s e w o = record {
+  past = [];
+  run = tt;
+  as_many = refl;
+  state = e;
+  worth = w;
+  optimal = o;
+  written = sym (append_known-nil before);
+}
+  where
+    append_known-nil : (known : Option (List ℕ)) → append_known known [] ≡ known
+    append_known-nil None = refl
+    append_known-nil (Some bytes) = ap Some (append-nil bytes)
 
 pub one_more_slot : (t : Scenario) (i : ℕ) (old new : Snapshot) (tally more : RunTally) (slot : SlotTally) (before middle now : Option (List ℕ)) →
     old.now < t.header.until → RanSlots t i old tally before middle → RanSlot t old new slot middle now →
@@ -49,7 +62,7 @@ one_more_slot t i old new tally more slot before middle now in_run ran step w o 
     record {
       past = b ∷ ran.past;
       run = (subst (λ (s : Snapshot). s.now < t.header.until) ran.state in_run, planned, ran.run);
-      slots = omega (arith, ran.slots);
+      as_many = omega (arith, ran.as_many);
       state = step.state ∙ ap (λ (s : Snapshot). after t (begin t s) b.grants) ran.state;
       worth = w ∙ ap (λ n. n + slot.worth) ran.worth ∙ ap (λ n. worth_of_run t ran.past + n) (step.worth ∙ ap (λ (s : Snapshot). worth_launched (instance_at t s) b.grants) ran.state);
       optimal = o ∙ ap (λ n. n + slot.optimal) ran.optimal ∙ ap (λ n. optimal_cycles ran.past + n) step.optimal;
@@ -82,7 +95,7 @@ stopped_between t i old tally before middle now ran e = record { past = ran.past
 
 pub stopped_in_summary : (t : Scenario) (m : Summary) (before middle now : Option (List ℕ)) → RanAll t m before middle → AppendsPart middle now (summary_text m) → StoppedInText t before now
 stopped_in_summary t m before middle now ran part =
-    in_text t ran.past ran.run (summary_text (summary_of t ran.past)) before middle now (summary ran.whole) ran.written (subst (λ (s : Summary). AppendsPart middle now (summary_text s)) ran.summary part)
+    in_text t ran.past ran.run (summary_text (summary_of t ran.past)) before middle now (summary ran.whole) ran.written (subst (λ (s : Summary). AppendsPart middle now (summary_text s)) ran.counted part)
 
 pub wrote_report : (t : Scenario) (m : Summary) (before middle now : Option (List ℕ)) → RanAll t m before middle → now ≡ append_known middle (summary_text m) → WroteReport t before now
 wrote_report t m before middle now ran e = record {
@@ -90,5 +103,5 @@ wrote_report t m before middle now ran e = record {
   run = ran.run;
   whole = ran.whole;
   written = e ∙ ap (λ k. append_known k (summary_text m)) ran.written ∙ append_known-append before (cycles_text t ran.past) (summary_text m)
-      ∙ ap (λ (s : Summary). append_known before (cycles_text t ran.past ++ summary_text s)) ran.summary;
+      ∙ ap (λ (s : Summary). append_known before (cycles_text t ran.past ++ summary_text s)) ran.counted;
 }

@@ -5,7 +5,8 @@ use Rattle.tetri_io.specs.Sink.{AppendsPart}
 use Rattle.tetri_report.specs.Block.{Block}
 use Rattle.tetri_report.specs.Text.{cycle_text}
 use Rattle.tetri_report.specs.declared.cycle.Summary.{Summary}
-use Rattle.tetri_state.specs.After.{Fits, IsLaunchOf, after}
+use Rattle.tetri_state.specs.After.{after}
+use Rattle.tetri_state.specs.Readied.{Fits, IsLaunchOf}
 use Rattle.tetri_state.specs.Begin.{begin}
 use Rattle.tetri_state.specs.Launch.{worth_launched}
 use Rattle.tetri_state.specs.Snapshot.{Snapshot}
@@ -45,7 +46,7 @@ pub record StoppedInSlot (t : Scenario) (old : Snapshot) (before now : Option (L
 pub record RanSlots (t : Scenario) (slots : ℕ) (new : Snapshot) (tally : RunTally) (before now : Option (List ℕ)) : Type 0 where
   pub past : List Block
   pub run : IsRun t past
-  pub slots : length past ≡ slots
+  pub as_many : length past ≡ slots
   pub state : new ≡ state_behind t past
   pub worth : tally.worth ≡ worth_of_run t past
   pub optimal : tally.optimal ≡ optimal_cycles past
@@ -79,5 +80,5 @@ pub record RanAll (t : Scenario) (summary : Summary) (before now : Option (List 
   pub past : List Block
   pub run : IsRun t past
   pub whole : length past ≡ t.header.until
-  pub summary : summary ≡ summary_of t past
+  pub counted : summary ≡ summary_of t past
   pub written : now ≡ append_known before (cycles_text t past)

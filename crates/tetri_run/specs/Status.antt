@@ -1,5 +1,5 @@
 -- What a status says, of the trace and of the bytes that were written.
-use Rattle.std.specs.Prelude.{◌≡◌, ◌⊎◌, ℕ, List, ◌++◌, Option, Result, Ok, Err, codes, decimal}
+use Rattle.std.specs.Prelude.{◌≡◌, ◌⊎◌, ℕ, List, [], ◌++◌, Option, Result, Ok, Err, codes, decimal}
 use Rattle.tetri_trace.specs.Scenario.{Scenario}
 use Rattle.tetri_trace.specs.declared.fault.TraceWhy.{TraceWhy}
 use Rattle.tetri_trace.specs.declared.fault.TraceWhy.TheVariants as whys
@@ -78,24 +78,35 @@ field_words fields.PreferDur = codes "prefer.dur"
 field_words fields.Class = codes "class"
 field_words fields.Elastic = codes "elastic"
 
+-- the name of a cause
+abbrev pub why_name : TraceWhy → List ℕ
+why_name whys.LineTooLong = codes "line-too-long"
+why_name whys.TraceTooLong = codes "trace-too-long"
+why_name whys.NotJson = codes "not-json"
+why_name whys.NotObject = codes "not-object"
+why_name whys.NoHeader = codes "no-header"
+why_name (whys.MissingField field) = codes "missing-field"
+why_name (whys.BadField field) = codes "bad-field"
+why_name whys.UnknownEvent = codes "unknown-event"
+why_name whys.NotBuilt = codes "not-built"
+why_name whys.OutOfOrder = codes "out-of-order"
+why_name whys.PastEnd = codes "past-end"
+why_name whys.NameTaken = codes "name-taken"
+why_name whys.NoSuchJob = codes "no-such-job"
+why_name whys.NoSuchNode = codes "no-such-node"
+why_name (whys.BadStrl offset fault) = codes "bad-strl"
+why_name whys.TooManyJobs = codes "too-many-jobs"
+
+-- its values, each after a space
+abbrev pub why_values : TraceWhy → List ℕ
+why_values (whys.MissingField field) = codes " " ++ field_words field
+why_values (whys.BadField field) = codes " " ++ field_words field
+why_values (whys.BadStrl offset fault) = codes " " ++ decimal offset ++ codes " " ++ fault_words fault
+why_values _ = []
+
 -- a cause in words, with its values
-abbrev pub why_words : TraceWhy → List ℕ
-why_words whys.LineTooLong = codes "line-too-long"
-why_words whys.TraceTooLong = codes "trace-too-long"
-why_words whys.NotJson = codes "not-json"
-why_words whys.NotObject = codes "not-object"
-why_words whys.NoHeader = codes "no-header"
-why_words (whys.MissingField field) = codes "missing-field " ++ field_words field
-why_words (whys.BadField field) = codes "bad-field " ++ field_words field
-why_words whys.UnknownEvent = codes "unknown-event"
-why_words whys.NotBuilt = codes "not-built"
-why_words whys.OutOfOrder = codes "out-of-order"
-why_words whys.PastEnd = codes "past-end"
-why_words whys.NameTaken = codes "name-taken"
-why_words whys.NoSuchJob = codes "no-such-job"
-why_words whys.NoSuchNode = codes "no-such-node"
-why_words (whys.BadStrl offset fault) = codes "bad-strl " ++ decimal offset ++ codes " " ++ fault_words fault
-why_words whys.TooManyJobs = codes "too-many-jobs"
+unfoldable pub why_words : TraceWhy → List ℕ
+why_words why = why_name why ++ why_values why
 
 unfoldable pub bad_trace_words : ℕ → TraceWhy → List ℕ
 bad_trace_words line why = codes "bad trace: line " ++ decimal line ++ codes ": " ++ why_words why ++ codes "\n"

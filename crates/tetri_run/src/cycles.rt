@@ -44,10 +44,10 @@ fn run_slots<K: Sink>(alloc: Global, trace: &Trace, sink: &mut K) -> Result<Summ
     }
     Ok(Summary {
         cycles: u64::from(trace.header.until),
-        launched: state.launched(),
-        ended: state.ended(),
-        cancelled: state.cancelled(),
-        expired: state.expired(),
+        launched: state.launched_count() as u64,
+        ended: state.ended_count() as u64,
+        cancelled: state.cancelled_count() as u64,
+        expired: state.expired_count() as u64,
         worth: tally.worth,
         optimal: tally.optimal,
     })

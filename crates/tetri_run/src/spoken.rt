@@ -3,7 +3,7 @@ ghost use Rattle.std.specs.Prelude.{◌≡◌, ◌≤◌, ◌++◌, IfOk, OnOk, 
 ghost use Rattle.std.specs.Io.KnownBytes.{append_known};
 ghost use Rattle.tetri_algebra.specs.Counts.{Rose};
 ghost use Rattle.tetri_io.specs.Sink.{AppendsPart};
-ghost use Rattle.tetri_run.specs.Status.{bad_trace_words, fault_words, field_words, status_words, why_words};
+ghost use Rattle.tetri_run.specs.Status.{bad_trace_words, fault_words, field_words, status_words, why_name, why_values, why_words};
 ghost use Rattle.tetri_trace.specs.declared.fault.TraceWhy.{TraceWhy};
 
 use crate::status::Status;
@@ -97,30 +97,50 @@ fn field_word(field: Field) -> &'static str
     }
 }
 
+// The name of a cause.
+fn why_name(why: TraceWhy) -> &'static str
+    ensures { result.now ≡ why_name why }
+{
+    match why {
+        TraceWhy::LineTooLong => "line-too-long",
+        TraceWhy::TraceTooLong => "trace-too-long",
+        TraceWhy::NotJson => "not-json",
+        TraceWhy::NotObject => "not-object",
+        TraceWhy::NoHeader => "no-header",
+        TraceWhy::MissingField(_) => "missing-field",
+        TraceWhy::BadField(_) => "bad-field",
+        TraceWhy::UnknownEvent => "unknown-event",
+        TraceWhy::NotBuilt => "not-built",
+        TraceWhy::OutOfOrder => "out-of-order",
+        TraceWhy::PastEnd => "past-end",
+        TraceWhy::NameTaken => "name-taken",
+        TraceWhy::NoSuchJob => "no-such-job",
+        TraceWhy::NoSuchNode => "no-such-node",
+        TraceWhy::BadStrl { .. } => "bad-strl",
+        TraceWhy::TooManyJobs => "too-many-jobs",
+    }
+}
+
+// Adds the values of a cause, each after a space.
+fn add_why_values(out: &mut String, why: TraceWhy) -> Result<(), AllocError>
+    ensures { OnOk result (string_bytes out.new ≡ string_bytes out.old ++ why_values why) }
+{
+    match why {
+        TraceWhy::MissingField(field) | TraceWhy::BadField(field) => {
+            write!(out, " {}", field_word(field))
+        }
+        TraceWhy::BadStrl { offset, fault } => write!(out, " {offset} {}", fault_word(fault)),
+        _ => Ok(()),
+    }
+}
+
 // Adds a cause in words, with its values.
+#[tactic(auto, unfolding(crate::specs::Status::why_words))]
 fn add_why(out: &mut String, why: TraceWhy) -> Result<(), AllocError>
     ensures { OnOk result (string_bytes out.new ≡ string_bytes out.old ++ why_words why) }
 {
-    match why {
-        TraceWhy::LineTooLong => out.push_str("line-too-long"),
-        TraceWhy::TraceTooLong => out.push_str("trace-too-long"),
-        TraceWhy::NotJson => out.push_str("not-json"),
-        TraceWhy::NotObject => out.push_str("not-object"),
-        TraceWhy::NoHeader => out.push_str("no-header"),
-        TraceWhy::MissingField(field) => write!(out, "missing-field {}", field_word(field)),
-        TraceWhy::BadField(field) => write!(out, "bad-field {}", field_word(field)),
-        TraceWhy::UnknownEvent => out.push_str("unknown-event"),
-        TraceWhy::NotBuilt => out.push_str("not-built"),
-        TraceWhy::OutOfOrder => out.push_str("out-of-order"),
-        TraceWhy::PastEnd => out.push_str("past-end"),
-        TraceWhy::NameTaken => out.push_str("name-taken"),
-        TraceWhy::NoSuchJob => out.push_str("no-such-job"),
-        TraceWhy::NoSuchNode => out.push_str("no-such-node"),
-        TraceWhy::BadStrl { offset, fault } => {
-            write!(out, "bad-strl {offset} {}", fault_word(fault))
-        }
-        TraceWhy::TooManyJobs => out.push_str("too-many-jobs"),
-    }
+    out.push_str(why_name(why))?;
+    add_why_values(out, why)
 }
 
 #[tactic(auto, unfolding(crate::specs::Status::bad_trace_words))]
