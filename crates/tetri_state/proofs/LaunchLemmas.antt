@@ -307,3 +307,12 @@ module _ (t : Scenario) (s : Snapshot) (sound : IsSound t) (stands : Stands t (s
     apart = share_append s.pieces (new_pieces t i a) stands.apart new_apart (old_apart ahead);
     thrifty = after_thrifty;
   }
+
+-- a node that a lawful grant uses in a slot is free in it
+pub free_where_covered : (t : Scenario) (s : Snapshot) (a : List Grant) (g : Grant) (l : Leaf) (n : ℕ) → IsLawful (instance_of t s) a → Contains a g →
+    leaf_in (instance_of t s).bids g.job g.leaf ≡ Some l → Covers l s.now → Contains g.nodes n → IsFree (instance_of t s) n s.now
+free_where_covered t s a g l n lawful at leaf covers on =
+    let m = leaf_named (instance_of t s) g (All-contains (IsLawfulGrant (instance_of t s)) a g lawful.grants at) in
+    let same : m.0 ≡ l = let e : Some m.0 ≡ Some l = sym m.1 ∙ leaf in cc in
+    All-contains (λ k. (slot : ℕ) → Covers m.0 slot → IsFree (instance_of t s) k slot) g.nodes n m.2.nodes_right.free on s.now
+    (subst (λ (k : Leaf). Covers k s.now) (sym same) covers)
