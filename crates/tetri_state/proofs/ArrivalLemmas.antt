@@ -66,9 +66,10 @@ module _ (t : Scenario) where
       let rest = numbered js (from + 1) (omega arith) (λ k d lt. ap (λ i. get_or t.submissions i d) (omega arith) ∙ same (suc k) d (omega arith)) in
       let here : get_or t.submissions from nothing_submitted ≡ j = ap (λ i. get_or t.submissions i nothing_submitted) (omega arith) ∙ same 0 nothing_submitted (omega arith) in
       let first : (from ≤ from) × ArrivesAt j.arrival from = (omega arith, (omega arith, ap (λ (s : Submission). s.arrival) here)) in
-      let later : List (ℕ × ℕ) = zip (map (λ i. i.arrival) js) (range_with_len (from + 1) (length js)) in
-      ((first, each_weaker (λ a. (from + 1 ≤ a.1) × ArrivesAt a.0 a.1) (λ a. (from ≤ a.1) × ArrivesAt a.0 a.1) (λ a known. (omega (arith, known.0), known.1)) later rest.0),
-      (each_weaker (λ a. (from + 1 ≤ a.1) × ArrivesAt a.0 a.1) (λ a. from < a.1) (λ a known. omega (arith, known.0)) later rest.0, rest.1))
+      let later : List (ℕ × ℕ) = zip (map (λ i. i.arrival) js) (range_with_len (from + 1) (length js)) in (
+        (first, each_weaker (λ a. (from + 1 ≤ a.1) × ArrivesAt a.0 a.1) (λ a. (from ≤ a.1) × ArrivesAt a.0 a.1) (λ a known. (omega (arith, known.0), known.1)) later rest.0),
+        (each_weaker (λ a. (from + 1 ≤ a.1) × ArrivesAt a.0 a.1) (λ a. from < a.1) (λ a known. omega (arith, known.0)) later rest.0, rest.1),
+      )
 
   each_at_slot : (now : ℕ) (P : ℕ → Type 0) (arrivals : List (ℕ × ℕ)) → Each (λ a. a.0 ≡ now → P a.1) arrivals → Each P (at_slot now arrivals)
   each_at_slot now P [] each = tt

@@ -18,9 +18,10 @@ each_from P (x ∷ xs) all = (all 0 x (omega arith), each_from P xs (λ k d lt. 
 
 ascend_pairs : (ns : List ℕ) → AllPairs (λ m n. m < n) ns → Ascend ns
 ascend_pairs [] pairs = tt
-ascend_pairs (n ∷ ns) pairs =
-    (each_from (λ m. n < m) ns (λ k d lt. pairs 0 (suc k) d (omega arith) (omega arith)),
-    ascend_pairs ns (λ i j d before lt. pairs (suc i) (suc j) d (omega arith) (omega arith)))
+ascend_pairs (n ∷ ns) pairs = (
+  each_from (λ m. n < m) ns (λ k d lt. pairs 0 (suc k) d (omega arith) (omega arith)),
+  ascend_pairs ns (λ i j d before lt. pairs (suc i) (suc j) d (omega arith) (omega arith)),
+)
 
 pub ascend_from : (ns : List ℕ) → IsStrictlyIncreasing ns → Ascend ns
 ascend_from ns rises = ascend_pairs ns (AllPairs-from_increasing ns rises)

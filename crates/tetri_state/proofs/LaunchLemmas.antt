@@ -46,9 +46,10 @@ PairsOf R (x ∷ xs) = Each (R x) xs × PairsOf R xs
 
 pairs_from : {X : Type 0} (R : X → X → Type 0) (xs : List X) → AllPairs R xs → PairsOf R xs
 pairs_from R [] pairs = tt
-pairs_from R (x ∷ xs) pairs =
-    (each_from (R x) xs (λ k d lt. pairs 0 (suc k) d (omega arith) (omega arith)),
-    pairs_from R xs (λ i j d before lt. pairs (suc i) (suc j) d (omega arith) (omega arith)))
+pairs_from R (x ∷ xs) pairs = (
+  each_from (R x) xs (λ k d lt. pairs 0 (suc k) d (omega arith) (omega arith)),
+  pairs_from R xs (λ i j d before lt. pairs (suc i) (suc j) d (omega arith) (omega arith)),
+)
 
 -- of the elements that pass a test
 module _ {X : Type 0} (test : X → Bool) where
@@ -94,10 +95,12 @@ share_given t i (g ∷ gs) pairs = by_value (made t i g) refl (share_given t i g
   where
     by_value : (o : Option Piece) → made t i g ≡ o → NoneShare (filter_map (made t i) gs) → NoneShare (cons_option o (filter_map (made t i) gs))
     by_value None is rest = rest
-    by_value (Some p) is rest =
-        (each_given (made t i) (ShareNoNode p) gs
-        (each_weaker (λ h. (p q : Piece) → made t i g ≡ Some p → made t i h ≡ Some q → ShareNoNode p q) (λ h. (q : Piece) → made t i h ≡ Some q → ShareNoNode p q)
-        (λ h apart q here. apart p q is here) gs pairs.0), rest)
+    by_value (Some p) is rest = (
+      each_given (made t i) (ShareNoNode p) gs
+          (each_weaker (λ h. (p q : Piece) → made t i g ≡ Some p → made t i h ≡ Some q → ShareNoNode p q) (λ h. (q : Piece) → made t i h ≡ Some q → ShareNoNode p q)
+          (λ h apart q here. apart p q is here) gs pairs.0),
+      rest,
+    )
 
 -- the leaf that a lawful grant names
 leaf_named : (i : Space) (g : Grant) → IsLawfulGrant i g → (l : Leaf) × (leaf_in i.bids g.job g.leaf ≡ Some l) × MayBeGranted i l g.nodes
@@ -199,13 +202,13 @@ module _ (t : Scenario) (s : Snapshot) (sound : IsSound t) (stands : Stands t (s
       let start = one_held_start (leaf_worth a job) held b.0.expr (bid_sound b.0 b.1.pending).well_made.aligned thrifty in
       let same_job : h.job ≡ job = same ∙ sym b.1.of_job in
       let same_expr : c.0.expr ≡ b.0.expr =
-          (bid_known t s.pending c.0 c.1.pending).0 ∙ ap (demanded t) (c.1.of_job ∙ same_job) ∙ sym (bid_known t s.pending b.0 b.1.pending).0 in
+      (bid_known t s.pending c.0 c.1.pending).0 ∙ ap (demanded t) (c.1.of_job ∙ same_job) ∙ sym (bid_known t s.pending b.0 b.1.pending).0 in
       let held_l : Contains held l.num =
-          subst (Contains held) (ap (λ (x : Grant). x.leaf) at_g.2 ∙ sym b.1.numbered)
-          (held_grant a job at_g.0 g at_g.1 (ap (λ (x : Grant). x.job) at_g.2 ∙ sym b.1.of_job)) in
+      subst (Contains held) (ap (λ (x : Grant). x.leaf) at_g.2 ∙ sym b.1.numbered)
+      (held_grant a job at_g.0 g at_g.1 (ap (λ (x : Grant). x.job) at_g.2 ∙ sym b.1.of_job)) in
       let held_m : Contains held m.num =
-          subst (Contains held) (ap (λ (x : Grant). x.leaf) at_h.2 ∙ sym c.1.numbered)
-          (held_grant a job at_h.0 h at_h.1 (ap (λ (x : Grant). x.job) at_h.2 ∙ same_job)) in
+      subst (Contains held) (ap (λ (x : Grant). x.leaf) at_h.2 ∙ sym c.1.numbered)
+      (held_grant a job at_h.0 h at_h.1 (ap (λ (x : Grant). x.job) at_h.2 ∙ same_job)) in
       let below_m : Contains (leaves b.0.expr) m = subst (λ (e : Tree). Contains (leaves e) m) same_expr c.1.below in
       EachLeaf-at (Begins (leaf_worth a job) held start.0) b.0.expr l start.1 b.1.below held_l
       ∙ sym (EachLeaf-at (Begins (leaf_worth a job) held start.0) b.0.expr m start.1 below_m held_m)

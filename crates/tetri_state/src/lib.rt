@@ -8,6 +8,7 @@ mod events;
 mod expiry;
 mod happened;
 mod launches;
+mod launching;
 mod laws;
 mod pieces;
 mod planning;

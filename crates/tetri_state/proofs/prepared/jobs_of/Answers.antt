@@ -14,8 +14,8 @@ returns-clause-jobs c = λ job.
     let ps = c.args.pieces.now in
     let i = c.loop-piece.piece-index in
     let all : c.loop-piece.jobs.items ≡ map (λ (p : Piece). p.job) ps =
-        sym (append-nil c.loop-piece.jobs.items)
-        ∙ ap (λ (qs : List Piece). c.loop-piece.jobs.items ++ map (λ (p : Piece). p.job) qs) (sym (drop_all i ps c.loop-piece-test.false))
-        ∙ c.loop-piece.invariant in
+    sym (append-nil c.loop-piece.jobs.items)
+    ∙ ap (λ (qs : List Piece). c.loop-piece.jobs.items ++ map (λ (p : Piece). p.job) qs) (sym (drop_all i ps c.loop-piece-test.false))
+    ∙ c.loop-piece.invariant in
     sym (list_any-IsPermutation (λ n. n == job) c.loop-piece.jobs.items c.sort.new.self.items c.in_ok-sort.ensures.permutation)
     ∙ ap (λ ns. has ns job) all ∙ any_job ps job
