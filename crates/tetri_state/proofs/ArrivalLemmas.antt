@@ -1,9 +1,8 @@
 -- Which jobs arrive in a slot.
-use Rattle.std.proofs.Common.{◌≡◌, ℕ, ◌+◌, ◌<◌, ◌≤◌, ◌==◌, Bool, true, false, cond, List, [], ◌∷◌, ◌++◌, length, get_or, map, filter, All, AllPairs, Option, Some, None, refl, sym, ap, ◌∙◌, subst, arith, inl, inr, suc, zero}
-use Rattle.std.specs.List.{cons_option, filter_map, range_with_len, zip}
+use Rattle.std.proofs.Common.{◌≡◌, ℕ, ◌+◌, ◌<◌, ◌≤◌, ◌==◌, Bool, true, false, cond, List, [], ◌∷◌, ◌++◌, length, get_or, map, filter, refl, sym, ap, ◌∙◌, subst, arith, inl, inr, suc}
+use Rattle.std.specs.List.{filter_map, range_with_len, zip}
 use Rattle.std.proofs.lemmas.Bool.{cases_lt}
 use Rattle.std.proofs.lemmas.Bool.Decides.{nat_tests}
-use Rattle.std.proofs.lemmas.List.{get_or_default}
 use Rattle.tetri_trace.specs.declared.trace.Event.{Event}
 use Rattle.tetri_trace.specs.declared.trace.Happening.{Happening}
 use Rattle.tetri_trace.specs.declared.trace.Happening.TheVariants.{Arrive, Cancel, Drain, Undrain}
@@ -11,7 +10,7 @@ use Rattle.tetri_trace.specs.Scenario.{Submission, Scenario}
 use Rattle.tetri_trace.specs.Sound.{IsSound, arrival_in}
 use Rattle.tetri_state.specs.Begin.{arrived, arriving, events_at}
 use Rattle.tetri_state.specs.Snapshot.{nothing_submitted, submission_of}
-use Rattle.tetri_state.proofs.Ascending.{Ascend, each_filtered, each_parts}
+use Rattle.tetri_state.proofs.Ascending.{Ascend, each_parts}
 use Rattle.tetri_state.proofs.ToldLemmas.{Each, each_weaker}
 
 -- the jobs of those that arrive at a slot

@@ -1,11 +1,11 @@
 -- Numbers that ascend.
-use Rattle.std.proofs.Common.{◌≡◌, ℕ, ◌+◌, ◌<◌, ◌≤◌, ◌==◌, ◌||◌, Bool, true, false, cond, List, [], ◌∷◌, ◌++◌, length, get_or, refl, sym, ap, ◌∙◌, subst, arith, not, filter, suc, zero, AllPairs, add-one}
-use Rattle.std.specs.List.{list_any, remove}
+use Rattle.std.proofs.Common.{◌≡◌, ℕ, ◌<◌, ◌==◌, ◌||◌, Bool, true, false, cond, List, [], ◌∷◌, ◌++◌, length, get_or, refl, sym, ap, ◌∙◌, arith, not, filter, suc, zero, AllPairs, add-one}
+use Rattle.std.specs.List.{remove}
 use Rattle.std.specs.List.Sorted.{IsStrictlyIncreasing}
 use Rattle.std.proofs.lemmas.Bool.Decides.{nat_tests}
 use Rattle.std.proofs.lemmas.List.Kept.{AllPairs-from_increasing}
 use Rattle.tetri_state.specs.Begin.{has, without}
-use Rattle.tetri_state.proofs.ToldLemmas.{Each, each_at, each_weaker}
+use Rattle.tetri_state.proofs.ToldLemmas.{Each, each_at}
 
 -- each number is below all that stand behind it
 abbrev pub Ascend : List ℕ → Type 0

@@ -1,19 +1,17 @@
 -- The instance of a state whose slot has begun.
-use Rattle.std.proofs.Common.{◌≡◌, ℕ, ◌+◌, ◌<◌, ◌≤◌, ◌==◌, Bool, true, false, cond, List, [], ◌∷◌, ◌++◌, length, get_or, map, filter, not, All, AllPairs, Contains, Option, Some, None, refl, sym, ap, ◌∙◌, subst, arith, zero, suc}
-use Rattle.std.specs.List.{find, list_any, range_with_len}
-use Rattle.std.specs.List.Sorted.{IsStrictlyIncreasing}
+use Rattle.std.proofs.Common.{◌≡◌, ℕ, ◌+◌, ◌<◌, ◌≤◌, ◌==◌, Bool, true, false, cond, List, [], ◌∷◌, length, get_or, map, All, AllPairs, Contains, Some, sym, subst, arith, zero, suc}
+use Rattle.std.specs.List.{find}
 use Rattle.std.proofs.lemmas.List.{length-map, get_or-map}
-use Rattle.std.proofs.lemmas.List.Elements.{All-map, All-get_or, All-nil}
+use Rattle.std.proofs.lemmas.List.Elements.{All-map}
 use Rattle.std.proofs.lemmas.List.FromFn.{get_or-map-range_with_len, length-map-range_with_len}
 use Rattle.std.proofs.lemmas.List.Folds.{list_any_at}
 use Rattle.std.proofs.lemmas.Bool.Decides.{nat_tests}
 use Rattle.tetri_strl.specs.declared.expr.Leaf.{Leaf}
-use Rattle.tetri_strl.specs.Tree.{leaves, numbers}
-use Rattle.tetri_strl.specs.WellMade.{IsWellMade}
+use Rattle.tetri_strl.specs.Tree.{leaves}
 use Rattle.tetri_space.specs.Free.{IsFree}
-use Rattle.tetri_space.specs.Space.{Bid, Space, set_of}
+use Rattle.tetri_space.specs.Space.{Bid, Space}
 use Rattle.tetri_space.specs.Sound.{HasKnownSet, IsSoundBid, IsSound as IsSoundSpace}
-use Rattle.tetri_trace.specs.Scenario.{Scenario, expr_of}
+use Rattle.tetri_trace.specs.Scenario.{Scenario}
 use Rattle.tetri_trace.specs.Sound.{IsSound, IsSoundSubmission}
 use Rattle.tetri_state.specs.declared.pieces.Piece.{Piece}
 use Rattle.tetri_state.specs.Begin.{has}

@@ -1,14 +1,13 @@
 -- What a plan launches.
-use Rattle.std.proofs.Common.{◌≡◌, ℕ, ◌+◌, ◌<◌, ◌≤◌, ◌==◌, ◌&&◌, ◌||◌, Bool, true, false, cond, List, [], ◌∷◌, ◌++◌, length, get_or, map, filter, not, All, AllPairs, Contains, Option, Some, None, refl, sym, ap, ◌∙◌, subst, arith, zero, suc}
-use Rattle.std.specs.List.{cons_option, filter_map, find, list_any, position_from}
-use Rattle.std.specs.Option.{ForSome, IsSomeAnd, option_map}
+use Rattle.std.proofs.Common.{◌≡◌, ℕ, ◌+◌, ◌<◌, ◌==◌, ◌&&◌, ◌||◌, Bool, true, false, cond, List, [], ◌∷◌, length, get_or, map, filter, not, All, AllPairs, Contains, Option, Some, None, refl, sym, ap, ◌∙◌, subst, arith, zero, suc}
+use Rattle.std.specs.List.{cons_option, filter_map, list_any, position_from}
+use Rattle.std.specs.Option.{IsSomeAnd, option_map}
 use Rattle.std.proofs.lemmas.Bool.Decides.{nat_tests}
 use Rattle.std.proofs.lemmas.List.{length-map, get_or-map}
 use Rattle.std.proofs.lemmas.List.Elements.{All-contains, All-contains_itself, All-head, All-tail, Contains-get_or}
-use Rattle.std.proofs.lemmas.List.Folds.{Any-from_list_any, list_any_at, list_any_none}
+use Rattle.std.proofs.lemmas.List.Folds.{Any-from_list_any, list_any_at}
 use Rattle.tetri_strl.specs.declared.expr.Leaf.{Leaf}
 use Rattle.tetri_strl.specs.declared.grants.Grant.{Grant}
-use Rattle.tetri_strl.specs.Aligned.{IsAligned}
 use Rattle.tetri_strl.specs.Thrifty.{IsThriftyFor, held_leaves}
 use Rattle.tetri_strl.specs.Tree.{Tree, leaves}
 use Rattle.tetri_strl.specs.Trim.{idle, wastes}
@@ -17,10 +16,10 @@ use Rattle.tetri_strl.specs.Worth.{leaf_worth}
 use Rattle.tetri_strl.proofs.TrimThrift.{waste_is_exact}
 use Rattle.tetri_strl.proofs.OneStart.{Begins, one_held_start}
 use Rattle.tetri_space.specs.Free.{IsFree}
-use Rattle.tetri_space.specs.Lawful.{AreApart, HasRightNodes, IsLawful, IsLawfulGrant, MayBeGranted, NoCommonSlot}
-use Rattle.tetri_space.specs.Space.{Bid, Covers, IsLive, Space, leaf_in}
+use Rattle.tetri_space.specs.Lawful.{AreApart, IsLawful, IsLawfulGrant, MayBeGranted}
+use Rattle.tetri_space.specs.Space.{Bid, Covers, Space, leaf_in}
 use Rattle.tetri_space.specs.Sound.{IsSoundBid, IsSound as IsSoundSpace}
-use Rattle.tetri_space.proofs.LeafLemmas.{IsOffered, leaf_in-within}
+use Rattle.tetri_space.proofs.LeafLemmas.{leaf_in-within}
 use Rattle.tetri_space.proofs.SearchLemmas.{EachLeaf-at, offered_leaf}
 use Rattle.tetri_trace.specs.Scenario.{Scenario}
 use Rattle.tetri_trace.specs.Sound.{IsSound}
@@ -34,10 +33,10 @@ use Rattle.tetri_state.specs.Reached.{IsPlan}
 use Rattle.tetri_state.specs.Snapshot.{Snapshot, demanded, nothing_submitted}
 use Rattle.tetri_state.proofs.ArrivalLemmas.{ArrivedBefore}
 use Rattle.tetri_state.proofs.Ascending.{ascend_filter, each_filtered, each_from, each_parts}
-use Rattle.tetri_state.proofs.InstanceLemmas.{instance_sound, not_free, pending_good}
+use Rattle.tetri_state.proofs.InstanceLemmas.{instance_sound, not_free}
 use Rattle.tetri_state.proofs.PieceLemmas.{NoneShare, share_append}
 use Rattle.tetri_state.proofs.StandLemmas.{IsWithin, Stands}
-use Rattle.tetri_state.proofs.ToldLemmas.{Each, each_at, each_weaker}
+use Rattle.tetri_state.proofs.ToldLemmas.{Each, each_weaker}
 
 -- a fact of each two elements
 abbrev PairsOf : {X : Type 0} → (X → X → Type 0) → List X → Type 0

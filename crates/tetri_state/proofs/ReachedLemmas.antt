@@ -1,5 +1,5 @@
 -- The states that a run reaches.
-use Rattle.std.proofs.Common.{◌≡◌, ℕ, ◌+◌, ◌<◌, ◌≤◌, List, [], ◌∷◌, length, All, AllPairs, replicate, refl, sym, ap, ◌∙◌, subst, arith, Result, Ok, Err, IfOk}
+use Rattle.std.proofs.Common.{◌≡◌, ◌+◌, ◌<◌, List, [], ◌∷◌, length, refl, sym, ap, subst, arith, Result, Ok, Err, IfOk}
 use Rattle.std.proofs.lemmas.List.{length-replicate}
 use Rattle.std.proofs.lemmas.List.Elements.{All-nil}
 use Rattle.tetri_strl.specs.declared.grants.Grant.{Grant}
@@ -8,7 +8,6 @@ use Rattle.tetri_trace.specs.Sound.{IsSound}
 use Rattle.tetri_state.specs.declared.pieces.Piece.{Piece}
 use Rattle.tetri_state.specs.After.{after}
 use Rattle.tetri_state.specs.Begin.{begin}
-use Rattle.tetri_state.specs.Pieces.{ShareNoNode}
 use Rattle.tetri_state.specs.Reached.{ArePlans, IsPlan, IsReached, Moment, between, begun, state_after}
 use Rattle.tetri_state.specs.Snapshot.{Snapshot, demanded, nothing_submitted, opening_state}
 use Rattle.tetri_state.proofs.LaunchLemmas.{after_stands, thrifty_without}

@@ -1,6 +1,5 @@
 -- A piece runs on unless it is told that it ended or was cancelled.
-use Rattle.std.proofs.Common.{◌≡◌, ℕ, ◌+◌, ◌<◌, ◌==◌, ◌||◌, ◌&&◌, ◌⊎◌, Bool, true, false, cond, List, [], ◌∷◌, ◌++◌, length, get_or, map, filter, not, Contains, refl, sym, ap, ◌∙◌, subst, inl, inr, ⊎_elim, arith, zero, suc}
-use Rattle.std.specs.List.{list_any}
+use Rattle.std.proofs.Common.{◌≡◌, ℕ, ◌+◌, ◌<◌, ◌==◌, ◌||◌, ◌⊎◌, Bool, true, false, cond, List, [], ◌∷◌, ◌++◌, length, get_or, map, filter, not, Contains, refl, sym, ap, ◌∙◌, subst, inl, inr, ⊎_elim, arith, zero, suc}
 use Rattle.std.proofs.lemmas.Bool.Decides.{nat_tests}
 use Rattle.std.proofs.lemmas.List.Elements.{Contains-append_left, Contains-push}
 use Rattle.std.proofs.lemmas.List.Folds.{list_any_at}
@@ -10,7 +9,7 @@ use Rattle.tetri_trace.specs.declared.trace.Happening.TheVariants.{Arrive, Cance
 use Rattle.tetri_trace.specs.Scenario.{Scenario}
 use Rattle.tetri_state.specs.declared.happened.PieceId.{PieceId}
 use Rattle.tetri_state.specs.declared.pieces.Piece.{Piece}
-use Rattle.tetri_state.specs.Begin.{Turn, begin, comes_before, events_at, happen, happen_all, has, has_ended, in_order, is_over, named, prolonged, put, running_on, runs, staying, told, turn, without}
+use Rattle.tetri_state.specs.Begin.{Turn, comes_before, events_at, happen, happen_all, has, has_ended, in_order, is_over, named, prolonged, put, running_on, runs, staying, told, turn, without}
 use Rattle.tetri_state.specs.Pieces.{IsSameRun, RunsOnUnlessTold}
 use Rattle.tetri_state.specs.Snapshot.{Snapshot}
 

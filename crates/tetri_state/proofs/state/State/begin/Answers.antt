@@ -1,9 +1,9 @@
-use Rattle.std.proofs.Common.{◌≡◌, ◌+◌, ◌≤◌, ◌++◌, ◌∙◌, ◌&&◌, Bool, true, ℕ, List, cond, length, filter, map, not, sym, ap, arith, is_ok, vec_len}
+use Rattle.std.proofs.Common.{◌≡◌, ◌∙◌, ◌&&◌, length, filter, map, not, ap, arith}
 use Rattle.std.proofs.lemmas.List.{length-map, with_items_is}
 use Rattle.std.specs.Vec.{with_items}
 use Rattle.tetri_trace.specs.Scenario.{Scenario, scenario}
 use Rattle.tetri_state.specs.declared.pieces.Piece.{Piece}
-use Rattle.tetri_state.specs.Begin.{Occurrences, begin, has_ended, prolonged, running_on, runs, staying, turn}
+use Rattle.tetri_state.specs.Begin.{Occurrences, has_ended, prolonged, runs, staying, turn}
 use Rattle.tetri_state.specs.Snapshot.{Snapshot}
 use Rattle.tetri_state.proofs.BeginLemmas.{appended, filter_both, same_state}
 use Rattle.tetri_state.proofs.state.State.begin.Goals as goal

@@ -1,10 +1,9 @@
 use Rattle.std.proofs.Common.{◌≡◌, ◌<◌, ◌++◌, ◌∙◌, ◌==◌, ◌&&◌, ℕ, Bool, All, List, [], length, filter, not, sym, ap, subst}
-use Rattle.std.specs.List.Sorted.{IsStrictlyIncreasing}
 use Rattle.tetri_trace.specs.declared.trace.Event.{Event}
 use Rattle.tetri_trace.specs.Scenario.{Scenario, scenario}
 use Rattle.tetri_state.specs.declared.happened.PieceId.{PieceId}
 use Rattle.tetri_state.specs.declared.pieces.Piece.{Piece}
-use Rattle.tetri_state.specs.Begin.{IsOfNodeBelow, Turn, Occurrences, arriving, ending, events_at, finished, happen_all, has_ended, has_expired, is_over, occurring, runs, running_on, staying, told, turn}
+use Rattle.tetri_state.specs.Begin.{Turn, Occurrences, arriving, ending, events_at, finished, happen_all, has_ended, has_expired, is_over, runs, running_on, staying, told, turn}
 use Rattle.tetri_state.specs.Snapshot.{Snapshot}
 use Rattle.tetri_state.proofs.SoundLemmas.{all_pending, nodes_known}
 use Rattle.tetri_state.proofs.BeginLemmas.{filter_both, same_parts}

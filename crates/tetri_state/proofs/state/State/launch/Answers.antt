@@ -1,5 +1,4 @@
-use Rattle.std.proofs.Common.{◌≡◌, ◌∙◌, ◌+◌, ◌≤◌, ◌++◌, ℕ, List, [], filter, length, not, sym, ap, subst, arith, is_ok, true, cond, vec_len, vec_capacity}
-use Rattle.tetri_state.specs.declared.pieces.Piece.{Piece}
+use Rattle.std.proofs.Common.{◌≡◌, ◌∙◌, ◌+◌, ◌≤◌, ◌++◌, [], filter, length, not, ap, arith, is_ok, true, cond, vec_len, vec_capacity}
 use Rattle.tetri_state.specs.Begin.{has}
 use Rattle.tetri_state.specs.Readied.{Readied}
 use Rattle.tetri_state.specs.Snapshot.{Snapshot}
