@@ -1,9 +1,8 @@
 -- Which jobs arrive in a slot.
-use Rattle.std.proofs.Common.{◌≡◌, ℕ, ◌+◌, ◌<◌, ◌≤◌, ◌==◌, Bool, true, false, cond, List, [], ◌∷◌, ◌++◌, length, get_or, map, filter, All, AllPairs, Option, Some, None, refl, sym, ap, ◌∙◌, subst, arith, inl, inr, suc, zero}
-use Rattle.std.specs.List.{cons_option, filter_map, range_with_len, zip}
+use Rattle.std.proofs.Common.{◌≡◌, ℕ, ◌+◌, ◌<◌, ◌≤◌, ◌==◌, Bool, true, false, cond, List, [], ◌∷◌, ◌++◌, length, get_or, map, filter, refl, sym, ap, ◌∙◌, subst, arith, inl, inr, suc}
+use Rattle.std.specs.List.{filter_map, range_with_len, zip}
 use Rattle.std.proofs.lemmas.Bool.{cases_lt}
 use Rattle.std.proofs.lemmas.Bool.Decides.{nat_tests}
-use Rattle.std.proofs.lemmas.List.{get_or_default}
 use Rattle.tetri_trace.specs.declared.trace.Event.{Event}
 use Rattle.tetri_trace.specs.declared.trace.Happening.{Happening}
 use Rattle.tetri_trace.specs.declared.trace.Happening.TheVariants.{Arrive, Cancel, Drain, Undrain}
@@ -11,7 +10,7 @@ use Rattle.tetri_trace.specs.Scenario.{Submission, Scenario}
 use Rattle.tetri_trace.specs.Sound.{IsSound, arrival_in}
 use Rattle.tetri_state.specs.Begin.{arrived, arriving, events_at}
 use Rattle.tetri_state.specs.Snapshot.{nothing_submitted, submission_of}
-use Rattle.tetri_state.proofs.Ascending.{Ascend, each_filtered, each_parts}
+use Rattle.tetri_state.proofs.Ascending.{Ascend, each_parts}
 use Rattle.tetri_state.proofs.ToldLemmas.{Each, each_weaker}
 
 -- the jobs of those that arrive at a slot
@@ -66,9 +65,10 @@ module _ (t : Scenario) where
       let rest = numbered js (from + 1) (omega arith) (λ k d lt. ap (λ i. get_or t.submissions i d) (omega arith) ∙ same (suc k) d (omega arith)) in
       let here : get_or t.submissions from nothing_submitted ≡ j = ap (λ i. get_or t.submissions i nothing_submitted) (omega arith) ∙ same 0 nothing_submitted (omega arith) in
       let first : (from ≤ from) × ArrivesAt j.arrival from = (omega arith, (omega arith, ap (λ (s : Submission). s.arrival) here)) in
-      let later : List (ℕ × ℕ) = zip (map (λ i. i.arrival) js) (range_with_len (from + 1) (length js)) in
-      ((first, each_weaker (λ a. (from + 1 ≤ a.1) × ArrivesAt a.0 a.1) (λ a. (from ≤ a.1) × ArrivesAt a.0 a.1) (λ a known. (omega (arith, known.0), known.1)) later rest.0),
-      (each_weaker (λ a. (from + 1 ≤ a.1) × ArrivesAt a.0 a.1) (λ a. from < a.1) (λ a known. omega (arith, known.0)) later rest.0, rest.1))
+      let later : List (ℕ × ℕ) = zip (map (λ i. i.arrival) js) (range_with_len (from + 1) (length js)) in (
+        (first, each_weaker (λ a. (from + 1 ≤ a.1) × ArrivesAt a.0 a.1) (λ a. (from ≤ a.1) × ArrivesAt a.0 a.1) (λ a known. (omega (arith, known.0), known.1)) later rest.0),
+        (each_weaker (λ a. (from + 1 ≤ a.1) × ArrivesAt a.0 a.1) (λ a. from < a.1) (λ a known. omega (arith, known.0)) later rest.0, rest.1),
+      )
 
   each_at_slot : (now : ℕ) (P : ℕ → Type 0) (arrivals : List (ℕ × ℕ)) → Each (λ a. a.0 ≡ now → P a.1) arrivals → Each P (at_slot now arrivals)
   each_at_slot now P [] each = tt

@@ -1,11 +1,11 @@
 -- Numbers that ascend.
-use Rattle.std.proofs.Common.{◌≡◌, ℕ, ◌+◌, ◌<◌, ◌≤◌, ◌==◌, ◌||◌, Bool, true, false, cond, List, [], ◌∷◌, ◌++◌, length, get_or, refl, sym, ap, ◌∙◌, subst, arith, not, filter, suc, zero, AllPairs, add-one}
-use Rattle.std.specs.List.{list_any, remove}
+use Rattle.std.proofs.Common.{◌≡◌, ℕ, ◌<◌, ◌==◌, ◌||◌, Bool, true, false, cond, List, [], ◌∷◌, ◌++◌, length, get_or, refl, sym, ap, ◌∙◌, arith, not, filter, suc, zero, AllPairs, add-one}
+use Rattle.std.specs.List.{remove}
 use Rattle.std.specs.List.Sorted.{IsStrictlyIncreasing}
 use Rattle.std.proofs.lemmas.Bool.Decides.{nat_tests}
 use Rattle.std.proofs.lemmas.List.Kept.{AllPairs-from_increasing}
 use Rattle.tetri_state.specs.Begin.{has, without}
-use Rattle.tetri_state.proofs.ToldLemmas.{Each, each_at, each_weaker}
+use Rattle.tetri_state.proofs.ToldLemmas.{Each, each_at}
 
 -- each number is below all that stand behind it
 abbrev pub Ascend : List ℕ → Type 0
@@ -18,9 +18,10 @@ each_from P (x ∷ xs) all = (all 0 x (omega arith), each_from P xs (λ k d lt. 
 
 ascend_pairs : (ns : List ℕ) → AllPairs (λ m n. m < n) ns → Ascend ns
 ascend_pairs [] pairs = tt
-ascend_pairs (n ∷ ns) pairs =
-    (each_from (λ m. n < m) ns (λ k d lt. pairs 0 (suc k) d (omega arith) (omega arith)),
-    ascend_pairs ns (λ i j d before lt. pairs (suc i) (suc j) d (omega arith) (omega arith)))
+ascend_pairs (n ∷ ns) pairs = (
+  each_from (λ m. n < m) ns (λ k d lt. pairs 0 (suc k) d (omega arith) (omega arith)),
+  ascend_pairs ns (λ i j d before lt. pairs (suc i) (suc j) d (omega arith) (omega arith)),
+)
 
 pub ascend_from : (ns : List ℕ) → IsStrictlyIncreasing ns → Ascend ns
 ascend_from ns rises = ascend_pairs ns (AllPairs-from_increasing ns rises)

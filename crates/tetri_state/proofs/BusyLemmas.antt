@@ -1,6 +1,6 @@
 -- Until when nodes are busy.
-use Rattle.std.proofs.Common.{◌≡◌, ℕ, ◌+◌, ◌-◌, ◌<◌, ◌≤◌, ◌==◌, ◌||◌, Bool, true, false, cond, List, [], ◌∷◌, length, get_or, drop, map, All, Some, None, refl, sym, ap, ◌∙◌, subst, arith, replicate, set, length-set, get_or-set_same, get_or-set_other, ◌≢◌}
-use Rattle.std.specs.List.{find, range_with_len, list_any}
+use Rattle.std.proofs.Common.{◌≡◌, ℕ, ◌+◌, ◌-◌, ◌<◌, ◌≤◌, ◌==◌, ◌||◌, Bool, true, false, cond, List, [], ◌∷◌, length, get_or, drop, map, All, Some, refl, sym, ap, ◌∙◌, subst, arith, replicate, set, length-set, get_or-set_same, get_or-set_other, ◌≢◌}
+use Rattle.std.specs.List.{find, range_with_len}
 use Rattle.std.proofs.lemmas.Bool.Decides.{nat_tests}
 use Rattle.std.proofs.lemmas.Grind.{same_number_lists}
 use Rattle.std.proofs.lemmas.List.{drop_more, get_or-replicate, length-replicate}

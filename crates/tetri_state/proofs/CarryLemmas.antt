@@ -1,5 +1,5 @@
 -- What is carried over of a plan is thrifty.
-use Rattle.std.proofs.Common.{◌≡◌, ℕ, ◌+◌, ◌<◌, ◌==◌, ◌&&◌, ◌||◌, Bool, true, false, cond, List, [], ◌∷◌, length, get_or, map, filter, All, AllPairs, Contains, refl, sym, ap, ◌∙◌, subst, inl, inr, arith}
+use Rattle.std.proofs.Common.{◌≡◌, ℕ, ◌+◌, ◌<◌, ◌==◌, ◌&&◌, ◌||◌, Bool, true, false, cond, List, [], ◌∷◌, length, get_or, map, filter, Contains, refl, sym, ap, ◌∙◌, subst, inl, inr, arith}
 use Rattle.std.specs.List.{list_any}
 use Rattle.std.proofs.lemmas.Bool.Decides.{nat_tests}
 use Rattle.std.proofs.lemmas.List.{get_or-map, length-map}
@@ -8,7 +8,7 @@ use Rattle.tetri_strl.specs.declared.grants.Grant.{Grant}
 use Rattle.tetri_strl.specs.Thrifty.{IsThriftyFor, held_leaves}
 use Rattle.tetri_strl.specs.Worth.{granted}
 use Rattle.tetri_strl.proofs.ThriftOfOthers.{thrifty_of-same}
-use Rattle.tetri_space.specs.Lawful.{AreApart, IsLawful, IsLawfulGrant}
+use Rattle.tetri_space.specs.Lawful.{IsLawful, IsLawfulGrant}
 use Rattle.tetri_space.specs.Space.{Bid, Space}
 use Rattle.tetri_trace.specs.Scenario.{Scenario}
 use Rattle.tetri_trace.specs.Sound.{IsSound}

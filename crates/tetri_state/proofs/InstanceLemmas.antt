@@ -1,19 +1,17 @@
 -- The instance of a state whose slot has begun.
-use Rattle.std.proofs.Common.{◌≡◌, ℕ, ◌+◌, ◌<◌, ◌≤◌, ◌==◌, Bool, true, false, cond, List, [], ◌∷◌, ◌++◌, length, get_or, map, filter, not, All, AllPairs, Contains, Option, Some, None, refl, sym, ap, ◌∙◌, subst, arith, zero, suc}
-use Rattle.std.specs.List.{find, list_any, range_with_len}
-use Rattle.std.specs.List.Sorted.{IsStrictlyIncreasing}
+use Rattle.std.proofs.Common.{◌≡◌, ℕ, ◌+◌, ◌<◌, ◌≤◌, ◌==◌, Bool, true, false, cond, List, [], ◌∷◌, length, get_or, map, All, AllPairs, Contains, Some, sym, subst, arith, zero, suc}
+use Rattle.std.specs.List.{find}
 use Rattle.std.proofs.lemmas.List.{length-map, get_or-map}
-use Rattle.std.proofs.lemmas.List.Elements.{All-map, All-get_or, All-nil}
+use Rattle.std.proofs.lemmas.List.Elements.{All-map}
 use Rattle.std.proofs.lemmas.List.FromFn.{get_or-map-range_with_len, length-map-range_with_len}
 use Rattle.std.proofs.lemmas.List.Folds.{list_any_at}
 use Rattle.std.proofs.lemmas.Bool.Decides.{nat_tests}
 use Rattle.tetri_strl.specs.declared.expr.Leaf.{Leaf}
-use Rattle.tetri_strl.specs.Tree.{leaves, numbers}
-use Rattle.tetri_strl.specs.WellMade.{IsWellMade}
+use Rattle.tetri_strl.specs.Tree.{leaves}
 use Rattle.tetri_space.specs.Free.{IsFree}
-use Rattle.tetri_space.specs.Space.{Bid, Space, set_of}
+use Rattle.tetri_space.specs.Space.{Bid, Space}
 use Rattle.tetri_space.specs.Sound.{HasKnownSet, IsSoundBid, IsSound as IsSoundSpace}
-use Rattle.tetri_trace.specs.Scenario.{Scenario, expr_of}
+use Rattle.tetri_trace.specs.Scenario.{Scenario}
 use Rattle.tetri_trace.specs.Sound.{IsSound, IsSoundSubmission}
 use Rattle.tetri_state.specs.declared.pieces.Piece.{Piece}
 use Rattle.tetri_state.specs.Begin.{has}
@@ -85,14 +83,17 @@ module _ (t : Scenario) (s : Snapshot) (sound : IsSound t) (stands : Stands t (s
     all_known = length-map-range_with_len (busy_until s.now s.pieces) 0 (length t.nodes);
     all_marked = stands.drained;
     busy_within = λ k d lt.
-      let within : k < length t.nodes = omega (arith, length-map-range_with_len (busy_until s.now s.pieces) 0 (length t.nodes)) in
-      subst (λ n. n ≤ 30000) (sym (get_or-map-range_with_len (busy_until s.now s.pieces) 0 (length t.nodes) k k d within (omega arith)))
-      (expected_within s.now s.pieces k (omega arith) (each_weaker (IsWithin t) (λ p. p.expected ≤ 30000) (λ p known. known.expected) s.pieces stands.pieces));
+        let within : k < length t.nodes = omega (arith, length-map-range_with_len (busy_until s.now s.pieces) 0 (length t.nodes)) in
+        subst (λ n. n ≤ 30000) (sym (get_or-map-range_with_len (busy_until s.now s.pieces) 0 (length t.nodes) k k d within (omega arith)))
+        (expected_within s.now s.pieces k (omega arith) (each_weaker (IsWithin t) (λ p. p.expected ≤ 30000) (λ p known. known.expected) s.pieces stands.pieces));
     few_jobs =
-        omega
-        (arith, length-map s.pending (bid_of t), sound.few_jobs,
-        ascend_length s.pending 0 (length t.submissions) (omega arith) stands.ascending (any_low s.pending)
-        (each_weaker (ArrivedBefore t (s.now + 1)) (λ n. n < length t.submissions) (λ n known. known.0) s.pending stands.arrived));
+        omega (
+          arith,
+          length-map s.pending (bid_of t),
+          sound.few_jobs,
+          ascend_length s.pending 0 (length t.submissions) (omega arith) stands.ascending (any_low s.pending)
+              (each_weaker (ArrivedBefore t (s.now + 1)) (λ n. n < length t.submissions) (λ n known. known.0) s.pending stands.arrived),
+        );
     ascending = bids_ascend t s.pending stands.ascending;
     sound_bids = All-map (IsSoundBid i) (bid_of t) s.pending (all_each (λ job. IsSoundBid i (bid_of t job)) s.pending (each_weaker IsGood (λ job. IsSoundBid i (bid_of t job)) good_bid s.pending pending_good));
   }
@@ -138,6 +139,6 @@ pub not_free : (t : Scenario) (s : Snapshot) → Each (λ p. s.now < p.expected)
 not_free t s ahead p node running on free =
     let at : get_or s.pieces running.0 p ≡ p = running.2 in
     let busy : s.now < busy_until s.now s.pieces node =
-        busy_ahead s.now s.pieces running.0 p node running.1 ahead (subst (λ (q : Piece). has q.nodes node ≡ true) (sym at) (has_it p.nodes node on)) in
+    busy_ahead s.now s.pieces running.0 p node running.1 ahead (subst (λ (q : Piece). has q.nodes node ≡ true) (sym at) (has_it p.nodes node on)) in
     let row = get_or-map-range_with_len (busy_until s.now s.pieces) 0 (length t.nodes) node node 0 free.there (omega arith) in
     absurd (omega (arith, row, free.idle))

@@ -1,14 +1,13 @@
 -- What a plan launches.
-use Rattle.std.proofs.Common.{◌≡◌, ℕ, ◌+◌, ◌<◌, ◌≤◌, ◌==◌, ◌&&◌, ◌||◌, Bool, true, false, cond, List, [], ◌∷◌, ◌++◌, length, get_or, map, filter, not, All, AllPairs, Contains, Option, Some, None, refl, sym, ap, ◌∙◌, subst, arith, zero, suc}
-use Rattle.std.specs.List.{cons_option, filter_map, find, list_any, position_from}
-use Rattle.std.specs.Option.{ForSome, IsSomeAnd, option_map}
+use Rattle.std.proofs.Common.{◌≡◌, ℕ, ◌+◌, ◌<◌, ◌==◌, ◌&&◌, ◌||◌, Bool, true, false, cond, List, [], ◌∷◌, length, get_or, map, filter, not, All, AllPairs, Contains, Option, Some, None, refl, sym, ap, ◌∙◌, subst, arith, zero, suc}
+use Rattle.std.specs.List.{cons_option, filter_map, list_any, position_from}
+use Rattle.std.specs.Option.{IsSomeAnd, option_map}
 use Rattle.std.proofs.lemmas.Bool.Decides.{nat_tests}
 use Rattle.std.proofs.lemmas.List.{length-map, get_or-map}
 use Rattle.std.proofs.lemmas.List.Elements.{All-contains, All-contains_itself, All-head, All-tail, Contains-get_or}
-use Rattle.std.proofs.lemmas.List.Folds.{Any-from_list_any, list_any_at, list_any_none}
+use Rattle.std.proofs.lemmas.List.Folds.{Any-from_list_any, list_any_at}
 use Rattle.tetri_strl.specs.declared.expr.Leaf.{Leaf}
 use Rattle.tetri_strl.specs.declared.grants.Grant.{Grant}
-use Rattle.tetri_strl.specs.Aligned.{IsAligned}
 use Rattle.tetri_strl.specs.Thrifty.{IsThriftyFor, held_leaves}
 use Rattle.tetri_strl.specs.Tree.{Tree, leaves}
 use Rattle.tetri_strl.specs.Trim.{idle, wastes}
@@ -17,10 +16,10 @@ use Rattle.tetri_strl.specs.Worth.{leaf_worth}
 use Rattle.tetri_strl.proofs.TrimThrift.{waste_is_exact}
 use Rattle.tetri_strl.proofs.OneStart.{Begins, one_held_start}
 use Rattle.tetri_space.specs.Free.{IsFree}
-use Rattle.tetri_space.specs.Lawful.{AreApart, HasRightNodes, IsLawful, IsLawfulGrant, MayBeGranted, NoCommonSlot}
-use Rattle.tetri_space.specs.Space.{Bid, Covers, IsLive, Space, leaf_in}
+use Rattle.tetri_space.specs.Lawful.{AreApart, IsLawful, IsLawfulGrant, MayBeGranted}
+use Rattle.tetri_space.specs.Space.{Bid, Covers, Space, leaf_in}
 use Rattle.tetri_space.specs.Sound.{IsSoundBid, IsSound as IsSoundSpace}
-use Rattle.tetri_space.proofs.LeafLemmas.{IsOffered, leaf_in-within}
+use Rattle.tetri_space.proofs.LeafLemmas.{leaf_in-within}
 use Rattle.tetri_space.proofs.SearchLemmas.{EachLeaf-at, offered_leaf}
 use Rattle.tetri_trace.specs.Scenario.{Scenario}
 use Rattle.tetri_trace.specs.Sound.{IsSound}
@@ -34,10 +33,10 @@ use Rattle.tetri_state.specs.Reached.{IsPlan}
 use Rattle.tetri_state.specs.Snapshot.{Snapshot, demanded, nothing_submitted}
 use Rattle.tetri_state.proofs.ArrivalLemmas.{ArrivedBefore}
 use Rattle.tetri_state.proofs.Ascending.{ascend_filter, each_filtered, each_from, each_parts}
-use Rattle.tetri_state.proofs.InstanceLemmas.{instance_sound, not_free, pending_good}
+use Rattle.tetri_state.proofs.InstanceLemmas.{instance_sound, not_free}
 use Rattle.tetri_state.proofs.PieceLemmas.{NoneShare, share_append}
 use Rattle.tetri_state.proofs.StandLemmas.{IsWithin, Stands}
-use Rattle.tetri_state.proofs.ToldLemmas.{Each, each_at, each_weaker}
+use Rattle.tetri_state.proofs.ToldLemmas.{Each, each_weaker}
 
 -- a fact of each two elements
 abbrev PairsOf : {X : Type 0} → (X → X → Type 0) → List X → Type 0
@@ -46,9 +45,10 @@ PairsOf R (x ∷ xs) = Each (R x) xs × PairsOf R xs
 
 pairs_from : {X : Type 0} (R : X → X → Type 0) (xs : List X) → AllPairs R xs → PairsOf R xs
 pairs_from R [] pairs = tt
-pairs_from R (x ∷ xs) pairs =
-    (each_from (R x) xs (λ k d lt. pairs 0 (suc k) d (omega arith) (omega arith)),
-    pairs_from R xs (λ i j d before lt. pairs (suc i) (suc j) d (omega arith) (omega arith)))
+pairs_from R (x ∷ xs) pairs = (
+  each_from (R x) xs (λ k d lt. pairs 0 (suc k) d (omega arith) (omega arith)),
+  pairs_from R xs (λ i j d before lt. pairs (suc i) (suc j) d (omega arith) (omega arith)),
+)
 
 -- of the elements that pass a test
 module _ {X : Type 0} (test : X → Bool) where
@@ -94,10 +94,12 @@ share_given t i (g ∷ gs) pairs = by_value (made t i g) refl (share_given t i g
   where
     by_value : (o : Option Piece) → made t i g ≡ o → NoneShare (filter_map (made t i) gs) → NoneShare (cons_option o (filter_map (made t i) gs))
     by_value None is rest = rest
-    by_value (Some p) is rest =
-        (each_given (made t i) (ShareNoNode p) gs
-        (each_weaker (λ h. (p q : Piece) → made t i g ≡ Some p → made t i h ≡ Some q → ShareNoNode p q) (λ h. (q : Piece) → made t i h ≡ Some q → ShareNoNode p q)
-        (λ h apart q here. apart p q is here) gs pairs.0), rest)
+    by_value (Some p) is rest = (
+      each_given (made t i) (ShareNoNode p) gs
+          (each_weaker (λ h. (p q : Piece) → made t i g ≡ Some p → made t i h ≡ Some q → ShareNoNode p q) (λ h. (q : Piece) → made t i h ≡ Some q → ShareNoNode p q)
+          (λ h apart q here. apart p q is here) gs pairs.0),
+      rest,
+    )
 
 -- the leaf that a lawful grant names
 leaf_named : (i : Space) (g : Grant) → IsLawfulGrant i g → (l : Leaf) × (leaf_in i.bids g.job g.leaf ≡ Some l) × MayBeGranted i l g.nodes
@@ -199,13 +201,13 @@ module _ (t : Scenario) (s : Snapshot) (sound : IsSound t) (stands : Stands t (s
       let start = one_held_start (leaf_worth a job) held b.0.expr (bid_sound b.0 b.1.pending).well_made.aligned thrifty in
       let same_job : h.job ≡ job = same ∙ sym b.1.of_job in
       let same_expr : c.0.expr ≡ b.0.expr =
-          (bid_known t s.pending c.0 c.1.pending).0 ∙ ap (demanded t) (c.1.of_job ∙ same_job) ∙ sym (bid_known t s.pending b.0 b.1.pending).0 in
+      (bid_known t s.pending c.0 c.1.pending).0 ∙ ap (demanded t) (c.1.of_job ∙ same_job) ∙ sym (bid_known t s.pending b.0 b.1.pending).0 in
       let held_l : Contains held l.num =
-          subst (Contains held) (ap (λ (x : Grant). x.leaf) at_g.2 ∙ sym b.1.numbered)
-          (held_grant a job at_g.0 g at_g.1 (ap (λ (x : Grant). x.job) at_g.2 ∙ sym b.1.of_job)) in
+      subst (Contains held) (ap (λ (x : Grant). x.leaf) at_g.2 ∙ sym b.1.numbered)
+      (held_grant a job at_g.0 g at_g.1 (ap (λ (x : Grant). x.job) at_g.2 ∙ sym b.1.of_job)) in
       let held_m : Contains held m.num =
-          subst (Contains held) (ap (λ (x : Grant). x.leaf) at_h.2 ∙ sym c.1.numbered)
-          (held_grant a job at_h.0 h at_h.1 (ap (λ (x : Grant). x.job) at_h.2 ∙ same_job)) in
+      subst (Contains held) (ap (λ (x : Grant). x.leaf) at_h.2 ∙ sym c.1.numbered)
+      (held_grant a job at_h.0 h at_h.1 (ap (λ (x : Grant). x.job) at_h.2 ∙ same_job)) in
       let below_m : Contains (leaves b.0.expr) m = subst (λ (e : Tree). Contains (leaves e) m) same_expr c.1.below in
       EachLeaf-at (Begins (leaf_worth a job) held start.0) b.0.expr l start.1 b.1.below held_l
       ∙ sym (EachLeaf-at (Begins (leaf_worth a job) held start.0) b.0.expr m start.1 below_m held_m)
@@ -307,3 +309,12 @@ module _ (t : Scenario) (s : Snapshot) (sound : IsSound t) (stands : Stands t (s
     apart = share_append s.pieces (new_pieces t i a) stands.apart new_apart (old_apart ahead);
     thrifty = after_thrifty;
   }
+
+-- a node that a lawful grant uses in a slot is free in it
+pub free_where_covered : (t : Scenario) (s : Snapshot) (a : List Grant) (g : Grant) (l : Leaf) (n : ℕ) → IsLawful (instance_of t s) a → Contains a g →
+    leaf_in (instance_of t s).bids g.job g.leaf ≡ Some l → Covers l s.now → Contains g.nodes n → IsFree (instance_of t s) n s.now
+free_where_covered t s a g l n lawful at leaf covers on =
+    let m = leaf_named (instance_of t s) g (All-contains (IsLawfulGrant (instance_of t s)) a g lawful.grants at) in
+    let same : m.0 ≡ l = let e : Some m.0 ≡ Some l = sym m.1 ∙ leaf in cc in
+    All-contains (λ k. (slot : ℕ) → Covers m.0 slot → IsFree (instance_of t s) k slot) g.nodes n m.2.nodes_right.free on s.now
+    (subst (λ (k : Leaf). Covers k s.now) (sym same) covers)

@@ -9,6 +9,7 @@ pub mod PieceLemmas
 pub mod ReachedLemmas
 pub mod ReadyLemmas
 pub mod RunLemmas
+pub mod RunOnLemmas
 pub mod SearchLemmas
 pub mod SlotLemmas
 pub mod SoundLemmas

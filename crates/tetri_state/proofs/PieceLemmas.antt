@@ -1,5 +1,5 @@
 -- No two pieces share a node.
-use Rattle.std.proofs.Common.{◌≡◌, ℕ, ◌+◌, ◌<◌, ◌≤◌, Bool, true, false, cond, List, [], ◌∷◌, ◌++◌, length, get_or, map, filter, AllPairs, Contains, refl, sym, ap, ◌∙◌, subst, arith, nat_le, suc, zero}
+use Rattle.std.proofs.Common.{◌≡◌, ℕ, ◌+◌, ◌<◌, ◌≤◌, Bool, true, false, cond, List, [], ◌∷◌, ◌++◌, map, filter, AllPairs, Contains, refl, subst, arith, nat_le, suc, zero}
 use Rattle.std.proofs.lemmas.Bool.Decides.{nat_tests}
 use Rattle.tetri_state.specs.declared.pieces.Piece.{Piece}
 use Rattle.tetri_state.specs.Begin.{is_over, prolonged}
@@ -45,9 +45,10 @@ prolonged-within now p early within = by_test (is_over now p)
 
 apart_prolonged : (now : ℕ) (p : Piece) (qs : List Piece) → Each (ShareNoNode p) qs → Each (ShareNoNode (prolonged now p)) (map (prolonged now) qs)
 apart_prolonged now p [] apart = tt
-apart_prolonged now p (q ∷ qs) apart =
-    ((λ n first second. apart.0 n (subst (λ ns. Contains ns n) (prolonged-nodes now p) first) (subst (λ ns. Contains ns n) (prolonged-nodes now q) second)),
-    apart_prolonged now p qs apart.1)
+apart_prolonged now p (q ∷ qs) apart = (
+  (λ n first second. apart.0 n (subst (λ ns. Contains ns n) (prolonged-nodes now p) first) (subst (λ ns. Contains ns n) (prolonged-nodes now q) second)),
+  apart_prolonged now p qs apart.1,
+)
 
 pub share_prolonged : (now : ℕ) (ps : List Piece) → NoneShare ps → NoneShare (map (prolonged now) ps)
 share_prolonged now [] apart = tt

@@ -1,5 +1,5 @@
 -- The states that a run reaches.
-use Rattle.std.proofs.Common.{◌≡◌, ℕ, ◌+◌, ◌<◌, ◌≤◌, List, [], ◌∷◌, length, All, AllPairs, replicate, refl, sym, ap, ◌∙◌, subst, arith, Result, Ok, Err, IfOk}
+use Rattle.std.proofs.Common.{◌≡◌, ◌+◌, ◌<◌, List, [], ◌∷◌, length, refl, sym, ap, subst, arith, Result, Ok, Err, IfOk}
 use Rattle.std.proofs.lemmas.List.{length-replicate}
 use Rattle.std.proofs.lemmas.List.Elements.{All-nil}
 use Rattle.tetri_strl.specs.declared.grants.Grant.{Grant}
@@ -8,10 +8,10 @@ use Rattle.tetri_trace.specs.Sound.{IsSound}
 use Rattle.tetri_state.specs.declared.pieces.Piece.{Piece}
 use Rattle.tetri_state.specs.After.{after}
 use Rattle.tetri_state.specs.Begin.{begin}
-use Rattle.tetri_state.specs.Pieces.{ShareNoNode}
-use Rattle.tetri_state.specs.Reached.{ArePlans, IsPlan, IsReached, between, begun, state_after}
+use Rattle.tetri_state.specs.Reached.{ArePlans, IsPlan, IsReached, Moment, between, begun, state_after}
 use Rattle.tetri_state.specs.Snapshot.{Snapshot, demanded, nothing_submitted, opening_state}
 use Rattle.tetri_state.proofs.LaunchLemmas.{after_stands, thrifty_without}
+use Rattle.tetri_state.proofs.PieceLemmas.{NoneShare}
 use Rattle.tetri_state.proofs.StandLemmas.{Stands, begin_ahead, begin_stands}
 use Rattle.tetri_state.proofs.ToldLemmas.{Each}
 
@@ -74,3 +74,8 @@ after_reached t s a reached plan = record {
 pub if_ok : {T E : Type 0} (P Q : T → Type 0) → ((x : T) → P x → Q x) → (r : Result T E) → IfOk r P → IfOk r Q
 if_ok P Q step (Ok x) holds = step x holds
 if_ok P Q step (Err e) holds = tt
+
+-- at either moment no two pieces share a node
+pub apart_at : (t : Scenario) → IsSound t → (m : Moment) (s : Snapshot) → IsReached t m s → NoneShare s.pieces
+apart_at t sound between s reached = (stands_between t s sound reached).apart
+apart_at t sound begun s reached = (stands_begun t s sound reached).apart

@@ -1,5 +1,5 @@
 -- A launch that is made ready.
-use Rattle.std.proofs.Common.{◌≡◌, ℕ, ◌+◌, ◌<◌, ◌≤◌, ◌==◌, ◌&&◌, ◌||◌, Bool, true, false, cond, List, [], ◌∷◌, ◌++◌, length, get_or, map, filter, not, All, Contains, Option, Some, None, refl, sym, ap, ◌∙◌, subst, arith, zero, suc}
+use Rattle.std.proofs.Common.{◌≡◌, ℕ, ◌+◌, ◌<◌, ◌==◌, ◌&&◌, ◌||◌, Bool, true, false, cond, List, [], ◌∷◌, ◌++◌, length, get_or, map, filter, not, All, Contains, Some, refl, sym, ap, ◌∙◌, subst, arith, suc}
 use Rattle.std.specs.List.{cons_option, filter_map, list_any}
 use Rattle.std.proofs.lemmas.Bool.Decides.{nat_tests}
 use Rattle.std.proofs.lemmas.List.{get_or-map, length-map}
@@ -122,7 +122,7 @@ launch_is_after t s a r launch =
     let f = starts_now (instance_of t s) a in
     let jobs : r.jobs ≡ filter f s.pending = launch.jobs ∙ launched_is t s a in
     let pending : filter (λ j. not (has r.jobs j)) s.pending ≡ filter (λ j. not (f j)) s.pending =
-        ap (λ js. filter (λ j. not (has js j)) s.pending) jobs ∙ rest_is f s.pending in
+    ap (λ js. filter (λ j. not (has js j)) s.pending) jobs ∙ rest_is f s.pending in
     same_state refl launch.grants refl pending (ap (λ ps. s.pieces ++ ps) launch.pieces) (ap (λ js. s.launched ++ js) launch.jobs) refl refl refl
 
 -- the jobs that stay and those that leave are all
@@ -152,9 +152,9 @@ module _ (t : Scenario) (s : Snapshot) (sound : IsSound t) (stands : Stands t (s
           held : (b : Bool) → (start_of i g == i.now) ≡ b → starts_now i a g.job ≡ false → b ≡ false
           held true here none =
               let found : starts_now i a g.job ≡ true =
-                  list_any_at (λ h. h.job == g.job && start_of i h == i.now) a at.0 g at.1
-                  (subst (λ (h : Grant). (h.job == g.job && start_of i h == i.now) ≡ true) (sym at.2)
-                  (ap (λ b. b && start_of i g == i.now) (test_true g.job g.job refl) ∙ here)) in
+              list_any_at (λ h. h.job == g.job && start_of i h == i.now) a at.0 g at.1
+              (subst (λ (h : Grant). (h.job == g.job && start_of i h == i.now) ≡ true) (sym at.2)
+              (ap (λ b. b && start_of i g == i.now) (test_true g.job g.job refl) ∙ here)) in
               let e : true ≡ false = sym found ∙ none in
               absurd cc
           held false here none = refl

@@ -1,5 +1,5 @@
 -- What a sound scenario says of its events and jobs.
-use Rattle.std.proofs.Common.{◌≡◌, ℕ, ◌+◌, ◌<◌, ◌≤◌, ◌==◌, ◌||◌, Bool, true, false, cond, List, [], ◌∷◌, ◌++◌, length, get_or, map, filter, All, refl, sym, ap, ◌∙◌, subst, arith, inl, inr, not, append_assoc}
+use Rattle.std.proofs.Common.{◌≡◌, ℕ, ◌==◌, ◌||◌, Bool, true, false, cond, List, [], ◌∷◌, ◌++◌, length, get_or, filter, All, sym, ap, subst, arith, inl, inr, not, append_assoc}
 use Rattle.std.specs.List.Sorted.{IsNonDecreasingBy}
 use Rattle.std.proofs.lemmas.Bool.{cases_lt}
 use Rattle.std.proofs.lemmas.List.Elements.{All-filter, All-weaker}
@@ -8,7 +8,7 @@ use Rattle.tetri_trace.specs.declared.trace.Happening.{Happening}
 use Rattle.tetri_trace.specs.declared.trace.Happening.TheVariants.{Arrive, Cancel, Drain, Undrain}
 use Rattle.tetri_trace.specs.Scenario.{Scenario}
 use Rattle.tetri_trace.specs.Sound.{IsSound, NamesKnown}
-use Rattle.tetri_state.specs.Begin.{IsOfNodeBelow, Turn, arriving, cancel, events_at, happen, happen_all, has, runs, without}
+use Rattle.tetri_state.specs.Begin.{IsOfNodeBelow, Turn, arriving, events_at, happen, happen_all, has, runs, without}
 use Rattle.tetri_state.proofs.Ascending.{each_back, each_filtered, each_from, each_front, each_parts}
 use Rattle.tetri_state.proofs.ToldLemmas.{Each, each_at}
 

@@ -1,13 +1,12 @@
 -- What holds in each state that a run reaches.
-use Rattle.std.proofs.Common.{◌≡◌, ℕ, ◌+◌, ◌<◌, ◌≤◌, ◌==◌, Bool, true, false, cond, List, [], ◌∷◌, ◌++◌, length, get_or, map, filter, not, All, AllPairs, Contains, replicate, refl, sym, ap, ◌∙◌, subst, arith, append-nil}
-use Rattle.std.proofs.lemmas.List.{length-replicate}
+use Rattle.std.proofs.Common.{◌≡◌, ℕ, ◌+◌, ◌<◌, ◌≤◌, List, [], ◌∷◌, ◌++◌, length, map, not, All, sym, subst, arith}
 use Rattle.tetri_strl.specs.Thrifty.{IsThriftyFor}
 use Rattle.tetri_trace.specs.declared.trace.Event.{Event}
 use Rattle.tetri_trace.specs.Scenario.{Scenario}
 use Rattle.tetri_trace.specs.Sound.{IsSound}
 use Rattle.tetri_state.specs.declared.pieces.Piece.{Piece}
 use Rattle.tetri_state.specs.Begin.{Turn, arriving, begin, events_at, happen, happen_all, has_ended, has_expired, named, prolonged, running_on, runs, staying, told, turn}
-use Rattle.tetri_state.specs.Snapshot.{Snapshot, demanded, opening_state}
+use Rattle.tetri_state.specs.Snapshot.{Snapshot, demanded}
 use Rattle.tetri_state.proofs.ArrivalLemmas.{ArrivedBefore, all_arrived, pending_then_arrivals}
 use Rattle.tetri_state.proofs.Ascending.{Ascend, ascend_filter, ascend_front, each_filtered}
 use Rattle.tetri_state.proofs.PieceLemmas.{NoneShare, each_mapped, each_of, prolonged-ahead, prolonged-nodes, prolonged-within, share_filter, share_prolonged}

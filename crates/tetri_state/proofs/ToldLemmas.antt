@@ -1,8 +1,7 @@
 -- Pieces in order of job and leaf.
-use Rattle.std.proofs.Common.{◌≡◌, ℕ, ◌+◌, ◌<◌, ◌≤◌, ◌==◌, ◌&&◌, ◌||◌, ◌⊎◌, Bool, true, false, cond, List, [], ◌∷◌, length, get_or, refl, sym, ap, ◌∙◌, subst, inl, inr, arith, nat_lt, not, drop, map, filter, suc, zero, ◌++◌, append_assoc, get_or-drop, length-drop, All}
+use Rattle.std.proofs.Common.{◌≡◌, ℕ, ◌+◌, ◌<◌, ◌≤◌, ◌==◌, ◌&&◌, ◌||◌, Bool, true, false, cond, List, [], ◌∷◌, length, get_or, refl, sym, ap, ◌∙◌, subst, inl, inr, arith, nat_lt, not, drop, suc, zero, ◌++◌, append_assoc, get_or-drop, length-drop, All}
 use Rattle.std.specs.List.{sum_by}
-use Rattle.std.specs.List.Sorted.{IsNonDecreasingBy, IsSorted, IsPermutation}
-use Rattle.std.specs.declared.cmp.Ordering.{Ordering}
+use Rattle.std.specs.List.Sorted.{IsNonDecreasingBy, IsPermutation}
 use Rattle.std.specs.Ordering.{is_lt, nat_cmp, ordering_then}
 use Rattle.std.proofs.lemmas.Bool.{cases_lt}
 use Rattle.std.proofs.lemmas.Bool.Decides.{nat_tests}
@@ -127,9 +126,9 @@ same_ordered [] (y ∷ ys) p q same = absurd (omega (arith, same (λ _. 1), sum_
 same_ordered (x ∷ xs) [] p q same = absurd (omega (arith, same (λ _. 1), sum_by-cons (λ (_ : PieceId). 1) x xs))
 same_ordered (x ∷ xs) (y ∷ ys) p q same =
     let first : x ≡ y =
-        same_id x y
-        (least_first y x xs p (omega (arith, same (is_id y), sum_by-cons (is_id y) y ys, is_itself y)))
-        (least_first x y ys q (omega (arith, same (is_id x), sum_by-cons (is_id x) x xs, is_itself x))) in
+    same_id x y
+    (least_first y x xs p (omega (arith, same (is_id y), sum_by-cons (is_id y) y ys, is_itself y)))
+    (least_first x y ys q (omega (arith, same (is_id x), sum_by-cons (is_id x) x xs, is_itself x))) in
     let rest : xs ≡ ys = same_ordered xs ys p.1 q.1 (λ f. omega (arith, same f, sum_by-cons f x xs, sum_by-cons f y ys, ap f first)) in
     cc
 

@@ -1,26 +1,35 @@
-// What the beginning of a cycle does to running pieces.
-ghost use Rattle.std.specs.Prelude.{◌≡◌, ◌<◌, ◌&&◌, filter, map, not};
-ghost use Rattle.std.specs.List.Sorted.{IsNonDecreasingBy};
-ghost use Rattle.tetri_state.specs.Begin.{has_ended, prolonged, runs};
+// The beginning of a cycle.
+ghost use Rattle.std.specs.Prelude.{◌≡◌, ◌<◌, ◌++◌, ◌&&◌, All, filter, length, map, not, IfOk, OnErr, OnOk};
+ghost use Rattle.std.specs.List.Sorted.{IsNonDecreasingBy, IsStrictlyIncreasing};
+ghost use Rattle.tetri_state.specs.Begin.{arriving, begin, ending, events_at, finished, has_ended, occurrences, occurring, prolonged, running_on, runs, told, turn};
+ghost use Rattle.tetri_state.specs.Reached as moment;
+ghost use Rattle.tetri_state.specs.Reached.{IsReached};
+ghost use Rattle.tetri_trace.specs.Scenario.{scenario};
+ghost use Rattle.tetri_trace.specs.Sound.{IsSound};
 
+use crate::State;
+use crate::events::{events_at, take_all};
+use crate::expiry::part;
 use crate::happened::{Happened, PieceId};
 use crate::pieces::Piece;
-use crate::told::stays;
+use crate::told::{ended, finished, over, running, stays};
+use std::alloc::{AllocError, Global};
+use tetri_trace::Trace;
 
 // What the beginning of a cycle leaves, but for the running pieces themselves.
 #[derive(Drop)]
-pub struct Begun {
-    pub drained: Vec<bool>,
-    pub pending: Vec<u32>,
+struct Begun {
+    drained: Vec<bool>,
+    pending: Vec<u32>,
     // The pieces that stay.
-    pub running: Vec<PieceId>,
+    running: Vec<PieceId>,
     // The jobs whose last pieces ended.
-    pub finished: Vec<u32>,
-    pub happened: Happened,
+    finished: Vec<u32>,
+    happened: Happened,
 }
 
 // Leaves the pieces that stay.
-pub fn keep(pieces: &mut Vec<Piece>, now: u32, running: &[PieceId])
+fn keep(pieces: &mut Vec<Piece>, now: u32, running: &[PieceId])
     requires { IsNonDecreasingBy (λ a. a.job) running.now }
     ensures { pieces.new.items ≡ filter (λ p. not (has_ended now p) && runs running.now p.job) pieces.old.items }
 {
@@ -28,7 +37,7 @@ pub fn keep(pieces: &mut Vec<Piece>, now: u32, running: &[PieceId])
 }
 
 // Pieces that run longer than expected are expected to end in the next slot.
-pub fn prolong(pieces: &mut [Piece], now: u32)
+fn prolong(pieces: &mut [Piece], now: u32)
     requires { now < 20000 }
     ensures { pieces.new ≡ map (prolonged now) pieces.old }
 {
@@ -36,5 +45,87 @@ pub fn prolong(pieces: &mut [Piece], now: u32)
         if piece.expected <= now {
             piece.expected = now + 1;
         }
+    }
+}
+
+impl State {
+    /// Begins the cycle of the slot: pieces that really end do so, the events of the slot happen, pieces that run longer
+    /// than expected are prolonged, and pending jobs whose remaining leaves are worth nothing expire. Its only error is want
+    /// of memory, which changes nothing.
+    #[tactic(auto, using(crate::proofs::ReachedLemmas::begin_reached))]
+    pub fn begin_cycle(&mut self, alloc: Global, trace: &Trace) -> Result<Happened, AllocError>
+        requires sound { IsSound (scenario trace.now) }
+        requires reached { IsReached (scenario trace.now) moment.between self.old }
+        requires more { self.old.now < (scenario trace.now).header.until }
+        ensures state { OnOk result (self.new ≡ begin (scenario trace.entry.now) self.old) }
+        ensures happened { IfOk result (λ h. occurrences h ≡ occurring (scenario trace.entry.now) self.old) }
+        ensures reached { OnOk result (IsReached (scenario trace.entry.now) moment.begun self.new) }
+        ensures err { OnErr result (self.new ≡ self.old) }
+    {
+        self.begin(alloc, trace)
+    }
+
+    // The beginning of the cycle. What takes memory comes first.
+    fn begin(&mut self, alloc: Global, trace: &Trace) -> Result<Happened, AllocError>
+        requires sound { IsSound (scenario trace.now) }
+        requires early { self.old.now < 20000 }
+        requires drained { length self.old.drained ≡ length (scenario trace.now).nodes }
+        requires arrivals { IsStrictlyIncreasing (self.old.pending ++ arriving (events_at (scenario trace.now) self.old.now)) }
+        requires known { All (λ j. j < length (scenario trace.now).submissions)
+            (self.old.pending ++ arriving (events_at (scenario trace.now) self.old.now)) }
+        ensures state { OnOk result (self.new ≡ begin (scenario trace.now) self.old) }
+        ensures happened { IfOk result (λ h. occurrences h ≡ occurring (scenario trace.now) self.old) }
+        ensures err { OnErr result (self.new ≡ self.old) }
+    {
+        let mut begun = self.begun(alloc, trace)?;
+        self.launched.reserve(begun.pending.len())?;
+        self.ended.reserve(begun.finished.len())?;
+        self.cancelled.reserve(begun.happened.cancelled.len())?;
+        self.expired.reserve(begun.happened.expired.len())?;
+        let now = self.now;
+        keep(&mut self.pieces, now, &begun.running);
+        prolong(&mut self.pieces, now);
+        self.drained = begun.drained;
+        self.pending = begun.pending;
+        let _ = self.ended.append(&mut begun.finished);
+        let _ = self.cancelled.extend_from_slice(&begun.happened.cancelled);
+        let _ = self.expired.extend_from_slice(&begun.happened.expired);
+        Ok(begun.happened)
+    }
+
+    // What the beginning of the cycle leaves.
+    #[tactic(auto, using(crate::proofs::SoundLemmas::slots_rise))]
+    fn begun(&self, alloc: Global, trace: &Trace) -> Result<Begun, AllocError>
+        requires sound { IsSound (scenario trace.now) }
+        requires drained { length self.now.drained ≡ length (scenario trace.now).nodes }
+        requires arrivals { IsStrictlyIncreasing (self.now.pending ++ arriving (events_at (scenario trace.now) self.now.now)) }
+        requires known { All (λ j. j < length (scenario trace.now).submissions)
+            (self.now.pending ++ arriving (events_at (scenario trace.now) self.now.now)) }
+        ensures drained { IfOk result (λ b. b.drained.items ≡ (turn (scenario trace.now) self.entry.now).drained) }
+        ensures pending { IfOk result (λ b. b.pending.items ≡ (begin (scenario trace.now) self.entry.now).pending) }
+        ensures running { IfOk result (λ b. b.running.items ≡ (turn (scenario trace.now) self.entry.now).running) }
+        ensures rise { IfOk result (λ b. IsNonDecreasingBy (λ a. a.job) b.running.items) }
+        ensures finished { IfOk result (λ b. b.finished.items ≡ finished (told (running_on self.entry.now)) (told (ending self.entry.now))) }
+        ensures happened { IfOk result (λ b. occurrences b.happened ≡ occurring (scenario trace.now) self.entry.now) }
+    {
+        let ended = ended(alloc, &self.pieces, self.now)?;
+        let running = running(alloc, &self.pieces, self.now)?;
+        let finished = finished(alloc, &running, &ended)?;
+        let events = events_at(&trace.events, self.now);
+        let turn = take_all(alloc, &self.drained, &self.pending, &running, events)?;
+        let over = over(alloc, &self.pieces, self.now, &turn.running)?;
+        let parted = part(alloc, trace, self.now, &turn.pending)?;
+        Ok(Begun {
+            drained: turn.drained,
+            pending: parted.pending,
+            running: turn.running,
+            finished,
+            happened: Happened {
+                ended,
+                cancelled: turn.cancelled,
+                over,
+                expired: parted.expired,
+            },
+        })
     }
 }

@@ -35,10 +35,10 @@ impl Model for Turn {
     ghost Value = { begin.Turn };
 
     ghost view = { λ v. record {
-        drained = v.drained.items;
-        pending = v.pending.items;
-        running = v.running.items;
-        cancelled = v.cancelled.items;
+      drained = v.drained.items;
+      pending = v.pending.items;
+      running = v.running.items;
+      cancelled = v.cancelled.items;
     } };
 }
 
@@ -100,7 +100,11 @@ pub fn take_all(
     requires running { IsNonDecreasingBy (λ a. a.job) running.now }
     requires known { All (λ e. IsOfNodeBelow (length drained.now) e.what) events.now }
     ensures turn { IfOk result (λ v. v ≡ happen_all events.now (record {
-        drained = drained.now; pending = pending.now; running = running.now; cancelled = [] })) }
+      drained = drained.now;
+      pending = pending.now;
+      running = running.now;
+      cancelled = [];
+    })) }
     ensures pending { IfOk result (λ v. IsStrictlyIncreasing v.pending) }
     ensures running { IfOk result (λ v. IsNonDecreasingBy (λ a. a.job) v.running) }
 {

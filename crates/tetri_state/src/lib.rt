@@ -8,6 +8,8 @@ mod events;
 mod expiry;
 mod happened;
 mod launches;
+mod launching;
+mod laws;
 mod pieces;
 mod planning;
 mod prepared;
@@ -16,6 +18,10 @@ mod told;
 
 pub use happened::{Happened, PieceId};
 pub use launches::{Launch, launch_of, starts_of};
+pub use laws::{
+    no_two_running_pieces_share_a_node, nodes_of_running_pieces_are_taken,
+    running_pieces_run_on_unless_told,
+};
 pub use pieces::Piece;
 pub use prepared::Prepared;
 pub use state::State;

@@ -37,10 +37,10 @@ impl Model for Prepared {
     ghost Value = { Readied };
 
     ghost view = { λ p. record {
-        jobs = p.jobs.items;
-        pieces = p.pieces.items;
-        grants = p.grants;
-        room = vec_capacity p.room;
+      jobs = p.jobs.items;
+      pieces = p.pieces.items;
+      grants = p.grants;
+      room = vec_capacity p.room;
     } };
 
     ghost invariant = { λ p. IsNonDecreasing p.jobs.items × (p.room.items ≡ []) };
@@ -72,12 +72,7 @@ fn real_dur(dur: u32, late: i32) -> u32
     (dur as i32 + late).max(1) as u32
 }
 
-fn piece_of(
-    alloc: Global,
-    trace: &Trace,
-    grant: &Grant,
-    leaf: &Leaf,
-) -> Result<Piece, AllocError>
+fn piece_of(alloc: Global, trace: &Trace, grant: &Grant, leaf: &Leaf) -> Result<Piece, AllocError>
     requires sound { IsSound (scenario trace.now) }
     requires known { grant.now.job < length (scenario trace.now).submissions }
     requires good { IsGoodLeaf leaf.now }
@@ -106,7 +101,7 @@ pub fn new_pieces(
     requires known { All (λ g. g.job < length (scenario trace.now).submissions) grants.now }
     ensures { IfOk result (λ v. v.items
         ≡ filter_map (λ g. option_map (piece_of (scenario trace.entry.now) g) (leaf_in (space inst.entry.now).bids g.job g.leaf))
-            (filter (λ g. start_of (space inst.entry.now) g == (space inst.entry.now).now) grants.now)) }
+        (filter (λ g. start_of (space inst.entry.now) g == (space inst.entry.now).now) grants.now)) }
 {
     let mut pieces = Vec::new(alloc);
     for grant in grants {

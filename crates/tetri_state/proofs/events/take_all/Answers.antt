@@ -1,9 +1,9 @@
-use Rattle.std.proofs.Common.{◌≡◌, ◌+◌, ◌∷◌, ◌++◌, ◌∙◌, sym, ap, subst, refl, List, [], ℕ, drop, get_or, length}
+use Rattle.std.proofs.Common.{◌≡◌, ◌+◌, ◌∷◌, ◌++◌, ◌∙◌, sym, ap, subst, refl, drop, get_or, length}
 use Rattle.std.proofs.lemmas.List.{drop_more}
 use Rattle.tetri_trace.specs.declared.trace.Event.{Event}
 use Rattle.tetri_trace.specs.declared.trace.Happening.TheVariants.{Arrive}
-use Rattle.tetri_state.specs.Begin.{Turn, arriving, happen_all}
-use Rattle.tetri_state.proofs.Ascending.{ascend_from, ascend_to, ascend_front, Ascend}
+use Rattle.tetri_state.specs.Begin.{arriving, happen_all}
+use Rattle.tetri_state.proofs.Ascending.{ascend_from, ascend_to, ascend_front}
 use Rattle.tetri_state.proofs.TurnLemmas.{Keeps, happen_keeps}
 use Rattle.tetri_state.proofs.events.take_all.Goals as goal
 

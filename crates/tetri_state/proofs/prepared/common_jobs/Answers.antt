@@ -10,7 +10,7 @@ returns-clause-rise c =
     let f = has c.args.others.now in
     let jobs = c.args.jobs.now in
     let all : c.loop-job.common.items ≡ filter f jobs =
-        sym (append-nil c.loop-job.common.items)
-        ∙ ap (λ (ns : List ℕ). c.loop-job.common.items ++ filter f ns) (sym (drop_all c.loop-job.job-index jobs c.loop-job-test.false))
-        ∙ c.loop-job.invariant in
+    sym (append-nil c.loop-job.common.items)
+    ∙ ap (λ (ns : List ℕ). c.loop-job.common.items ++ filter f ns) (sym (drop_all c.loop-job.job-index jobs c.loop-job-test.false))
+    ∙ c.loop-job.invariant in
     subst (IsNonDecreasingBy (λ (n : ℕ). n)) (sym all) (IsNonDecreasingBy-filter (λ (n : ℕ). n) f jobs c.requires.rise)

@@ -1,5 +1,5 @@
-use Rattle.std.proofs.Common.{◌≡◌, ◌∙◌, Some, sym}
-use Rattle.tetri_space.specs.Space.{leaf_in, space}
+use Rattle.std.proofs.Common.{◌∙◌, sym}
+use Rattle.tetri_space.specs.Space.{space}
 use Rattle.tetri_space.proofs.SearchLemmas.{offered_leaf}
 use Rattle.tetri_state.proofs.prepared.new_pieces.Goals as goal
 

@@ -1,10 +1,6 @@
-use Rattle.std.proofs.Common.{rules, ◌≡◌, ◌≤ℤ◌, ◌∙◌, ℤ, negsuc, pos, get_or, map, sym, subst, to_z, of_z, w32}
+use Rattle.std.proofs.Common.{rules, ◌≤ℤ◌, ℤ, negsuc, pos, sym, subst, w32}
 use mir.Val.{SFits}
 use Rattle.std.proofs.lemmas.Int.{to_z-of_z}
-use Rattle.std.proofs.lemmas.List.{get_or-map}
-use Rattle.tetri_trace.specs.declared.trace.Job.{Job}
-use Rattle.tetri_trace.specs.Scenario.{Scenario, scenario, submission}
-use Rattle.tetri_trace.specs.Sound.{IsSound, IsSoundSubmission}
 use Rattle.tetri_state.proofs.ReadyLemmas.{sound_job}
 use Rattle.tetri_state.proofs.prepared.piece_of.Goals as goal
 

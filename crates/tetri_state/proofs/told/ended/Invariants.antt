@@ -1,5 +1,4 @@
 use Rattle.std.proofs.Common.{◌≡◌, ◌++◌, drop, map, filter}
-use Rattle.std.specs.Prelude.{not}
 use Rattle.tetri_state.specs.Begin.{has_ended, named}
 use Rattle.tetri_state.proofs.told.ended.Given as goal
 

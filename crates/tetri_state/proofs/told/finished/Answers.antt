@@ -1,6 +1,5 @@
-use Rattle.std.proofs.Common.{◌∙◌, sym, ap, ◌++◌}
+use Rattle.std.proofs.Common.{◌∙◌, sym}
 use Rattle.tetri_state.specs.declared.happened.PieceId.{PieceId}
-use Rattle.tetri_state.specs.Begin.{finished}
 use Rattle.tetri_state.proofs.ToldLemmas.{finished_passed, finished_told}
 use Rattle.tetri_state.proofs.told.finished.Goals as goal
 use Rattle.tetri_state.proofs.told.finished.Goals.{then-is_finished+in_ok-push, else-is_finished}

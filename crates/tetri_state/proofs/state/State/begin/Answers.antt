@@ -1,9 +1,9 @@
-use Rattle.std.proofs.Common.{◌≡◌, ◌+◌, ◌≤◌, ◌++◌, ◌∙◌, ◌&&◌, Bool, true, ℕ, List, cond, length, filter, map, not, sym, ap, arith, is_ok, vec_len}
+use Rattle.std.proofs.Common.{◌≡◌, ◌∙◌, ◌&&◌, length, filter, map, not, ap, arith}
 use Rattle.std.proofs.lemmas.List.{length-map, with_items_is}
 use Rattle.std.specs.Vec.{with_items}
 use Rattle.tetri_trace.specs.Scenario.{Scenario, scenario}
 use Rattle.tetri_state.specs.declared.pieces.Piece.{Piece}
-use Rattle.tetri_state.specs.Begin.{Occurrences, begin, has_ended, prolonged, running_on, runs, staying, turn}
+use Rattle.tetri_state.specs.Begin.{Occurrences, has_ended, prolonged, runs, staying, turn}
 use Rattle.tetri_state.specs.Snapshot.{Snapshot}
 use Rattle.tetri_state.proofs.BeginLemmas.{appended, filter_both, same_state}
 use Rattle.tetri_state.proofs.state.State.begin.Goals as goal
@@ -16,26 +16,26 @@ returns-clause-state c =
     let now : c.self.inside.now ≡ s.now = ap (λ (r : Snapshot). r.now) c.self.view_is in
     let len : length c.prolong.new.pieces ≡ c.keep.new.pieces.len = ap length c.prolong.ensures ∙ length-map _ _ ∙ c.deref_mut.ensures.len in
     let stays : c.keep.new.pieces.items ≡ staying t s =
-        c.keep.ensures
-        ∙ ap (filter (λ (p : Piece). not (has_ended c.self.inside.now p) && runs c.deref.result.now p.job)) (ap (λ (r : Snapshot). r.pieces) c.self.view_is)
-        ∙ ap (λ n. filter (λ (p : Piece). not (has_ended n p) && runs c.deref.result.now p.job) s.pieces) now
-        ∙ ap (λ r. filter (λ (p : Piece). not (has_ended s.now p) && runs r p.job) s.pieces) (c.deref.ensures.value ∙ h.running)
-        ∙ filter_both (λ (p : Piece). not (has_ended s.now p)) (λ (p : Piece). runs (turn t s).running p.job) s.pieces in
+    c.keep.ensures
+    ∙ ap (filter (λ (p : Piece). not (has_ended c.self.inside.now p) && runs c.deref.result.now p.job)) (ap (λ (r : Snapshot). r.pieces) c.self.view_is)
+    ∙ ap (λ n. filter (λ (p : Piece). not (has_ended n p) && runs c.deref.result.now p.job) s.pieces) now
+    ∙ ap (λ r. filter (λ (p : Piece). not (has_ended s.now p) && runs r p.job) s.pieces) (c.deref.ensures.value ∙ h.running)
+    ∙ filter_both (λ (p : Piece). not (has_ended s.now p)) (λ (p : Piece). runs (turn t s).running p.job) s.pieces in
     let pieces : (with_items c.keep.new.pieces c.prolong.new.pieces).items ≡ map (prolonged s.now) (staying t s) =
-        with_items_is c.keep.new.pieces c.prolong.new.pieces len ∙ c.prolong.ensures ∙ ap (λ n. map (prolonged n) c.deref_mut.result.now) now
-        ∙ ap (map (prolonged s.now)) (c.deref_mut.ensures.value ∙ stays) in
+    with_items_is c.keep.new.pieces c.prolong.new.pieces len ∙ c.prolong.ensures ∙ ap (λ n. map (prolonged n) c.deref_mut.result.now) now
+    ∙ ap (map (prolonged s.now)) (c.deref_mut.ensures.value ∙ stays) in
     let launched = c.in_ok-reserve.ensures.items ∙ ap (λ (r : Snapshot). r.launched) c.self.view_is in
     let ended =
-        appended c.append.ensures.items (c.append.ensures.succeeds (omega (arith, c.in_ok-reserve-2.ensures.ok)))
-        (c.in_ok-reserve-2.ensures.items ∙ ap (λ (r : Snapshot). r.ended) c.self.view_is) h.finished in
+    appended c.append.ensures.items (c.append.ensures.succeeds (omega (arith, c.in_ok-reserve-2.ensures.ok)))
+    (c.in_ok-reserve-2.ensures.items ∙ ap (λ (r : Snapshot). r.ended) c.self.view_is) h.finished in
     let cancelled =
-        appended c.extend_from_slice.ensures.items
-        (c.extend_from_slice.ensures.succeeds (omega (arith, c.in_ok-reserve-3.ensures.ok, c.in_ok-reserve-3.ensures.len, c.deref-2.ensures.len, c.len-3.ensures)))
-        (c.in_ok-reserve-3.ensures.items ∙ ap (λ (r : Snapshot). r.cancelled) c.self.view_is)
-        (c.deref-2.ensures.value ∙ ap (λ (o : Occurrences). o.cancelled) h.happened) in
+    appended c.extend_from_slice.ensures.items
+    (c.extend_from_slice.ensures.succeeds (omega (arith, c.in_ok-reserve-3.ensures.ok, c.in_ok-reserve-3.ensures.len, c.deref-2.ensures.len, c.len-3.ensures)))
+    (c.in_ok-reserve-3.ensures.items ∙ ap (λ (r : Snapshot). r.cancelled) c.self.view_is)
+    (c.deref-2.ensures.value ∙ ap (λ (o : Occurrences). o.cancelled) h.happened) in
     let expired =
-        appended c.extend_from_slice-2.ensures.items
-        (c.extend_from_slice-2.ensures.succeeds (omega (arith, c.in_ok-reserve-4.ensures.ok, c.in_ok-reserve-4.ensures.len, c.deref-3.ensures.len, c.len-4.ensures)))
-        (c.in_ok-reserve-4.ensures.items ∙ ap (λ (r : Snapshot). r.expired) c.self.view_is)
-        (c.deref-3.ensures.value ∙ ap (λ (o : Occurrences). o.expired) h.happened) in
+    appended c.extend_from_slice-2.ensures.items
+    (c.extend_from_slice-2.ensures.succeeds (omega (arith, c.in_ok-reserve-4.ensures.ok, c.in_ok-reserve-4.ensures.len, c.deref-3.ensures.len, c.len-4.ensures)))
+    (c.in_ok-reserve-4.ensures.items ∙ ap (λ (r : Snapshot). r.expired) c.self.view_is)
+    (c.deref-3.ensures.value ∙ ap (λ (o : Occurrences). o.expired) h.happened) in
     same_state now (ap (λ (r : Snapshot). r.plan) c.self.view_is) h.drained h.pending pieces launched ended cancelled expired

@@ -1,11 +1,11 @@
-use Rattle.std.proofs.Common.{◌<◌, ◌++◌, ◌+◌, length}
+use Rattle.std.proofs.Common.{◌++◌, ◌+◌}
 use Rattle.tetri_trace.specs.Scenario.{scenario}
 use Rattle.tetri_state.specs.Begin.{arriving, events_at}
 use Rattle.tetri_state.proofs.ArrivalLemmas.{ArrivedBefore, all_arrived}
 use Rattle.tetri_state.proofs.Ascending.{ascend_to}
 use Rattle.tetri_state.proofs.ReachedLemmas.{stands_between}
 use Rattle.tetri_state.proofs.StandLemmas.{arrivals}
-use Rattle.tetri_state.proofs.ToldLemmas.{each_at, each_weaker}
+use Rattle.tetri_state.proofs.ToldLemmas.{each_at}
 use Rattle.tetri_state.proofs.state.State.begin_cycle.Goals as goal
 
 pub begin-requires-clause-drained : goal.begin-requires-clause-drained

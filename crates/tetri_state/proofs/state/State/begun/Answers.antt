@@ -1,10 +1,9 @@
 use Rattle.std.proofs.Common.{◌≡◌, ◌<◌, ◌++◌, ◌∙◌, ◌==◌, ◌&&◌, ℕ, Bool, All, List, [], length, filter, not, sym, ap, subst}
-use Rattle.std.specs.List.Sorted.{IsStrictlyIncreasing}
 use Rattle.tetri_trace.specs.declared.trace.Event.{Event}
 use Rattle.tetri_trace.specs.Scenario.{Scenario, scenario}
 use Rattle.tetri_state.specs.declared.happened.PieceId.{PieceId}
 use Rattle.tetri_state.specs.declared.pieces.Piece.{Piece}
-use Rattle.tetri_state.specs.Begin.{IsOfNodeBelow, Turn, Occurrences, arriving, ending, events_at, finished, happen_all, has_ended, has_expired, is_over, occurring, runs, running_on, staying, told, turn}
+use Rattle.tetri_state.specs.Begin.{Turn, Occurrences, arriving, ending, events_at, finished, happen_all, has_ended, has_expired, is_over, runs, running_on, staying, told, turn}
 use Rattle.tetri_state.specs.Snapshot.{Snapshot}
 use Rattle.tetri_state.proofs.SoundLemmas.{all_pending, nodes_known}
 use Rattle.tetri_state.proofs.BeginLemmas.{filter_both, same_parts}
@@ -16,8 +15,8 @@ take_all-requires-clause-arrivals c =
     let s : Snapshot = c.args.self.now in
     let now : c.self.inside.now ≡ s.now = ap (λ (r : Snapshot). r.now) c.self.view_is in
     let es : c.events_at-events.result.now ≡ events_at (scenario c.args.trace.now) s.now =
-        c.events_at-events.ensures ∙ ap (filter (λ (e : Event). e.at == c.self.inside.now)) c.deref-5.ensures.value
-        ∙ ap (λ n. filter (λ (e : Event). e.at == n) c.args.trace.now.events.items) now in
+    c.events_at-events.ensures ∙ ap (filter (λ (e : Event). e.at == c.self.inside.now)) c.deref-5.ensures.value
+    ∙ ap (λ n. filter (λ (e : Event). e.at == n) c.args.trace.now.events.items) now in
     let pending : c.deref-7.result.now ≡ s.pending = c.deref-7.ensures.value ∙ ap (λ (r : Snapshot). r.pending) c.self.view_is in
     rw (es, pending) c.requires.arrivals
 
@@ -27,10 +26,10 @@ take_all-requires-clause-known c =
     let t : Scenario = scenario c.args.trace.now in
     let now : c.self.inside.now ≡ s.now = ap (λ (r : Snapshot). r.now) c.self.view_is in
     let es : c.events_at-events.result.now ≡ events_at t s.now =
-        c.events_at-events.ensures ∙ ap (filter (λ (e : Event). e.at == c.self.inside.now)) c.deref-5.ensures.value
-        ∙ ap (λ n. filter (λ (e : Event). e.at == n) c.args.trace.now.events.items) now in
+    c.events_at-events.ensures ∙ ap (filter (λ (e : Event). e.at == c.self.inside.now)) c.deref-5.ensures.value
+    ∙ ap (λ n. filter (λ (e : Event). e.at == n) c.args.trace.now.events.items) now in
     let nodes : length c.deref-6.result.now ≡ length t.nodes =
-        ap length c.deref-6.ensures.value ∙ ap (λ (r : Snapshot). length r.drained) c.self.view_is ∙ c.requires.drained in
+    ap length c.deref-6.ensures.value ∙ ap (λ (r : Snapshot). length r.drained) c.self.view_is ∙ c.requires.drained in
     rw (es, nodes) (nodes_known t s.now c.requires.sound)
 
 pub part-requires-clause-there : goal.part-requires-clause-there
@@ -39,8 +38,8 @@ part-requires-clause-there c =
     let t : Scenario = scenario c.args.trace.now in
     let now : c.self.inside.now ≡ s.now = ap (λ (r : Snapshot). r.now) c.self.view_is in
     let es : c.events_at-events.result.now ≡ events_at t s.now =
-        c.events_at-events.ensures ∙ ap (filter (λ (e : Event). e.at == c.self.inside.now)) c.deref-5.ensures.value
-        ∙ ap (λ n. filter (λ (e : Event). e.at == n) c.args.trace.now.events.items) now in
+    c.events_at-events.ensures ∙ ap (filter (λ (e : Event). e.at == c.self.inside.now)) c.deref-5.ensures.value
+    ∙ ap (λ n. filter (λ (e : Event). e.at == n) c.args.trace.now.events.items) now in
     let pending : c.deref-7.result.now ≡ s.pending = c.deref-7.ensures.value ∙ ap (λ (r : Snapshot). r.pending) c.self.view_is in
     let v : Turn = record { drained = c.deref-6.result.now; pending = c.deref-7.result.now; running = c.deref-8.result.now; cancelled = [] } in
     let P : ℕ → Type 0 = λ j. j < length t.submissions in
@@ -126,6 +125,6 @@ returns-clause-finished c =
 pub returns-clause-happened : goal.returns-clause-happened
 returns-clause-happened c =
     let cancelled : c.turn.inside.cancelled.items ≡ (turn (scenario c.args.trace.now) c.args.self.now).cancelled =
-        ap (λ (w : Turn). w.cancelled) (c.turn.view_is ∙ turn_is c) in
+    ap (λ (w : Turn). w.cancelled) (c.turn.view_is ∙ turn_is c) in
     let made : List PieceId → List ℕ → List PieceId → List ℕ → Occurrences = λ e k o x. record { ended = e; cancelled = k; over = o; expired = x } in
     same_parts made (ended_is c) cancelled (over_is c) (expired_is c)

@@ -1,5 +1,4 @@
-use Rattle.std.proofs.Common.{◌≡◌, ◌∙◌, ◌+◌, ◌≤◌, ◌++◌, ℕ, List, [], filter, length, not, sym, ap, subst, arith, is_ok, true, cond, vec_len, vec_capacity}
-use Rattle.tetri_state.specs.declared.pieces.Piece.{Piece}
+use Rattle.std.proofs.Common.{◌≡◌, ◌∙◌, ◌+◌, ◌≤◌, ◌++◌, [], filter, length, not, ap, arith, is_ok, true, cond, vec_len, vec_capacity}
 use Rattle.tetri_state.specs.Begin.{has}
 use Rattle.tetri_state.specs.Readied.{Readied}
 use Rattle.tetri_state.specs.Snapshot.{Snapshot}
@@ -63,9 +62,17 @@ module _ (c : After-drop-jobs) where
   third : is_ok c.append-3.result ≡ true
   third =
       c.append-3.ensures.succeeds
-      (omega
-      (arith, moved, room_is, c.requires.room, c.append-2.ensures.capacity, len_is c.self.inside.pieces, ap length pieces_are, len_is c.prepared.inside.pieces,
-      ap length new_are))
+      (omega (
+        arith,
+        moved,
+        room_is,
+        c.requires.room,
+        c.append-2.ensures.capacity,
+        len_is c.self.inside.pieces,
+        ap length pieces_are,
+        len_is c.prepared.inside.pieces,
+        ap length new_are,
+      ))
 
 pub invariant_of-self : goal.invariant_of-self
 invariant_of-self c =

@@ -102,7 +102,13 @@ returns-clause-fits c =
       early = omega (arith, early c);
       pending = jobs_are c ∙ part_is f (s c).pending ∙ ap (λ js. filter (has js) (s c).pending) (sym (jobs_are c));
       room =
-          omega
-          (arith, c.in_ok-room.ensures.exact, c.len.ensures, c.len-2.ensures, c.self.inside.pieces.ok.0, c.in_ok-pieces.pieces.ok.0,
-          ap (λ (r : Snapshot). length r.pieces) c.self.view_is);
+          omega (
+            arith,
+            c.in_ok-room.ensures.exact,
+            c.len.ensures,
+            c.len-2.ensures,
+            c.self.inside.pieces.ok.0,
+            c.in_ok-pieces.pieces.ok.0,
+            ap (λ (r : Snapshot). length r.pieces) c.self.view_is,
+          );
     }

@@ -1,0 +1,166 @@
+-- A piece runs on unless it is told that it ended or was cancelled.
+use Rattle.std.proofs.Common.{◌≡◌, ℕ, ◌+◌, ◌<◌, ◌==◌, ◌||◌, ◌⊎◌, Bool, true, false, cond, List, [], ◌∷◌, ◌++◌, length, get_or, map, filter, not, Contains, refl, sym, ap, ◌∙◌, subst, inl, inr, ⊎_elim, arith, zero, suc}
+use Rattle.std.proofs.lemmas.Bool.Decides.{nat_tests}
+use Rattle.std.proofs.lemmas.List.Elements.{Contains-append_left, Contains-push}
+use Rattle.std.proofs.lemmas.List.Folds.{list_any_at}
+use Rattle.tetri_trace.specs.declared.trace.Event.{Event}
+use Rattle.tetri_trace.specs.declared.trace.Happening.{Happening}
+use Rattle.tetri_trace.specs.declared.trace.Happening.TheVariants.{Arrive, Cancel, Drain, Undrain}
+use Rattle.tetri_trace.specs.Scenario.{Scenario}
+use Rattle.tetri_state.specs.declared.happened.PieceId.{PieceId}
+use Rattle.tetri_state.specs.declared.pieces.Piece.{Piece}
+use Rattle.tetri_state.specs.Begin.{Turn, comes_before, events_at, happen, happen_all, has, has_ended, in_order, is_over, named, prolonged, put, running_on, runs, staying, told, turn, without}
+use Rattle.tetri_state.specs.Pieces.{IsSameRun, RunsOnUnlessTold}
+use Rattle.tetri_state.specs.Snapshot.{Snapshot}
+
+here : {X : Type 0} (x : X) (xs : List X) → Contains (x ∷ xs) x
+here x xs = (0, omega arith, refl)
+
+there : {X : Type 0} (y : X) (xs : List X) (x : X) → Contains xs x → Contains (y ∷ xs) x
+there y xs x at = (suc at.0, omega (arith, at.1), at.2)
+
+head_or_tail : {X : Type 0} (P : X → Type 0) (y : X) (ys : List X) (x : X) → Contains (y ∷ ys) x → P y → (Contains ys x → P x) → P x
+head_or_tail P y ys x at first rest = by_place at.0 at.1 at.2
+  where
+    by_place : (k : ℕ) → k < suc (length ys) → get_or (y ∷ ys) k x ≡ x → P x
+    by_place zero lt is = subst P is first
+    by_place (suc k) lt is = rest (k, omega arith, is)
+
+passing : {X : Type 0} (test : X → Bool) (xs : List X) (x : X) → Contains xs x → test x ≡ true → Contains (filter test xs) x
+passing test [] x at passes = absurd (omega (arith, at.1))
+passing {X} test (y ∷ ys) x at passes =
+    head_or_tail (λ z. test z ≡ true → Contains (cond (test y) (y ∷ filter test ys) (filter test ys)) z) y ys x at
+    (λ is. ap_test (test y) is) (λ later is. by_test (test y) (passing test ys x later is)) passes
+  where
+    ap_test : (b : Bool) → b ≡ true → Contains (cond b (y ∷ filter test ys) (filter test ys)) y
+    ap_test true is = here y (filter test ys)
+    ap_test false is = absurd cc
+
+    by_test : (b : Bool) → Contains (filter test ys) x → Contains (cond b (y ∷ filter test ys) (filter test ys)) x
+    by_test true later = there y (filter test ys) x later
+    by_test false later = later
+
+mapped : {X Y : Type 0} (f : X → Y) (xs : List X) (x : X) → Contains xs x → Contains (map f xs) (f x)
+mapped f [] x at = absurd (omega (arith, at.1))
+mapped f (y ∷ ys) x at =
+    head_or_tail (λ z. Contains (f y ∷ map f ys) (f z)) y ys x at (here (f y) (map f ys)) (λ later. there (f y) (map f ys) (f x) (mapped f ys x later))
+
+put_here : (a : PieceId) (bs : List PieceId) → Contains (put a bs) a
+put_here a [] = here a []
+put_here a (b ∷ bs) = by_test (comes_before b a) (put_here a bs)
+  where
+    by_test : (t : Bool) → Contains (put a bs) a → Contains (cond t (b ∷ put a bs) (a ∷ b ∷ bs)) a
+    by_test true rest = there b (put a bs) a rest
+    by_test false rest = here a (b ∷ bs)
+
+put_there : (a : PieceId) (bs : List PieceId) (x : PieceId) → Contains bs x → Contains (put a bs) x
+put_there a [] x at = absurd (omega (arith, at.1))
+put_there a (b ∷ bs) x at = by_test (comes_before b a) (put_there a bs x)
+  where
+    by_test : (t : Bool) → (Contains bs x → Contains (put a bs) x) → Contains (cond t (b ∷ put a bs) (a ∷ b ∷ bs)) x
+    by_test true rest = head_or_tail (λ z. Contains (b ∷ put a bs) z) b bs x at (here b (put a bs)) (λ later. there b (put a bs) x (rest later))
+    by_test false rest = there a (b ∷ bs) x at
+
+ordered : (ids : List PieceId) (x : PieceId) → Contains ids x → Contains (in_order ids) x
+ordered [] x at = absurd (omega (arith, at.1))
+ordered (a ∷ ids) x at =
+    head_or_tail (λ z. Contains (put a (in_order ids)) z) a ids x at (put_here a (in_order ids)) (λ later. put_there a (in_order ids) x (ordered ids x later))
+
+-- what pieces are told by has each of them
+pub told_has : (ps : List Piece) (p : Piece) → Contains ps p → Contains (told ps) (named p)
+told_has ps p at = ordered (map named ps) (named p) (mapped named ps p at)
+
+pub told_runs : (ps : List Piece) (p : Piece) → Contains ps p → runs (told ps) p.job ≡ true
+told_runs ps p at =
+    let t = told_has ps p at in
+    list_any_at (λ a. a.job == p.job) (told ps) t.0 (named p) t.1 (same _ (ap (λ (a : PieceId). a.job) t.2))
+  where
+    same : (m : ℕ) → m ≡ p.job → (m == p.job) ≡ true
+    same m e = grind (arith, nat_tests)
+
+-- a job of which pieces run at first runs, or was cancelled
+module _ (job : ℕ) where
+  abbrev RunsOrCancelled : Turn → Type 0
+  RunsOrCancelled v = (runs v.running job ≡ true) ⊎ Contains v.cancelled job
+
+  runs_without : (other : ℕ) → (other == job) ≡ false → (ids : List PieceId) → runs ids job ≡ true → runs (filter (λ a. not (a.job == other)) ids) job ≡ true
+  runs_without other differ [] runs_on = absurd cc
+  runs_without other differ (a ∷ ids) runs_on = by_tests (a.job == job) (a.job == other) refl refl runs_on (runs_without other differ ids)
+    where
+      either_true : (b : Bool) → (b || true) ≡ true
+      either_true true = refl
+      either_true false = refl
+
+      by_tests : (s t : Bool) → (a.job == job) ≡ s → (a.job == other) ≡ t → (s || runs ids job) ≡ true →
+          (runs ids job ≡ true → runs (filter (λ b. not (b.job == other)) ids) job ≡ true) →
+          runs (cond (not t) (a ∷ filter (λ b. not (b.job == other)) ids) (filter (λ b. not (b.job == other)) ids)) job ≡ true
+      by_tests true true is_job is_other e rest = let no_way : ⊥ = grind (arith, nat_tests) in absurd no_way
+      by_tests true false is_job is_other e rest = ap (λ b. b || runs (filter (λ c. not (c.job == other)) ids) job) is_job
+      by_tests false true is_job is_other e rest = rest e
+      by_tests false false is_job is_other e rest = ap (λ b. a.job == job || b) (rest e) ∙ either_true (a.job == job)
+
+  cancel_keeps : (other : ℕ) (v : Turn) → RunsOrCancelled v → RunsOrCancelled (happen (Cancel other) v)
+  cancel_keeps other v holds = by_test (has v.pending other || runs v.running other)
+    where
+      left : RunsOrCancelled (record {
+        drained = v.drained;
+        pending = without other v.pending;
+        running = filter (λ a. not (a.job == other)) v.running;
+        cancelled = v.cancelled ++ other ∷ [];
+      })
+      left = ⊎_elim (λ runs_on. by_job (other == job) refl runs_on) (λ at. inr (Contains-append_left v.cancelled (other ∷ []) job at)) holds
+        where
+          by_job : (b : Bool) → (other == job) ≡ b → runs v.running job ≡ true →
+              (runs (filter (λ a. not (a.job == other)) v.running) job ≡ true) ⊎ Contains (v.cancelled ++ other ∷ []) job
+          by_job true same runs_on =
+              let at : other ≡ job = grind (arith, nat_tests) in
+              inr (subst (λ n. Contains (v.cancelled ++ n ∷ []) job) (sym at) (Contains-push v.cancelled job))
+          by_job false differ runs_on = inl (runs_without other differ v.running runs_on)
+
+      by_test : (b : Bool) → RunsOrCancelled (cond b (record {
+        drained = v.drained;
+        pending = without other v.pending;
+        running = filter (λ a. not (a.job == other)) v.running;
+        cancelled = v.cancelled ++ other ∷ [];
+      }) v)
+      by_test true = left
+      by_test false = holds
+
+  happen_keeps : (what : Happening) (v : Turn) → RunsOrCancelled v → RunsOrCancelled (happen what v)
+  happen_keeps (Arrive other) v holds = holds
+  happen_keeps (Cancel other) v holds = cancel_keeps other v holds
+  happen_keeps (Drain node) v holds = holds
+  happen_keeps (Undrain node) v holds = holds
+
+  happen_all_keeps : (es : List Event) (v : Turn) → RunsOrCancelled v → RunsOrCancelled (happen_all es v)
+  happen_all_keeps [] v holds = holds
+  happen_all_keeps (e ∷ es) v holds = happen_all_keeps es (happen e.what v) (happen_keeps e.what v holds)
+
+same_run : (now : ℕ) (p : Piece) → IsSameRun p (prolonged now p)
+same_run now p = by_test (is_over now p)
+  where
+    by_test : (b : Bool) → IsSameRun p (cond b (record { job = p.job; leaf = p.leaf; nodes = p.nodes; started = p.started; expected = now + 1; real = p.real }) p)
+    by_test true = record { job = refl; leaf = refl; nodes = refl; started = refl; real = refl }
+    by_test false = record { job = refl; leaf = refl; nodes = refl; started = refl; real = refl }
+
+pub runs_on_unless_told : (t : Scenario) (s : Snapshot) (p : Piece) → Contains s.pieces p → RunsOnUnlessTold t s p
+runs_on_unless_told t s p at = by_end (has_ended s.now p) refl
+  where
+    negated : (b : Bool) → b ≡ false → not b ≡ true
+    negated true e = absurd cc
+    negated false e = refl
+
+    by_job : Contains (running_on s) p → (b : Bool) → runs (turn t s).running p.job ≡ b → RunsOnUnlessTold t s p
+    by_job on true runs_on =
+        inl
+        (prolonged s.now p, mapped (prolonged s.now) (staying t s) p (passing (λ (q : Piece). runs (turn t s).running q.job) (running_on s) p on runs_on), same_run s.now p)
+    by_job on false left =
+        inr (inr
+        (⊎_elim (λ runs_on. let e : true ≡ false = sym runs_on ∙ left in absurd cc) (λ cancelled. cancelled)
+        (happen_all_keeps p.job (events_at t s.now) (record { drained = s.drained; pending = s.pending; running = told (running_on s); cancelled = [] })
+        (inl (told_runs (running_on s) p on)))))
+
+    by_end : (b : Bool) → has_ended s.now p ≡ b → RunsOnUnlessTold t s p
+    by_end true ended = inr (inl (told_has (filter (has_ended s.now) s.pieces) p (passing (has_ended s.now) s.pieces p at ended)))
+    by_end false runs_on =
+        by_job (passing (λ q. not (has_ended s.now q)) s.pieces p at (negated (has_ended s.now p) runs_on)) (runs (turn t s).running p.job) refl

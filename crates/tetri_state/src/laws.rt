@@ -1,0 +1,50 @@
+// Laws of the states that a run reaches.
+ghost use Rattle.std.specs.Prelude.{◌≡◌, ℕ, Some, List, AllPairs, Contains};
+ghost use Rattle.tetri_space.specs.Free.{IsFree};
+ghost use Rattle.tetri_space.specs.Lawful.{IsLawful};
+ghost use Rattle.tetri_space.specs.Space.{Covers, leaf_in};
+ghost use Rattle.tetri_state.specs.After.{after};
+ghost use Rattle.tetri_state.specs.Pieces.{RunsOnUnlessTold, ShareNoNode};
+ghost use Rattle.tetri_state.specs.Planning.{instance_of};
+ghost use Rattle.tetri_state.specs.Reached as moment;
+ghost use Rattle.tetri_state.specs.Reached.{IsReached};
+ghost use Rattle.tetri_state.specs.Snapshot.{Snapshot};
+ghost use Rattle.tetri_state.specs.declared.pieces.Piece.{Piece};
+ghost use Rattle.tetri_strl.specs.declared.expr.Leaf.{Leaf};
+ghost use Rattle.tetri_strl.specs.declared.grants.Grant.{Grant};
+ghost use Rattle.tetri_trace.specs.Scenario.{scenario};
+ghost use Rattle.tetri_trace.specs.Sound.{IsSound};
+
+use tetri_trace::Trace;
+
+/// No two running pieces share a node.
+pub fn no_two_running_pieces_share_a_node(trace: &Trace)
+    requires { IsSound (scenario trace.now) }
+    ensures { (m : moment.Moment) (s : Snapshot) → IsReached (scenario trace.entry.now) m s → AllPairs ShareNoNode s.pieces }
+{
+    let _ = trace;
+}
+
+/// A piece that runs in one slot runs in the next slot on the same nodes, unless the beginning of that slot tells that it
+/// ended or that its job was cancelled.
+pub fn running_pieces_run_on_unless_told(trace: &Trace)
+    ensures stays { (s : Snapshot) (a : List Grant) (p : Piece) → Contains s.pieces p
+        → Contains (after (scenario trace.entry.now) s a).pieces p }
+    ensures runs_on { (s : Snapshot) (p : Piece) → Contains s.pieces p → RunsOnUnlessTold (scenario trace.entry.now) s p }
+{
+    let _ = trace;
+}
+
+/// The nodes of a running piece, one that ran over or not, are free to nobody in the slot, and no lawful grant uses one of
+/// them in that slot.
+pub fn nodes_of_running_pieces_are_taken(trace: &Trace)
+    requires { IsSound (scenario trace.now) }
+    ensures not_free { (s : Snapshot) (p : Piece) (n : ℕ) → IsReached (scenario trace.entry.now) moment.begun s
+        → Contains s.pieces p → Contains p.nodes n → IsFree (instance_of (scenario trace.entry.now) s) n s.now → ⊥ }
+    ensures not_granted { (s : Snapshot) (p : Piece) (n : ℕ) (a : List Grant) (g : Grant) (l : Leaf)
+        → IsReached (scenario trace.entry.now) moment.begun s → Contains s.pieces p → Contains p.nodes n
+        → IsLawful (instance_of (scenario trace.entry.now) s) a → Contains a g
+        → leaf_in (instance_of (scenario trace.entry.now) s).bids g.job g.leaf ≡ Some l → Covers l s.now → Contains g.nodes n → ⊥ }
+{
+    let _ = trace;
+}
