@@ -1,5 +1,5 @@
 -- What the values of a JSON object say.
-use Rattle.std.specs.Prelude.{ℕ, ◌&&◌, ℤ, pos, negsuc, List, [], ◌∷◌, ◌++◌, Bool, nat_le, int_le, is_some, if◌then◌else◌, Option, Some, None, option_map, option_and_then, ok_or, Result, Ok, Err, codes}
+use Rattle.std.specs.Prelude.{ℕ, ◌&&◌, ℤ, pos, negsuc, List, [], ◌∷◌, Bool, nat_le, int_le, is_some, if◌then◌else◌, Option, Some, None, option_map, option_and_then, ok_or, Result, Ok, Err, codes}
 use Rattle.std.specs.Str.{is_utf8}
 use Rattle.serde_json.specs.Data.{Data, Items, no_items, item}
 use Rattle.serde_json.specs.Read.{read}
@@ -73,10 +73,6 @@ abbrev pub names_in : Items → Option (List (List ℕ))
 names_in no_items = Some []
 names_in (item d ds) = option_and_then (λ name. option_map (λ names. name ∷ names) (names_in ds)) (name_in d)
 
--- names, and then those that were found
-abbrev pub after_names : List (List ℕ) → Option (List (List ℕ)) → Option (List (List ℕ))
-after_names front found = option_map (λ names. front ++ names) found
-
 -- the tags of a node, none where they are left out
 abbrev pub tags_of : Option Data → Option (List (List ℕ))
 tags_of None = Some []
@@ -91,7 +87,3 @@ node_in d =
 abbrev pub nodes_in : Items → Option (List NodeText)
 nodes_in no_items = Some []
 nodes_in (item d ds) = option_and_then (λ n. option_map (λ ns. n ∷ ns) (nodes_in ds)) (node_in d)
-
--- nodes, and then those that were found
-abbrev pub after_nodes : List NodeText → Option (List NodeText) → Option (List NodeText)
-after_nodes front found = option_map (λ ns. front ++ ns) found

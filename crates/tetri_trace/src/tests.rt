@@ -3,22 +3,27 @@ ghost use Rattle.std.specs.Prelude.{IfOk};
 ghost use Rattle.tetri_trace.specs.Scenario.{scenario};
 ghost use Rattle.tetri_trace.specs.Sound.{IsSound};
 
-use crate::{
-    Event, Field, Happening, Header, Trace, TraceFault, TraceWhy, Work, job_of, read_trace,
+use crate::Field::{
+    Arrive, At, Budget, Cancel, Drain, Late, Nodes, Strl, Undrain, Unit, Until, Window,
 };
+use crate::TraceWhy::{
+    BadField, BadStrl, LineTooLong, MissingField, NameTaken, NoHeader, NoSuchJob, NoSuchNode,
+    NotBuilt, NotJson, NotObject, OutOfOrder, PastEnd, UnknownEvent,
+};
+use crate::{Event, Happening, Header, Trace, TraceFault, TraceWhy, Work, job_of, read_trace};
 use std::alloc::{AllocError, Global};
 use std::test::Fail;
 use tetri_io::MemShelf;
-use tetri_parse::Fault;
+use tetri_parse::Fault::{Ended, Mixed, Uneven, UnknownSet};
 use tetri_strl::{Expr, Leaf};
 
 const HEADER: &str =
-    "{\"nodes\":[{\"name\":\"n1\",\"tags\":[\"gpu\"]},{\"name\":\"n2\",\"tags\":[\"r1\",\"gpu\"]},{\"name\":\"n3\",\"tags\":null}],\"window\":4,\"budget\":9,\"until\":3,\"unit\":10}";
+    r#"{"nodes":[{"name":"n1","tags":["gpu"]},{"name":"n2","tags":["r1","gpu"]},{"name":"n3","tags":null}],"window":4,"budget":9,"until":3,"unit":10}"#;
 
-const JOB: &str = "{\"at\":1,\"arrive\":\"j1\",\"strl\":\"nCk(*,2,1,3,5)\"}";
+const JOB: &str = r#"{"at":1,"arrive":"j1","strl":"nCk(*,2,1,3,5)"}"#;
 
 const SECOND_JOB: &str =
-    "{\"at\":1,\"arrive\":\"j2\",\"late\":-3,\"strl\":\"max(LnCk(gpu&r1,4,0,2,6),nCk({n3,n1},1,2,1,4))\"}";
+    r#"{"at":1,"arrive":"j2","late":-3,"strl":"max(LnCk(gpu&r1,4,0,2,6),nCk({n3,n1},1,2,1,4))"}"#;
 
 const LONGEST_NAME: &str = "0123456789-abcdefghijklmnopqrstuvwxyz:ABCDEFGHIJKLMNOPQRSTUVWXYZ";
 
@@ -67,13 +72,13 @@ fn answer_with(
 fn a_trace_is_read(rt: HostRuntime) -> Result<(), Fail> {
     let lines = [
         HEADER,
-        "{\"at\":0,\"drain\":\"n3\",\"late\":\"x\",\"strl\":0,\"ask\":null}",
+        r#"{"at":0,"drain":"n3","late":"x","strl":0,"ask":null}"#,
         JOB,
         " \t\r",
         SECOND_JOB,
-        "{\"at\":2,\"cancel\":\"j1\"}",
-        "{\"at\":2,\"undrain\":\"n3\"}",
-        "{\"at\":2,\"cancel\":\"j1\"}",
+        r#"{"at":2,"cancel":"j1"}"#,
+        r#"{"at":2,"undrain":"n3"}"#,
+        r#"{"at":2,"cancel":"j1"}"#,
     ];
     let trace = answer_to(rt.alloc(), &lines)??;
     let header = Header {
@@ -163,259 +168,180 @@ fn jobs_are_found_by_name(rt: HostRuntime) -> Result<(), Fail> {
     Ok(())
 }
 
+// Lines, and the first faulty one with the first fault there.
 const FAULTS: [(&[&str], u64, TraceWhy); 47] = [
-    (&[HEADER, JOB, "{\"at\":0"], 3, TraceWhy::NotJson),
-    (&[HEADER, "[{}"], 2, TraceWhy::NotJson),
-    (&[HEADER, "{\"at\":-1} {}"], 2, TraceWhy::NotJson),
-    (&[HEADER, "{\"at\":-1,\"x\":1e400}"], 2, TraceWhy::NotJson),
-    (&["[]"], 1, TraceWhy::NotObject),
-    (&[HEADER, "[\"at\"]"], 2, TraceWhy::NotObject),
-    (&[HEADER, "null"], 2, TraceWhy::NotObject),
-    (&["{\"window\":0}"], 1, TraceWhy::NoHeader),
-    (&["", JOB, HEADER], 2, TraceWhy::NoHeader),
-    (&["", " \t\r"], 3, TraceWhy::NoHeader),
+    (&[HEADER, JOB, r#"{"at":0"#], 3, NotJson),
+    (&[HEADER, "[{}"], 2, NotJson),
+    (&[HEADER, r#"{"at":-1} {}"#], 2, NotJson),
+    (&[HEADER, r#"{"at":-1,"x":1e400}"#], 2, NotJson),
+    (&["[]"], 1, NotObject),
+    (&[HEADER, r#"["at"]"#], 2, NotObject),
+    (&[HEADER, "null"], 2, NotObject),
+    (&[r#"{"window":0}"#], 1, NoHeader),
+    (&["", JOB, HEADER], 2, NoHeader),
+    (&["", " \t\r"], 3, NoHeader),
+    (&[r#"{"nodes":[],"budget":0}"#], 1, MissingField(Window)),
     (
-        &["{\"nodes\":[],\"budget\":0}"],
+        &[r#"{"nodes":[],"window":0,"until":1}"#],
         1,
-        TraceWhy::MissingField(Field::Window),
+        MissingField(Budget),
     ),
     (
-        &["{\"nodes\":[],\"window\":0,\"until\":1}"],
+        &[r#"{"nodes":[],"window":0,"budget":1}"#],
         1,
-        TraceWhy::MissingField(Field::Budget),
+        MissingField(Until),
     ),
     (
-        &["{\"nodes\":[],\"window\":0,\"budget\":1}"],
+        &[r#"{"nodes":[],"window":0,"budget":0,"until":0,"unit":0}"#],
         1,
-        TraceWhy::MissingField(Field::Until),
+        BadField(Nodes),
     ),
     (
-        &["{\"nodes\":[],\"window\":0,\"budget\":0,\"until\":0,\"unit\":0}"],
+        &[r#"{"nodes":[{"name":"n"},{"name":"n"}],"window":0,"budget":0,"until":0,"unit":0}"#],
         1,
-        TraceWhy::BadField(Field::Nodes),
+        BadField(Window),
     ),
     (
-        &[
-            "{\"nodes\":[{\"name\":\"n\"},{\"name\":\"n\"}],\"window\":0,\"budget\":0,\"until\":0,\"unit\":0}",
-        ],
+        &[r#"{"nodes":[{"name":"n"},{"name":"n"}],"window":1,"budget":0,"until":0,"unit":0}"#],
         1,
-        TraceWhy::BadField(Field::Window),
+        BadField(Budget),
     ),
     (
-        &[
-            "{\"nodes\":[{\"name\":\"n\"},{\"name\":\"n\"}],\"window\":1,\"budget\":0,\"until\":0,\"unit\":0}",
-        ],
+        &[r#"{"nodes":[{"name":"n"},{"name":"n"}],"window":1,"budget":1,"until":0,"unit":0}"#],
         1,
-        TraceWhy::BadField(Field::Budget),
+        BadField(Until),
     ),
     (
-        &[
-            "{\"nodes\":[{\"name\":\"n\"},{\"name\":\"n\"}],\"window\":1,\"budget\":1,\"until\":0,\"unit\":0}",
-        ],
+        &[r#"{"nodes":[{"name":"n"},{"name":"n"}],"window":1,"budget":1,"until":1,"unit":0}"#],
         1,
-        TraceWhy::BadField(Field::Until),
+        BadField(Unit),
     ),
     (
         &[
-            "{\"nodes\":[{\"name\":\"n\"},{\"name\":\"n\"}],\"window\":1,\"budget\":1,\"until\":1,\"unit\":0}",
-        ],
-        1,
-        TraceWhy::BadField(Field::Unit),
-    ),
-    (
-        &[
-            "{\"nodes\":[{\"name\":\"n\"},{\"name\":\"n\"}],\"window\":1,\"budget\":1,\"until\":1,\"unit\":1}",
+            r#"{"nodes":[{"name":"n"},{"name":"n"}],"window":1,"budget":1,"until":1,"unit":1}"#,
             JOB,
             JOB,
         ],
         1,
-        TraceWhy::NameTaken,
+        NameTaken,
     ),
+    (&[HEADER, r#"{"arrive":"j 1"}"#], 2, MissingField(At)),
     (
-        &[HEADER, "{\"arrive\":\"j 1\"}"],
+        &[HEADER, r#"{"at":-1,"arrive":"j1","cancel":"j1"}"#],
         2,
-        TraceWhy::MissingField(Field::At),
+        BadField(At),
     ),
+    (&[HEADER, r#"{"at":3}"#], 2, UnknownEvent),
     (
-        &[HEADER, "{\"at\":-1,\"arrive\":\"j1\",\"cancel\":\"j1\"}"],
+        &[HEADER, r#"{"at":3,"arrive":"j 1","cancel":"j1"}"#],
         2,
-        TraceWhy::BadField(Field::At),
+        UnknownEvent,
     ),
-    (&[HEADER, "{\"at\":3}"], 2, TraceWhy::UnknownEvent),
     (
-        &[HEADER, "{\"at\":3,\"arrive\":\"j 1\",\"cancel\":\"j1\"}"],
+        &[HEADER, r#"{"at":3,"drain":"n9","undrain":"n9"}"#],
         2,
-        TraceWhy::UnknownEvent,
+        UnknownEvent,
     ),
     (
-        &[HEADER, "{\"at\":3,\"drain\":\"n9\",\"undrain\":\"n9\"}"],
+        &[HEADER, r#"{"at":3,"arrive":"j 1","ask":{},"late":"0"}"#],
         2,
-        TraceWhy::UnknownEvent,
+        NotBuilt,
     ),
     (
-        &[
-            HEADER,
-            "{\"at\":3,\"arrive\":\"j 1\",\"ask\":{},\"late\":\"0\"}",
-        ],
+        &[HEADER, r#"{"at":3,"arrive":"j 1","late":"0"}"#],
         2,
-        TraceWhy::NotBuilt,
+        MissingField(Strl),
     ),
     (
-        &[HEADER, "{\"at\":3,\"arrive\":\"j 1\",\"late\":\"0\"}"],
+        &[HEADER, r#"{"at":3,"arrive":"j 1","late":"0","strl":1}"#],
         2,
-        TraceWhy::MissingField(Field::Strl),
+        BadField(Arrive),
     ),
+    (&[HEADER, r#"{"at":3,"cancel":"j 1"}"#], 2, BadField(Cancel)),
+    (&[HEADER, r#"{"at":3,"drain":"n 1"}"#], 2, BadField(Drain)),
     (
-        &[
-            HEADER,
-            "{\"at\":3,\"arrive\":\"j 1\",\"late\":\"0\",\"strl\":1}",
-        ],
+        &[HEADER, r#"{"at":3,"undrain":"n 1"}"#],
         2,
-        TraceWhy::BadField(Field::Arrive),
+        BadField(Undrain),
     ),
     (
-        &[HEADER, "{\"at\":3,\"cancel\":\"j 1\"}"],
+        &[HEADER, r#"{"at":3,"arrive":"j1","late":"0","strl":1}"#],
         2,
-        TraceWhy::BadField(Field::Cancel),
+        BadField(Late),
     ),
     (
-        &[HEADER, "{\"at\":3,\"drain\":\"n 1\"}"],
+        &[HEADER, r#"{"at":3,"arrive":"j1","strl":1}"#],
         2,
-        TraceWhy::BadField(Field::Drain),
+        BadField(Strl),
     ),
     (
-        &[HEADER, "{\"at\":3,\"undrain\":\"n 1\"}"],
+        &[HEADER, r#"{"at":3,"arrive":"j1","strl":"nCk(","ask":{}}"#],
         2,
-        TraceWhy::BadField(Field::Undrain),
+        BadField(Strl),
     ),
     (
-        &[
-            HEADER,
-            "{\"at\":3,\"arrive\":\"j1\",\"late\":\"0\",\"strl\":1}",
-        ],
-        2,
-        TraceWhy::BadField(Field::Late),
-    ),
-    (
-        &[HEADER, "{\"at\":3,\"arrive\":\"j1\",\"strl\":1}"],
-        2,
-        TraceWhy::BadField(Field::Strl),
-    ),
-    (
-        &[
-            HEADER,
-            "{\"at\":3,\"arrive\":\"j1\",\"strl\":\"nCk(\",\"ask\":{}}",
-        ],
-        2,
-        TraceWhy::BadField(Field::Strl),
-    ),
-    (
-        &[
-            HEADER,
-            JOB,
-            "{\"at\":0,\"arrive\":\"j1\",\"strl\":\"nCk(\"}",
-        ],
+        &[HEADER, JOB, r#"{"at":0,"arrive":"j1","strl":"nCk("}"#],
         3,
-        TraceWhy::OutOfOrder,
+        OutOfOrder,
     ),
+    (&[HEADER, JOB, r#"{"at":0,"cancel":"j9"}"#], 3, OutOfOrder),
     (
-        &[HEADER, JOB, "{\"at\":0,\"cancel\":\"j9\"}"],
+        &[HEADER, JOB, r#"{"at":3,"arrive":"j1","strl":"nCk("}"#],
         3,
-        TraceWhy::OutOfOrder,
+        PastEnd,
     ),
+    (&[HEADER, r#"{"at":3,"drain":"n9"}"#], 2, PastEnd),
     (
-        &[
-            HEADER,
-            JOB,
-            "{\"at\":3,\"arrive\":\"j1\",\"strl\":\"nCk(\"}",
-        ],
-        3,
-        TraceWhy::PastEnd,
-    ),
-    (
-        &[HEADER, "{\"at\":3,\"drain\":\"n9\"}"],
-        2,
-        TraceWhy::PastEnd,
-    ),
-    (
-        &[
-            HEADER,
-            JOB,
-            "",
-            "{\"at\":1,\"arrive\":\"j1\",\"strl\":\"nCk(\"}",
-        ],
+        &[HEADER, JOB, "", r#"{"at":1,"arrive":"j1","strl":"nCk("}"#],
         4,
-        TraceWhy::NameTaken,
+        NameTaken,
     ),
+    (&[HEADER, r#"{"at":0,"cancel":"j9"}"#], 2, NoSuchJob),
+    (&[HEADER, r#"{"at":1,"cancel":"j1"}"#, JOB], 2, NoSuchJob),
+    (&[HEADER, JOB, r#"{"at":1,"cancel":"n1"}"#], 3, NoSuchJob),
+    (&[HEADER, JOB, r#"{"at":1,"drain":"j1"}"#], 3, NoSuchNode),
+    (&[HEADER, r#"{"at":0,"undrain":"n4"}"#], 2, NoSuchNode),
     (
-        &[HEADER, "{\"at\":0,\"cancel\":\"j9\"}"],
+        &[HEADER, r#"{"at":0,"arrive":"j1","strl":"nCk(*,1,0,1,1"}"#],
         2,
-        TraceWhy::NoSuchJob,
-    ),
-    (
-        &[HEADER, "{\"at\":1,\"cancel\":\"j1\"}", JOB],
-        2,
-        TraceWhy::NoSuchJob,
-    ),
-    (
-        &[HEADER, JOB, "{\"at\":1,\"cancel\":\"n1\"}"],
-        3,
-        TraceWhy::NoSuchJob,
-    ),
-    (
-        &[HEADER, JOB, "{\"at\":1,\"drain\":\"j1\"}"],
-        3,
-        TraceWhy::NoSuchNode,
-    ),
-    (
-        &[HEADER, "{\"at\":0,\"undrain\":\"n4\"}"],
-        2,
-        TraceWhy::NoSuchNode,
-    ),
-    (
-        &[
-            HEADER,
-            "{\"at\":0,\"arrive\":\"j1\",\"strl\":\"nCk(*,1,0,1,1\"}",
-        ],
-        2,
-        TraceWhy::BadStrl {
+        BadStrl {
             offset: 13,
-            fault: Fault::Ended,
+            fault: Ended,
         },
     ),
     (
         &[
             HEADER,
             JOB,
-            "{\"at\":1,\"arrive\":\"j2\",\"strl\":\"nCk(cpu,1,0,1,1)\"}",
+            r#"{"at":1,"arrive":"j2","strl":"nCk(cpu,1,0,1,1)"}"#,
             "{",
         ],
         3,
-        TraceWhy::BadStrl {
+        BadStrl {
             offset: 4,
-            fault: Fault::UnknownSet,
+            fault: UnknownSet,
         },
     ),
     (
         &[
             HEADER,
-            "{\"at\":0,\"arrive\":\"j1\",\"strl\":\"min(nCk(*,1,0,1,1), nCk(*,1,1,1,1))\"}",
+            r#"{"at":0,"arrive":"j1","strl":"min(nCk(*,1,0,1,1), nCk(*,1,1,1,1))"}"#,
         ],
         2,
-        TraceWhy::BadStrl {
+        BadStrl {
             offset: 20,
-            fault: Fault::Mixed,
+            fault: Mixed,
         },
     ),
     (
         &[
-            "{\"nodes\":[{\"name\":\"n1\"}],\"window\":4,\"budget\":9,\"until\":1}",
-            "{\"at\":0,\"arrive\":\"j1\",\"strl\":\"LnCk(*,4,0,1,6)\"}",
+            r#"{"nodes":[{"name":"n1"}],"window":4,"budget":9,"until":1}"#,
+            r#"{"at":0,"arrive":"j1","strl":"LnCk(*,4,0,1,6)"}"#,
         ],
         2,
-        TraceWhy::BadStrl {
+        BadStrl {
             offset: 13,
-            fault: Fault::Uneven,
+            fault: Uneven,
         },
     ),
 ];
@@ -432,223 +358,104 @@ fn the_first_fault_is_told(rt: HostRuntime) -> Result<(), Fail> {
     Ok(())
 }
 
+// A text of the header, what stands in its place, and what is told.
 const HEADERS: [(&str, &str, Option<TraceWhy>); 60] = [
-    ("\"nodes\"", "\"node\"", Some(TraceWhy::NoHeader)),
+    (r#""nodes""#, r#""node""#, Some(NoHeader)),
     (
-        "\"nodes\":[",
-        "\"nodes\":null,\"node\":[",
-        Some(TraceWhy::BadField(Field::Nodes)),
+        r#""nodes":["#,
+        r#""nodes":null,"node":["#,
+        Some(BadField(Nodes)),
     ),
     (
-        "\"nodes\":[",
-        "\"nodes\":{},\"node\":[",
-        Some(TraceWhy::BadField(Field::Nodes)),
+        r#""nodes":["#,
+        r#""nodes":{},"node":["#,
+        Some(BadField(Nodes)),
     ),
     (
-        "\"nodes\":[",
-        "\"nodes\":\"n1\",\"node\":[",
-        Some(TraceWhy::BadField(Field::Nodes)),
+        r#""nodes":["#,
+        r#""nodes":"n1","node":["#,
+        Some(BadField(Nodes)),
     ),
     (
-        "\"nodes\":[",
-        "\"nodes\":[],\"node\":[",
-        Some(TraceWhy::BadField(Field::Nodes)),
+        r#""nodes":["#,
+        r#""nodes":[],"node":["#,
+        Some(BadField(Nodes)),
     ),
+    (r#""nodes":["#, r#""nodes":[null,"#, Some(BadField(Nodes))),
+    (r#""nodes":["#, r#""nodes":["n4","#, Some(BadField(Nodes))),
     (
-        "\"nodes\":[",
-        "\"nodes\":[null,",
-        Some(TraceWhy::BadField(Field::Nodes)),
+        r#""nodes":["#,
+        r#""nodes":[{"tags":[]},"#,
+        Some(BadField(Nodes)),
     ),
-    (
-        "\"nodes\":[",
-        "\"nodes\":[\"n4\",",
-        Some(TraceWhy::BadField(Field::Nodes)),
-    ),
-    (
-        "\"nodes\":[",
-        "\"nodes\":[{\"tags\":[]},",
-        Some(TraceWhy::BadField(Field::Nodes)),
-    ),
-    (
-        "\"name\":\"n2\"",
-        "\"name\":null",
-        Some(TraceWhy::BadField(Field::Nodes)),
-    ),
-    (
-        "\"name\":\"n2\"",
-        "\"name\":2",
-        Some(TraceWhy::BadField(Field::Nodes)),
-    ),
-    ("n2", "", Some(TraceWhy::BadField(Field::Nodes))),
-    ("n2", "n 2", Some(TraceWhy::BadField(Field::Nodes))),
-    (
-        "n2",
-        TOO_LONG_A_NAME,
-        Some(TraceWhy::BadField(Field::Nodes)),
-    ),
+    (r#""name":"n2""#, r#""name":null"#, Some(BadField(Nodes))),
+    (r#""name":"n2""#, r#""name":2"#, Some(BadField(Nodes))),
+    ("n2", "", Some(BadField(Nodes))),
+    ("n2", "n 2", Some(BadField(Nodes))),
+    ("n2", TOO_LONG_A_NAME, Some(BadField(Nodes))),
     ("n2", LONGEST_NAME, None),
-    ("n2", "n1", Some(TraceWhy::NameTaken)),
-    ("[\"gpu\"]", "null", None),
-    ("[\"gpu\"]", "[]", None),
-    ("[\"gpu\"]", "[\"gpu\",\"gpu\",\"n1\"]", None),
+    ("n2", "n1", Some(NameTaken)),
+    (r#"["gpu"]"#, "null", None),
+    (r#"["gpu"]"#, "[]", None),
+    (r#"["gpu"]"#, r#"["gpu","gpu","n1"]"#, None),
+    (r#"["gpu"]"#, r#""gpu""#, Some(BadField(Nodes))),
+    (r#"["gpu"]"#, "{}", Some(BadField(Nodes))),
+    (r#"["gpu"]"#, r#"["gpu",1]"#, Some(BadField(Nodes))),
+    (r#"["gpu"]"#, r#"["gpu",null]"#, Some(BadField(Nodes))),
+    (r#"["gpu"]"#, r#"[""]"#, Some(BadField(Nodes))),
+    (r#"["gpu"]"#, r#"["g&u"]"#, Some(BadField(Nodes))),
     (
-        "[\"gpu\"]",
-        "\"gpu\"",
-        Some(TraceWhy::BadField(Field::Nodes)),
+        r#""window":4"#,
+        r#""windows":4"#,
+        Some(MissingField(Window)),
     ),
-    ("[\"gpu\"]", "{}", Some(TraceWhy::BadField(Field::Nodes))),
+    (r#""window":4"#, r#""window":null"#, Some(BadField(Window))),
+    (r#""window":4"#, r#""window":"4""#, Some(BadField(Window))),
+    (r#""window":4"#, r#""window":0"#, Some(BadField(Window))),
+    (r#""window":4"#, r#""window":65"#, Some(BadField(Window))),
+    (r#""window":4"#, r#""window":1"#, None),
+    (r#""window":4"#, r#""window":64"#, None),
     (
-        "[\"gpu\"]",
-        "[\"gpu\",1]",
-        Some(TraceWhy::BadField(Field::Nodes)),
+        r#""budget":9"#,
+        r#""budgets":9"#,
+        Some(MissingField(Budget)),
     ),
+    (r#""budget":9"#, r#""budget":null"#, Some(BadField(Budget))),
+    (r#""budget":9"#, r#""budget":"9""#, Some(BadField(Budget))),
+    (r#""budget":9"#, r#""budget":0"#, Some(BadField(Budget))),
+    (r#""budget":9"#, r#""budget":10001"#, Some(BadField(Budget))),
+    (r#""budget":9"#, r#""budget":1"#, None),
+    (r#""budget":9"#, r#""budget":10000"#, None),
+    (r#""until":3"#, r#""untils":3"#, Some(MissingField(Until))),
+    (r#""until":3"#, r#""until":null"#, Some(BadField(Until))),
+    (r#""until":3"#, r#""until":"3""#, Some(BadField(Until))),
+    (r#""until":3"#, r#""until":0"#, Some(BadField(Until))),
+    (r#""until":3"#, r#""until":10001"#, Some(BadField(Until))),
+    (r#""until":3"#, r#""until":2"#, None),
+    (r#""until":3"#, r#""until":10000"#, None),
+    (r#""window":4"#, r#""window":4.0"#, Some(BadField(Window))),
+    (r#""window":4"#, r#""window":true"#, Some(BadField(Window))),
+    (r#""budget":9"#, r#""budget":1e1"#, Some(BadField(Budget))),
     (
-        "[\"gpu\"]",
-        "[\"gpu\",null]",
-        Some(TraceWhy::BadField(Field::Nodes)),
+        r#""until":3"#,
+        r#""until":18446744073709551617"#,
+        Some(BadField(Until)),
     ),
+    (r#""unit":10"#, r#""units":0"#, None),
+    (r#""unit":10"#, r#""unit":null"#, None),
+    (r#""unit":10"#, r#""unit":1"#, None),
+    (r#""unit":10"#, r#""unit":1000000"#, None),
+    (r#""unit":10"#, r#""unit":0"#, Some(BadField(Unit))),
+    (r#""unit":10"#, r#""unit":-1"#, Some(BadField(Unit))),
+    (r#""unit":10"#, r#""unit":1000001"#, Some(BadField(Unit))),
+    (r#""unit":10"#, r#""unit":"10""#, Some(BadField(Unit))),
+    (r#""window":4"#, r#""window":0,"window":4"#, None),
     (
-        "[\"gpu\"]",
-        "[\"\"]",
-        Some(TraceWhy::BadField(Field::Nodes)),
+        r#""window":4"#,
+        r#""window":4,"window":0"#,
+        Some(BadField(Window)),
     ),
-    (
-        "[\"gpu\"]",
-        "[\"g&u\"]",
-        Some(TraceWhy::BadField(Field::Nodes)),
-    ),
-    (
-        "\"window\":4",
-        "\"windows\":4",
-        Some(TraceWhy::MissingField(Field::Window)),
-    ),
-    (
-        "\"window\":4",
-        "\"window\":null",
-        Some(TraceWhy::BadField(Field::Window)),
-    ),
-    (
-        "\"window\":4",
-        "\"window\":\"4\"",
-        Some(TraceWhy::BadField(Field::Window)),
-    ),
-    (
-        "\"window\":4",
-        "\"window\":0",
-        Some(TraceWhy::BadField(Field::Window)),
-    ),
-    (
-        "\"window\":4",
-        "\"window\":65",
-        Some(TraceWhy::BadField(Field::Window)),
-    ),
-    ("\"window\":4", "\"window\":1", None),
-    ("\"window\":4", "\"window\":64", None),
-    (
-        "\"budget\":9",
-        "\"budgets\":9",
-        Some(TraceWhy::MissingField(Field::Budget)),
-    ),
-    (
-        "\"budget\":9",
-        "\"budget\":null",
-        Some(TraceWhy::BadField(Field::Budget)),
-    ),
-    (
-        "\"budget\":9",
-        "\"budget\":\"9\"",
-        Some(TraceWhy::BadField(Field::Budget)),
-    ),
-    (
-        "\"budget\":9",
-        "\"budget\":0",
-        Some(TraceWhy::BadField(Field::Budget)),
-    ),
-    (
-        "\"budget\":9",
-        "\"budget\":10001",
-        Some(TraceWhy::BadField(Field::Budget)),
-    ),
-    ("\"budget\":9", "\"budget\":1", None),
-    ("\"budget\":9", "\"budget\":10000", None),
-    (
-        "\"until\":3",
-        "\"untils\":3",
-        Some(TraceWhy::MissingField(Field::Until)),
-    ),
-    (
-        "\"until\":3",
-        "\"until\":null",
-        Some(TraceWhy::BadField(Field::Until)),
-    ),
-    (
-        "\"until\":3",
-        "\"until\":\"3\"",
-        Some(TraceWhy::BadField(Field::Until)),
-    ),
-    (
-        "\"until\":3",
-        "\"until\":0",
-        Some(TraceWhy::BadField(Field::Until)),
-    ),
-    (
-        "\"until\":3",
-        "\"until\":10001",
-        Some(TraceWhy::BadField(Field::Until)),
-    ),
-    ("\"until\":3", "\"until\":2", None),
-    ("\"until\":3", "\"until\":10000", None),
-    (
-        "\"window\":4",
-        "\"window\":4.0",
-        Some(TraceWhy::BadField(Field::Window)),
-    ),
-    (
-        "\"window\":4",
-        "\"window\":true",
-        Some(TraceWhy::BadField(Field::Window)),
-    ),
-    (
-        "\"budget\":9",
-        "\"budget\":1e1",
-        Some(TraceWhy::BadField(Field::Budget)),
-    ),
-    (
-        "\"until\":3",
-        "\"until\":18446744073709551617",
-        Some(TraceWhy::BadField(Field::Until)),
-    ),
-    ("\"unit\":10", "\"units\":0", None),
-    ("\"unit\":10", "\"unit\":null", None),
-    ("\"unit\":10", "\"unit\":1", None),
-    ("\"unit\":10", "\"unit\":1000000", None),
-    (
-        "\"unit\":10",
-        "\"unit\":0",
-        Some(TraceWhy::BadField(Field::Unit)),
-    ),
-    (
-        "\"unit\":10",
-        "\"unit\":-1",
-        Some(TraceWhy::BadField(Field::Unit)),
-    ),
-    (
-        "\"unit\":10",
-        "\"unit\":1000001",
-        Some(TraceWhy::BadField(Field::Unit)),
-    ),
-    (
-        "\"unit\":10",
-        "\"unit\":\"10\"",
-        Some(TraceWhy::BadField(Field::Unit)),
-    ),
-    ("\"window\":4", "\"window\":0,\"window\":4", None),
-    (
-        "\"window\":4",
-        "\"window\":4,\"window\":0",
-        Some(TraceWhy::BadField(Field::Window)),
-    ),
-    ("\"until\":3", "\"until\":3,\"at\":-1,\"arrive\":null", None),
+    (r#""until":3"#, r#""until":3,"at":-1,"arrive":null"#, None),
 ];
 
 #[test]
@@ -661,132 +468,81 @@ fn headers_are_judged(rt: HostRuntime) -> Result<(), Fail> {
     Ok(())
 }
 
+// A text of the job, what stands in its place, and what is told.
 const EVENTS: [(&str, &str, Option<TraceWhy>); 42] = [
-    ("\"at\":1,", "", Some(TraceWhy::MissingField(Field::At))),
+    (r#""at":1,"#, "", Some(MissingField(At))),
+    (r#""at":1"#, r#""at":null"#, Some(BadField(At))),
+    (r#""at":1"#, r#""at":"1""#, Some(BadField(At))),
+    (r#""at":1"#, r#""at":1.0"#, Some(BadField(At))),
+    (r#""at":1"#, r#""at":-1"#, Some(BadField(At))),
     (
-        "\"at\":1",
-        "\"at\":null",
-        Some(TraceWhy::BadField(Field::At)),
+        r#""at":1"#,
+        r#""at":9223372036854775808"#,
+        Some(BadField(At)),
+    ),
+    (r#""at":1"#, r#""at":9223372036854775807"#, Some(PastEnd)),
+    (r#""at":1"#, r#""at":3"#, Some(PastEnd)),
+    (r#""at":1"#, r#""at":2"#, None),
+    (r#""at":1"#, r#""at":0"#, None),
+    (r#""at":1"#, r#""at":null,"at":1"#, None),
+    (r#""arrive":"j1","#, "", Some(UnknownEvent)),
+    (
+        r#""arrive""#,
+        r#""cancel":null,"arrive""#,
+        Some(UnknownEvent),
     ),
     (
-        "\"at\":1",
-        "\"at\":\"1\"",
-        Some(TraceWhy::BadField(Field::At)),
+        r#""arrive""#,
+        r#""drain":null,"arrive""#,
+        Some(UnknownEvent),
     ),
     (
-        "\"at\":1",
-        "\"at\":1.0",
-        Some(TraceWhy::BadField(Field::At)),
+        r#""arrive""#,
+        r#""undrain":null,"arrive""#,
+        Some(UnknownEvent),
     ),
-    ("\"at\":1", "\"at\":-1", Some(TraceWhy::BadField(Field::At))),
-    (
-        "\"at\":1",
-        "\"at\":9223372036854775808",
-        Some(TraceWhy::BadField(Field::At)),
-    ),
-    (
-        "\"at\":1",
-        "\"at\":9223372036854775807",
-        Some(TraceWhy::PastEnd),
-    ),
-    ("\"at\":1", "\"at\":3", Some(TraceWhy::PastEnd)),
-    ("\"at\":1", "\"at\":2", None),
-    ("\"at\":1", "\"at\":0", None),
-    ("\"at\":1", "\"at\":null,\"at\":1", None),
-    ("\"arrive\":\"j1\",", "", Some(TraceWhy::UnknownEvent)),
-    (
-        "\"arrive\"",
-        "\"cancel\":null,\"arrive\"",
-        Some(TraceWhy::UnknownEvent),
-    ),
-    (
-        "\"arrive\"",
-        "\"drain\":null,\"arrive\"",
-        Some(TraceWhy::UnknownEvent),
-    ),
-    (
-        "\"arrive\"",
-        "\"undrain\":null,\"arrive\"",
-        Some(TraceWhy::UnknownEvent),
-    ),
-    ("\"j1\"", "null", Some(TraceWhy::BadField(Field::Arrive))),
-    ("\"j1\"", "1", Some(TraceWhy::BadField(Field::Arrive))),
-    ("j1", "", Some(TraceWhy::BadField(Field::Arrive))),
-    ("j1", "j 1", Some(TraceWhy::BadField(Field::Arrive))),
-    (
-        "j1",
-        TOO_LONG_A_NAME,
-        Some(TraceWhy::BadField(Field::Arrive)),
-    ),
+    (r#""j1""#, "null", Some(BadField(Arrive))),
+    (r#""j1""#, "1", Some(BadField(Arrive))),
+    ("j1", "", Some(BadField(Arrive))),
+    ("j1", "j 1", Some(BadField(Arrive))),
+    ("j1", TOO_LONG_A_NAME, Some(BadField(Arrive))),
     ("j1", LONGEST_NAME, None),
     ("j1", "n1", None),
     (
-        "\"arrive\":\"j1\"",
-        "\"cancel\":null",
-        Some(TraceWhy::BadField(Field::Cancel)),
+        r#""arrive":"j1""#,
+        r#""cancel":null"#,
+        Some(BadField(Cancel)),
     ),
+    (r#""arrive":"j1""#, r#""drain":null"#, Some(BadField(Drain))),
     (
-        "\"arrive\":\"j1\"",
-        "\"drain\":null",
-        Some(TraceWhy::BadField(Field::Drain)),
+        r#""arrive":"j1""#,
+        r#""undrain":null"#,
+        Some(BadField(Undrain)),
     ),
+    (r#""arrive":"j1""#, r#""drain":"n3""#, None),
+    (r#""arrive":"j1""#, r#""undrain":"n3""#, None),
+    (r#""at""#, r#""late":null,"at""#, None),
+    (r#""at""#, r#""late":10000,"at""#, None),
+    (r#""at""#, r#""late":-10000,"at""#, None),
+    (r#""at""#, r#""late":10001,"at""#, Some(BadField(Late))),
+    (r#""at""#, r#""late":-10001,"at""#, Some(BadField(Late))),
+    (r#""at""#, r#""late":0.0,"at""#, Some(BadField(Late))),
+    (r#""at""#, r#""late":"0","at""#, Some(BadField(Late))),
+    (r#""at""#, r#""late":"0","late":null,"at""#, None),
+    (r#""strl""#, r#""STRL""#, Some(MissingField(Strl))),
+    (r#""nCk(*,2,1,3,5)""#, "null", Some(BadField(Strl))),
     (
-        "\"arrive\":\"j1\"",
-        "\"undrain\":null",
-        Some(TraceWhy::BadField(Field::Undrain)),
+        r#""nCk(*,2,1,3,5)""#,
+        r#"["nCk(*,2,1,3,5)"]"#,
+        Some(BadField(Strl)),
     ),
-    ("\"arrive\":\"j1\"", "\"drain\":\"n3\"", None),
-    ("\"arrive\":\"j1\"", "\"undrain\":\"n3\"", None),
-    ("\"at\"", "\"late\":null,\"at\"", None),
-    ("\"at\"", "\"late\":10000,\"at\"", None),
-    ("\"at\"", "\"late\":-10000,\"at\"", None),
+    (r#""at""#, r#""ask":null,"at""#, Some(BadField(Strl))),
     (
-        "\"at\"",
-        "\"late\":10001,\"at\"",
-        Some(TraceWhy::BadField(Field::Late)),
+        r#""strl":"nCk(*,2,1,3,5)""#,
+        r#""ask":null"#,
+        Some(NotBuilt),
     ),
-    (
-        "\"at\"",
-        "\"late\":-10001,\"at\"",
-        Some(TraceWhy::BadField(Field::Late)),
-    ),
-    (
-        "\"at\"",
-        "\"late\":0.0,\"at\"",
-        Some(TraceWhy::BadField(Field::Late)),
-    ),
-    (
-        "\"at\"",
-        "\"late\":\"0\",\"at\"",
-        Some(TraceWhy::BadField(Field::Late)),
-    ),
-    ("\"at\"", "\"late\":\"0\",\"late\":null,\"at\"", None),
-    (
-        "\"strl\"",
-        "\"STRL\"",
-        Some(TraceWhy::MissingField(Field::Strl)),
-    ),
-    (
-        "\"nCk(*,2,1,3,5)\"",
-        "null",
-        Some(TraceWhy::BadField(Field::Strl)),
-    ),
-    (
-        "\"nCk(*,2,1,3,5)\"",
-        "[\"nCk(*,2,1,3,5)\"]",
-        Some(TraceWhy::BadField(Field::Strl)),
-    ),
-    (
-        "\"at\"",
-        "\"ask\":null,\"at\"",
-        Some(TraceWhy::BadField(Field::Strl)),
-    ),
-    (
-        "\"strl\":\"nCk(*,2,1,3,5)\"",
-        "\"ask\":null",
-        Some(TraceWhy::NotBuilt),
-    ),
-    ("\"at\"", "\"more\":[{\"at\":null}],\"at\"", None),
+    (r#""at""#, r#""more":[{"at":null}],"at""#, None),
     (
         "nCk(*,2,1,3,5)",
         " nCk\\t(\\n* ,02, 000,3,\\r0000000000000000000000005 ) ",
@@ -804,7 +560,7 @@ fn events_are_judged(rt: HostRuntime) -> Result<(), Fail> {
     Ok(())
 }
 
-// The header with so many blanks behind it that the line has this length.
+// A line with so many blanks behind it that it has this length.
 fn blanks_to(alloc: Global, line: &str, len: usize) -> Result<String, AllocError> {
     let mut text = String::from_str(alloc, line)?;
     for _ in line.len()..len {
@@ -823,7 +579,7 @@ fn long_lines_are_refused(rt: HostRuntime) -> Result<(), Fail> {
     let too_long = |line| {
         Some(TraceFault::Bad {
             line,
-            why: TraceWhy::LineTooLong,
+            why: LineTooLong,
         })
     };
     assert_eq!(rt; answer(alloc, longest.as_bytes())?.err(), None);
@@ -857,13 +613,13 @@ fn bytes_are_judged(rt: HostRuntime) -> Result<(), Fail> {
     let alloc = rt.alloc();
     let (deep, deeper) = (nested(alloc, 127)?, nested(alloc, 128)?);
     let table: [(&[u8], u64, TraceWhy); 7] = [
-        (b"", 1, TraceWhy::NoHeader),
-        (b"\n\n \n", 4, TraceWhy::NoHeader),
-        (b" \t", 2, TraceWhy::NoHeader),
-        (b"\xff", 1, TraceWhy::NotJson),
-        (b"\x0c", 1, TraceWhy::NotJson),
-        (deep.as_bytes(), 1, TraceWhy::NotObject),
-        (deeper.as_bytes(), 1, TraceWhy::NotJson),
+        (b"", 1, NoHeader),
+        (b"\n\n \n", 4, NoHeader),
+        (b" \t", 2, NoHeader),
+        (b"\xff", 1, NotJson),
+        (b"\x0c", 1, NotJson),
+        (deep.as_bytes(), 1, NotObject),
+        (deeper.as_bytes(), 1, NotJson),
     ];
     for (content, line, why) in table {
         assert_eq!(rt;
@@ -882,11 +638,11 @@ fn bytes_are_judged(rt: HostRuntime) -> Result<(), Fail> {
 
 // A header of so many nodes.
 fn header_of(alloc: Global, count: u32) -> Result<String, AllocError> {
-    let mut text = String::from_str(alloc, "{\"window\":1,\"budget\":1,\"until\":1,\"nodes\":[")?;
+    let mut text = String::from_str(alloc, r#"{"window":1,"budget":1,"until":1,"nodes":["#)?;
     for node in 0..count {
-        write!(text, "{{\"name\":\"{node}\"}},")?;
+        write!(text, r#"{{"name":"{node}"}},"#)?;
     }
-    text.push_str("{\"name\":\"last\"}]}")?;
+    text.push_str(r#"{"name":"last"}]}"#)?;
     Ok(text)
 }
 
@@ -900,7 +656,7 @@ fn there_are_4096_nodes_at_most(rt: HostRuntime) -> Result<(), Fail> {
         more.err(),
         Some(TraceFault::Bad {
             line: 1,
-            why: TraceWhy::BadField(Field::Nodes)
+            why: BadField(Nodes)
         })
     );
     Ok(())
