@@ -16,3 +16,4 @@ pub mod SoundLemmas
 pub mod ToldLemmas
 pub mod StandLemmas
 pub mod TurnLemmas
+pub mod KnownLemmas

@@ -6,3 +6,4 @@ pub mod After
 pub mod Reached
 pub mod Pieces
 pub mod Readied
+pub mod Known

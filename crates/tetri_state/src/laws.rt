@@ -1,9 +1,11 @@
 // Laws of the states that a run reaches.
-ghost use Rattle.std.specs.Prelude.{◌≡◌, ℕ, Some, List, AllPairs, Contains};
+ghost use Rattle.std.specs.Prelude.{◌≡◌, ◌<◌, ℕ, Some, List, length, All, AllPairs, Contains};
 ghost use Rattle.tetri_space.specs.Free.{IsFree};
 ghost use Rattle.tetri_space.specs.Lawful.{IsLawful};
 ghost use Rattle.tetri_space.specs.Space.{Covers, leaf_in};
 ghost use Rattle.tetri_state.specs.After.{after};
+ghost use Rattle.tetri_state.specs.Begin.{occurring};
+ghost use Rattle.tetri_state.specs.Known.{AreOfJobs};
 ghost use Rattle.tetri_state.specs.Pieces.{RunsOnUnlessTold, ShareNoNode};
 ghost use Rattle.tetri_state.specs.Planning.{instance_of};
 ghost use Rattle.tetri_state.specs.Reached as moment;
@@ -45,6 +47,17 @@ pub fn nodes_of_running_pieces_are_taken(trace: &Trace)
         → IsReached (scenario trace.entry.now) moment.begun s → Contains s.pieces p → Contains p.nodes n
         → IsLawful (instance_of (scenario trace.entry.now) s) a → Contains a g
         → leaf_in (instance_of (scenario trace.entry.now) s).bids g.job g.leaf ≡ Some l → Covers l s.now → Contains g.nodes n → ⊥ }
+{
+    let _ = trace;
+}
+
+/// What happens in a slot is told of jobs of the trace, and so is what the slot plans for.
+pub fn jobs_of_a_run_are_known(trace: &Trace)
+    requires { IsSound (scenario trace.now) }
+    ensures happened { (s : Snapshot) → IsReached (scenario trace.entry.now) moment.between s
+        → AreOfJobs (scenario trace.entry.now) (occurring (scenario trace.entry.now) s) }
+    ensures pending { (s : Snapshot) → IsReached (scenario trace.entry.now) moment.begun s
+        → All (λ b. b.job < length (scenario trace.entry.now).submissions) (instance_of (scenario trace.entry.now) s).bids }
 {
     let _ = trace;
 }

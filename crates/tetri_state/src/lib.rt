@@ -19,7 +19,7 @@ mod told;
 pub use happened::{Happened, PieceId};
 pub use launches::{Launch, launch_of, starts_of};
 pub use laws::{
-    no_two_running_pieces_share_a_node, nodes_of_running_pieces_are_taken,
+    jobs_of_a_run_are_known, no_two_running_pieces_share_a_node, nodes_of_running_pieces_are_taken,
     running_pieces_run_on_unless_told,
 };
 pub use pieces::Piece;
