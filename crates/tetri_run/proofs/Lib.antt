@@ -3,3 +3,4 @@ pub mod FirstFits
 pub mod KeptLemmas
 pub mod PrintLemmas
 pub mod RunLemmas
+pub mod SlotLemmas

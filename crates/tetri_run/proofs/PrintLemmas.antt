@@ -13,7 +13,7 @@ use Rattle.tetri_space.specs.Space.{Bid, Space, set_of, leaf_in}
 use Rattle.tetri_space.specs.Lawful.{MayBeGranted, IsLawfulGrant, IsLawful}
 use Rattle.tetri_space.specs.Sound.{HasKnownSet, IsSoundBid, IsSound}
 use Rattle.tetri_space.proofs.LeafLemmas.{leaf_in-within, IsOffered}
-use Rattle.tetri_state.specs.Begin.{Occurrences}
+use Rattle.tetri_state.specs.Known.{AreOfJobs}
 use Rattle.tetri_state.specs.Launch.{start_of, starts_now}
 use Rattle.tetri_trace.specs.Scenario.{Scenario}
 use Rattle.tetri_report.specs.Block.{Block}
@@ -85,13 +85,6 @@ kept_within n keeps (b ∷ bs) all =
       | true ↦ All-cons (λ job. job < n) b.job (map (λ c. c.job) (filter keeps bs)) (All-head (λ c. c.job < n) b bs all) rest
       | false ↦ rest
     ]
-
--- the jobs of what happened are the trace's
-pub record AreOfJobs (t : Scenario) (o : Occurrences) : Type 0 where
-  pub ended : ArePieces t o.ended
-  pub cancelled : AreJobs t o.cancelled
-  pub over : ArePieces t o.over
-  pub expired : AreJobs t o.expired
 
 pub cycle_printable : (t : Scenario) (i : Space) (carry : List Grant) (b : Block) → IsInstanceOf t i → AreOfJobs t (occurrences_in b) → IsPlanFor i carry b → IsPrintable t b
 cycle_printable t i carry b is jobs plan = record {

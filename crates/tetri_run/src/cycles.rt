@@ -37,7 +37,7 @@ fn run_slots<K: Sink>(alloc: Global, trace: &Trace, sink: &mut K) -> Result<Summ
         worth: 0,
         optimal: 0,
     };
-    for _ in 0..trace.header.until {
+    for number in 0..trace.header.until {
         let slot = run_slot(alloc, trace, &mut state, sink)?;
         tally.worth += u128::from(slot.worth);
         tally.optimal += slot.optimal;

@@ -1,5 +1,5 @@
 // One slot of a run.
-ghost use Rattle.std.specs.Prelude.{◌≡◌, ◌≤◌, ◌<◌, AllPairs, IfOk, IsErrOf, OnOk};
+ghost use Rattle.std.specs.Prelude.{◌≡◌, ◌≤◌, ◌<◌, ◌^◌, AllPairs, IfOk, IsErrOf, OnOk};
 ghost use Rattle.tetri_algebra.specs.Counts.{Rose};
 ghost use Rattle.tetri_run.specs.Cycle.{ComesBefore, IsPlannedCycle};
 ghost use Rattle.tetri_run.specs.Progress.{IsReady, RanSlot, StoppedInSlot};
@@ -18,7 +18,7 @@ use std::alloc::{AllocError, Global};
 use tetri_cert::PlanMark;
 use tetri_io::{Sink, send_all};
 use tetri_report::{Cycle, print_cycle};
-use tetri_state::{Prepared, State};
+use tetri_state::{Prepared, State, jobs_of_a_run_are_known};
 use tetri_trace::Trace;
 
 /// What one slot adds to the numbers of a run: what its launched jobs are worth, and 1 where its plan is optimal.
@@ -56,7 +56,9 @@ fn ready_slot(alloc: Global, trace: &Trace, state: &mut State) -> Result<Ready, 
     ensures begun { OnOk result (state.new ≡ begin (scenario trace.entry.now) state.old) }
     ensures ready { IfOk result (IsReady (scenario trace.entry.now) state.old) }
     ensures most { IfOk result (λ r. r.tally.optimal ≤ 1) }
+    ensures small { IfOk result (λ r. r.tally.worth < 2 ^ 64) }
 {
+    jobs_of_a_run_are_known(trace);
     let happened = state.begin_cycle(alloc, trace)?;
     let inst = state.instance(alloc, trace)?;
     let carry = state.carry(alloc, trace, &inst)?;
@@ -88,6 +90,7 @@ pub(crate) fn run_slot<K: Sink>(
     requires ordered { AllPairs ComesBefore state.old.plan }
     ensures ok { IfOk result (λ tally. RanSlot (scenario trace.entry.now) state.old state.new tally (K.written sink.old) (K.written sink.new)) }
     ensures most { IfOk result (λ tally. tally.optimal ≤ 1) }
+    ensures small { IfOk result (λ tally. tally.worth < 2 ^ 64) }
     ensures failed { IsErrOf result Halt.WriteFault → StoppedInSlot (scenario trace.entry.now) state.old (K.written sink.old) (K.written sink.new) }
     ensures memory { IsErrOf result Halt.NoMemory → K.written sink.new ≡ K.written sink.old }
     ensures write { IsErrOf result Halt.WriteFault → Rose (K.faults sink.old) (K.faults sink.new) }

@@ -1,0 +1,62 @@
+use Rattle.std.proofs.Common.{◌≡◌, ◌∙◌, ap, sym, subst, ◌<◌, length, All, AllPairs}
+use Rattle.tetri_report.specs.Block.{block}
+use Rattle.tetri_space.specs.Space.{Bid, Space, space}
+use Rattle.tetri_state.specs.Begin.{occurrences}
+use Rattle.tetri_state.specs.Known.{AreOfJobs}
+use Rattle.tetri_state.specs.Launch.{worth_launched}
+use Rattle.tetri_state.specs.Planning.{IsCarry, instance_of}
+use Rattle.tetri_state.specs.Readied.{Fits, IsLaunchOf}
+use Rattle.tetri_state.specs.Snapshot.{Snapshot}
+use Rattle.tetri_trace.specs.Scenario.{scenario}
+use Rattle.tetri_run.specs.Cycle.{ComesBefore, IsKeptFor, IsPlanFor, instance_at}
+use Rattle.tetri_run.proofs.PrintLemmas.{cycle_printable}
+use Rattle.tetri_run.proofs.SlotLemmas.{carry_ordered, numbered_ascend}
+use Rattle.tetri_run.proofs.slot.ready_slot.Goals as goal
+
+pub plan_cycle-requires-clause-numbered : goal.plan_cycle-requires-clause-numbered
+plan_cycle-requires-clause-numbered c = numbered_ascend _ c.in_ok-inst.ensures.numbered
+
+pub plan_cycle-requires-clause-ordered : goal.plan_cycle-requires-clause-ordered
+plan_cycle-requires-clause-ordered c =
+    carry_ordered (space c.in_ok-inst.inst) c.begin_cycle.new.self.plan c.in_ok-carry.carry
+    (subst (λ (q : Snapshot). AllPairs ComesBefore q.plan) (sym c.in_ok-happened.ensures.state) c.requires.ordered) c.in_ok-carry.ensures.carry
+
+pub print_cycle-requires : goal.print_cycle-requires
+print_cycle-requires c =
+    let t = scenario c.args.trace.now in
+    let is = c.in_ok-inst.ensures.instance in
+    cycle_printable t (space c.in_ok-inst.inst) c.in_ok-carry.carry (block c.in_ok-told.told.cycle)
+    (record {
+      sound = c.in_ok-inst.ensures.sound;
+      nodes = ap (λ (i : Space). i.nodes) is;
+      jobs = subst (λ (i : Space). All (λ (b : Bid). b.job < length t.submissions) i.bids) (sym is) (c.jobs_of_a_run_are_known.ensures.pending c.begin_cycle.new.self c.in_ok-happened.ensures.reached);
+    })
+    (subst (AreOfJobs t) (sym (ap occurrences c.in_ok-told.ensures.happened ∙ c.in_ok-happened.ensures.happened)) (c.jobs_of_a_run_are_known.ensures.happened c.args.state.now c.requires.reached))
+    c.in_ok-told.ensures.plan
+
+pub returns-clause-ready : goal.returns-clause-ready
+returns-clause-ready c =
+    let t = scenario c.args.trace.now in
+    let s = c.args.state.now in
+    let b = block c.in_ok-told.told.cycle in
+    let carry = c.in_ok-carry.carry in
+    let begun = c.in_ok-happened.ensures.state in
+    let is : space c.in_ok-inst.inst ≡ instance_at t s = c.in_ok-inst.ensures.instance ∙ ap (instance_of t) begun in
+    record {
+      block = b;
+      planned = record {
+        cycle = record {
+          number = c.in_ok-told.ensures.number ∙ ap (λ (i : Space). i.now) is;
+          happened = ap occurrences c.in_ok-told.ensures.happened ∙ c.in_ok-happened.ensures.happened;
+          carry = carry;
+          carried = subst (λ (i : Space). IsCarry i s.plan carry) is (subst (λ (q : Snapshot). IsCarry (space c.in_ok-inst.inst) q.plan carry) begun c.in_ok-carry.ensures.carry);
+          plan = subst (λ (i : Space). IsPlanFor i carry b) is c.in_ok-told.ensures.plan;
+        };
+        kept_for = subst (λ (i : Space). IsKeptFor i carry b) is c.in_ok-told.ensures.kept;
+      };
+      text = c.in_ok-text.ensures;
+      launch = subst (λ (q : Snapshot). IsLaunchOf t q b.grants c.in_ok-prepared.prepared) begun c.in_ok-prepared.ensures.launch;
+      fits = subst (λ (q : Snapshot). Fits q c.in_ok-prepared.prepared) begun c.in_ok-prepared.ensures.fits;
+      worth = c.in_ok-told.ensures.worth ∙ ap (λ (i : Space). worth_launched i b.grants) is;
+      optimal = c.optimal_count.ensures.value;
+    }
