@@ -29,9 +29,9 @@ of_kept P i carry nothing carried fit = of_better P i (better i [] carry) (first
 pub better_bounds : (i : Space) (a b : List Grant) → (total_in i a ≤ total_in i (better i a b)) × (total_in i b ≤ total_in i (better i a b))
 better_bounds i a b = by_test (nat_lt (total_in i a) (total_in i b)) refl
   where
-  by_test : (t : Bool) → nat_lt (total_in i a) (total_in i b) ≡ t → (total_in i a ≤ total_in i (cond t b a)) × (total_in i b ≤ total_in i (cond t b a))
-  by_test true e = let h = ltb-true _ _ e in (omega arith, omega arith)
-  by_test false e = let h = ltb-false _ _ e in (omega arith, omega arith)
+    by_test : (t : Bool) → nat_lt (total_in i a) (total_in i b) ≡ t → (total_in i a ≤ total_in i (cond t b a)) × (total_in i b ≤ total_in i (cond t b a))
+    by_test true e = let h = ltb-true _ _ e in (omega arith, omega arith)
+    by_test false e = let h = ltb-false _ _ e in (omega arith, omega arith)
 
 pub kept_bounds : (i : Space) (carry : List Grant) → (total_in i carry ≤ total_in i (kept i carry)) × (total_in i (first_fit i) ≤ total_in i (kept i carry))
 kept_bounds i carry =

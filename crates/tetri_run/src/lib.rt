@@ -13,3 +13,6 @@ mod top;
 pub use spoken::{SayFault, say};
 pub use status::Status;
 pub use top::{run, run_plan};
+
+#[cfg(test)]
+mod tests;
