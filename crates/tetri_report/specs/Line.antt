@@ -1,5 +1,5 @@
 -- What one line of a report says.
-use Rattle.std.specs.Prelude.{ℕ, ◌++◌, ◌^◌, List, [], ◌∷◌, length, drop, take, Option, Some, None, if◌then◌else◌, bytes_eq, codes, option_and_then}
+use Rattle.std.specs.Prelude.{ℕ, ◌++◌, ◌^◌, List, [], ◌∷◌, length, drop, take, Option, Some, None, if◌then◌else◌, bytes_eq, codes, option_and_then, option_map}
 use Rattle.tetri_strl.specs.declared.grants.Grant.{Grant}
 use Rattle.tetri_cert.specs.declared.mark.PlanMark.{PlanMark}
 use Rattle.tetri_cert.specs.declared.mark.PlanMark.TheVariants.{Optimal, Spent, Wide}
@@ -10,6 +10,8 @@ use Rattle.tetri_io.specs.Words.{parts_at, words_of}
 use Rattle.tetri_state.specs.declared.happened.PieceId.{PieceId}
 use Rattle.tetri_trace.specs.Scenario.{Scenario, job_names}
 use Rattle.tetri_report.specs.declared.cycle.Summary.{Summary}
+use Rattle.tetri_report.specs.declared.line.Kind.{Kind}
+use Rattle.tetri_report.specs.declared.line.Kind.TheVariants as kinds
 use Rattle.tetri_report.specs.declared.line.PlanLine.{PlanLine}
 use Rattle.tetri_report.specs.declared.line.ReportLine.{ReportLine}
 use Rattle.tetri_report.specs.declared.line.ReportLine.TheVariants as lines
@@ -51,11 +53,11 @@ tops_in (columns ∷ rows ∷ []) = large_number columns >>= λ columns. large_n
 tops_in words = None
 
 -- the number behind a key and its equals sign
-abbrev pub entry_in : List ℕ → ℕ → List ℕ → Option ℕ
+unfoldable pub entry_in : List ℕ → ℕ → List ℕ → Option ℕ
 entry_in key limit word = if bytes_eq (take (length key) word) key then number_below limit (drop (length key) word) else None
 
-unfoldable pub summary_in : List (List ℕ) → Option ReportLine
-summary_in (cycles ∷ launched ∷ ended ∷ cancelled ∷ expired ∷ worth ∷ optimal ∷ []) = do
+unfoldable pub summary_of_entries : List ℕ → List ℕ → List ℕ → List ℕ → List ℕ → List ℕ → List ℕ → Option ReportLine
+summary_of_entries cycles launched ended cancelled expired worth optimal = do
   cycles ← entry_in (codes "cycles=") (2 ^ 64) cycles
   launched ← entry_in (codes "launched=") (2 ^ 64) launched
   ended ← entry_in (codes "ended=") (2 ^ 64) ended
@@ -64,25 +66,50 @@ summary_in (cycles ∷ launched ∷ ended ∷ cancelled ∷ expired ∷ worth �
   worth ← entry_in (codes "worth=") (2 ^ 127) worth
   optimal ← entry_in (codes "optimal=") (2 ^ 64) optimal
   Some (lines.Summary (record { cycles = cycles; launched = launched; ended = ended; cancelled = cancelled; expired = expired; worth = worth; optimal = optimal }))
+
+abbrev pub summary_in : List (List ℕ) → Option ReportLine
+summary_in (cycles ∷ launched ∷ ended ∷ cancelled ∷ expired ∷ worth ∷ optimal ∷ []) = summary_of_entries cycles launched ended cancelled expired worth optimal
 summary_in words = None
+
+-- the kind of a line by its first word
+unfoldable pub kind_in : List ℕ → Option Kind
+kind_in word =
+    if bytes_eq word (codes "cycle") then Some kinds.Cycle
+    else (if bytes_eq word (codes "end") then Some kinds.End
+    else (if bytes_eq word (codes "cancel") then Some kinds.Cancel
+    else (if bytes_eq word (codes "over") then Some kinds.Over
+    else (if bytes_eq word (codes "expire") then Some kinds.Expire
+    else (if bytes_eq word (codes "plan") then Some kinds.Plan
+    else (if bytes_eq word (codes "grant") then Some kinds.Grant
+    else (if bytes_eq word (codes "tops") then Some kinds.Tops
+    else (if bytes_eq word (codes "launch") then Some kinds.Launch
+    else (if bytes_eq word (codes "summary") then Some kinds.Summary else None)))))))))
+
+-- nodes, and then those that were found
+abbrev pub after_nodes : List ℕ → Option (List ℕ) → Option (List ℕ)
+after_nodes front found = found >>= λ ns. Some (front ++ ns)
 
 -- the lines that name jobs and nodes of a trace
 module _ (s : Scenario) where
-  abbrev pub job_in : List ℕ → Option ℕ
+  unfoldable pub job_in : List ℕ → Option ℕ
   job_in name = number_of name (job_names s.submissions)
 
-  abbrev pub job_line_in : (ℕ → ReportLine) → List (List ℕ) → Option ReportLine
-  job_line_in make (job ∷ []) = job_in job >>= λ job. Some (make job)
-  job_line_in make words = None
+  unfoldable pub node_in : List ℕ → Option ℕ
+  node_in name = number_of name (names_of s.nodes)
 
-  abbrev pub piece_line_in : (PieceId → ReportLine) → List (List ℕ) → Option ReportLine
-  piece_line_in make (job ∷ leaf ∷ []) = job_in job >>= λ job. small_number leaf >>= λ leaf. Some (make (record { job = job; leaf = leaf }))
-  piece_line_in make words = None
+  -- a job by itself
+  abbrev pub lone_job : List (List ℕ) → Option ℕ
+  lone_job (job ∷ []) = job_in job
+  lone_job words = None
+
+  abbrev pub piece_in : List (List ℕ) → Option PieceId
+  piece_in (job ∷ leaf ∷ []) = job_in job >>= λ job. small_number leaf >>= λ leaf. Some (record { job = job; leaf = leaf })
+  piece_in words = None
 
   -- each name as a node
   abbrev pub nodes_in : List (List ℕ) → Option (List ℕ)
   nodes_in [] = Some []
-  nodes_in (name ∷ names) = number_of name (names_of s.nodes) >>= λ n. nodes_in names >>= λ ns. Some (n ∷ ns)
+  nodes_in (name ∷ names) = node_in name >>= λ n. nodes_in names >>= λ ns. Some (n ∷ ns)
 
   unfoldable pub grant_in : List (List ℕ) → Option ReportLine
   grant_in (job ∷ leaf ∷ start ∷ nodes ∷ []) = do
@@ -93,23 +120,22 @@ module _ (s : Scenario) where
     Some (lines.Grant (record { job = job; leaf = leaf; nodes = nodes }) start)
   grant_in words = None
 
-  -- a line by its first word and the others
-  unfoldable pub tagged_in : List ℕ → List (List ℕ) → Option ReportLine
-  tagged_in tag words =
-      if bytes_eq tag (codes "cycle") then cycle_in words
-      else (if bytes_eq tag (codes "end") then piece_line_in lines.End words
-      else (if bytes_eq tag (codes "cancel") then job_line_in lines.Cancel words
-      else (if bytes_eq tag (codes "over") then piece_line_in lines.Over words
-      else (if bytes_eq tag (codes "expire") then job_line_in lines.Expire words
-      else (if bytes_eq tag (codes "plan") then plan_in words
-      else (if bytes_eq tag (codes "grant") then grant_in words
-      else (if bytes_eq tag (codes "tops") then tops_in words
-      else (if bytes_eq tag (codes "launch") then job_line_in lines.Launch words
-      else (if bytes_eq tag (codes "summary") then summary_in words else None)))))))))
+  -- a line by its kind and the other words
+  unfoldable pub line_of_kind : Kind → List (List ℕ) → Option ReportLine
+  line_of_kind kinds.Cycle words = cycle_in words
+  line_of_kind kinds.End words = option_map lines.End (piece_in words)
+  line_of_kind kinds.Cancel words = option_map lines.Cancel (lone_job words)
+  line_of_kind kinds.Over words = option_map lines.Over (piece_in words)
+  line_of_kind kinds.Expire words = option_map lines.Expire (lone_job words)
+  line_of_kind kinds.Plan words = plan_in words
+  line_of_kind kinds.Grant words = grant_in words
+  line_of_kind kinds.Tops words = tops_in words
+  line_of_kind kinds.Launch words = option_map lines.Launch (lone_job words)
+  line_of_kind kinds.Summary words = summary_in words
 
   abbrev pub line_of_words : List (List ℕ) → Option ReportLine
   line_of_words [] = None
-  line_of_words (tag ∷ words) = tagged_in tag words
+  line_of_words (tag ∷ words) = kind_in tag >>= λ kind. line_of_kind kind words
 
   -- what a line says
   abbrev pub line_in : List ℕ → Option ReportLine

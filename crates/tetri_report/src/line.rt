@@ -5,6 +5,21 @@ use tetri_strl::Grant;
 
 use crate::cycle::Summary;
 
+/// What kind of line it is, by its first word.
+#[derive(Clone, Copy, Debug, PartialEq, Eq)]
+pub(crate) enum Kind {
+    Cycle,
+    End,
+    Cancel,
+    Over,
+    Expire,
+    Plan,
+    Grant,
+    Tops,
+    Launch,
+    Summary,
+}
+
 /// The numbers of a `plan` line.
 #[derive(Clone, Copy, Debug, PartialEq, Eq)]
 pub(crate) struct PlanLine {
