@@ -1,5 +1,6 @@
-pub mod Objects
-pub mod Drafts
-pub mod Openings
+pub mod ObjectLemmas
+pub mod JobNames
+pub mod Later
+pub mod Longer
+pub mod Arrivals
 pub mod Ends
-pub mod Said

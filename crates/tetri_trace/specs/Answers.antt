@@ -1,6 +1,8 @@
 -- What the steps of reading answer.
 use Rattle.std.specs.Prelude.{ℕ, ◌≡◌, Result, Ok, Err}
+use Rattle.tetri_parse.specs.declared.fault.Fault.{Fault}
 use Rattle.tetri_trace.specs.declared.fault.TraceWhy.{TraceWhy}
+use Rattle.tetri_trace.specs.declared.fault.TraceWhy.TheVariants.{BadStrl}
 use Rattle.tetri_trace.specs.declared.fault.Stop.{Stop}
 use Rattle.tetri_trace.specs.declared.fault.Stop.TheVariants as stops
 use Rattle.tetri_trace.specs.declared.fault.TraceFault.{TraceFault}
@@ -12,6 +14,16 @@ infixl 10 ◌>>=◌
 abbrev pub ◌>>=◌ : {A B E : Type 0} → Result A E → (A → Result B E) → Result B E
 (Ok x) >>= f = f x
 (Err e) >>= f = Err e
+
+-- the fault of a text is the fault of its line
+abbrev pub in_text : {A : Type 0} → Result A (ℕ × Fault) → Result A TraceWhy
+in_text (Ok x) = Ok x
+in_text (Err e) = Err (BadStrl e.0 e.1)
+
+-- what was found at a line
+abbrev pub at_line : {A : Type 0} → ℕ → Result A TraceWhy → Result A (ℕ × TraceWhy)
+at_line line (Ok x) = Ok x
+at_line line (Err why) = Err (line, why)
 
 -- What a step stopped for is what reading gives, unless memory ran out.
 abbrev pub Stops : {Y : Type 0} → Stop → Result Y TraceWhy → Type 0
@@ -36,7 +48,7 @@ GivesAt view (Err e) reading = Fails e reading
 abbrev pub AnswersTrace : Result Trace TraceFault → Result Scenario (ℕ × TraceWhy) → Type 0
 AnswersTrace = GivesAt scenario
 
--- input that is not built yet is refused at line 0
-abbrev pub fault_at_zero : Stop → TraceFault
-fault_at_zero (stops.Because why) = faults.Bad 0 why
-fault_at_zero stops.NoMemory = faults.NoMemory
+-- what a step stopped for at a line
+abbrev pub fault_at : ℕ → Stop → TraceFault
+fault_at line (stops.Because why) = faults.Bad line why
+fault_at line stops.NoMemory = faults.NoMemory

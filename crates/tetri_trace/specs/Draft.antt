@@ -1,36 +1,28 @@
--- What the lines so far say.
-use Rattle.std.specs.Prelude.{ℕ, List, map, Option, option_map, string_bytes}
-use Rattle.tetri_cluster.specs.declared.cluster.NodeText.{NodeText}
-use Rattle.tetri_trace.specs.declared.trace.Header.{Header}
-use Rattle.tetri_trace.specs.declared.header.Head.{Head}
-use Rattle.tetri_trace.specs.declared.draft.Arriving.{Arriving}
+-- The trace that is read so far.
+use Rattle.std.specs.Prelude.{◌≡◌, ◌<◌, ◌≤◌, ℕ, List, All, map}
 use Rattle.tetri_trace.specs.declared.draft.Draft.{Draft}
+use Rattle.tetri_trace.specs.Scenario.{Scenario, job_names, submission}
+use Rattle.tetri_trace.specs.Sound.{IsSound}
 
--- a header, and the nodes beside it
-pub record HeadData : Type 0 where
-  pub header : Header
-  pub nodes : List NodeText
+-- what a draft says
+abbrev pub so_far : Draft → Scenario
+so_far d = record {
+  header = d.header;
+  nodes = d.cluster;
+  sets = d.sets;
+  submissions = map submission d.jobs.items;
+  events = d.events.items;
+}
 
--- a job that arrives, with the text of its expression and the number of its line
-pub record Arrival : Type 0 where
-  pub name : List ℕ
-  pub text : List ℕ
-  pub line : ℕ
+-- a sound draft, with an index of its jobs' names
+pub record IsSoundDraft (d : Draft) : Type 0 where
+  pub indexed : d.names ≡ job_names (so_far d).submissions
+  pub sound : IsSound (so_far d)
 
-pub record Part : Type 0 where
-  pub head : Option HeadData
-  pub arrivals : List Arrival
-  pub lines : ℕ
+abbrev pub with_sets : Scenario → List (List ℕ) → Scenario
+with_sets s sets = record s { sets = sets }
 
-abbrev pub head : Head → HeadData
-head h = record { header = h.header; nodes = h.cluster }
-
-abbrev pub arrival : Arriving → Arrival
-arrival a = record { name = a.name; text = string_bytes a.text; line = a.line }
-
-abbrev pub part : Draft → Part
-part d = record { head = option_map head d.head; arrivals = map arrival d.arriving.items; lines = d.lines }
-
--- the names of jobs, in order
-abbrev pub names_of_arrivals : List Arrival → List (List ℕ)
-names_of_arrivals jobs = map (λ a. a.name) jobs
+-- in the run, and no event comes after it
+pub record IsNextSlot (s : Scenario) (at : ℕ) : Type 0 where
+  pub in_run : at < s.header.until
+  pub not_before : All (λ e. e.at ≤ at) s.events

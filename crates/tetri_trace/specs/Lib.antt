@@ -1,7 +1,8 @@
 pub mod Scenario
 pub mod Sound
 pub mod Answers
-pub mod Draft
-pub mod Opening
 pub mod Fields
+pub mod Objects
+pub mod Notices
 pub mod Lines
+pub mod Draft

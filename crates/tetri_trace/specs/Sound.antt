@@ -1,5 +1,5 @@
 -- Which traces are sound.
-use Rattle.std.specs.Prelude.{◌≡◌, ◌<◌, ◌≤◌, ℕ, pos, negsuc, ◌≤ℤ◌, true, map, All, AllPairs, length, Option, Some, None}
+use Rattle.std.specs.Prelude.{◌≡◌, ◌+◌, ◌<◌, ◌≤◌, ℕ, pos, negsuc, ◌≤ℤ◌, true, map, All, AllPairs, length, Option, Some, None}
 use Rattle.std.specs.List.{filter_map, zip, range_with_len}
 use Rattle.tetri_strl.specs.Tree.{leaves, numbers}
 use Rattle.tetri_strl.specs.WellMade.{IsWellMade}
@@ -30,6 +30,7 @@ pub record IsSoundSubmission (s : Scenario) (j : Submission) : Type 0 where
   pub well_made : IsWellMade (expr_of j.demand)
   pub numbered : numbers (expr_of j.demand) ≡ range_with_len 0 (length (leaves (expr_of j.demand)))
   pub known_sets : All (λ l. l.set < length s.sets) (leaves (expr_of j.demand))
+  pub starts : All (λ l. (j.arrival ≤ l.start) × (l.start ≤ j.arrival + 10000)) (leaves (expr_of j.demand))
 
 -- the number names a job or a node that is there
 abbrev pub NamesKnown : Scenario → Happening → Type 0

@@ -1,21 +1,38 @@
-// What the lines so far say.
-use crate::header::Head;
-use tetri_cluster::{Name, NameTable};
+// The trace that is read so far.
+ghost use Rattle.std.specs.Prelude.{◌≡◌, IfOk, IsOkUnless};
+ghost use Rattle.tetri_trace.specs.Draft.{so_far, IsSoundDraft};
+ghost use Rattle.tetri_trace.specs.Scenario.{scenario};
+ghost use Rattle.tetri_trace.specs.Sound.{IsSound};
 
-/// A job that arrives: its name, the text of its expression, and the number of its line.
-#[derive(Drop)]
-pub(crate) struct Arriving {
-    pub(crate) name: Name,
-    pub(crate) text: String,
-    pub(crate) line: u64,
-}
+use crate::fault::Stop;
+use crate::trace::{Event, Header, Job, Trace};
+use std::alloc::Global;
+use std::rc::Rc;
+use tetri_cluster::{Cluster, NameTable, Sets};
 
-/// What the lines so far say: the header, the jobs with an index of their names, and how many lines
-/// there were.
+/// The trace that is read so far, with an index of its jobs' names.
 #[derive(Drop)]
 pub(crate) struct Draft {
-    pub(crate) head: Option<Head>,
+    pub(crate) header: Header,
+    pub(crate) cluster: Cluster,
+    pub(crate) sets: Sets,
+    pub(crate) jobs: Vec<Job>,
+    pub(crate) events: Vec<Event>,
     pub(crate) names: NameTable,
-    pub(crate) arriving: Vec<Arriving>,
-    pub(crate) lines: u64,
+}
+
+/// The trace that a draft is.
+pub(crate) fn finished(alloc: Global, draft: Draft) -> Result<Trace, Stop>
+    requires { IsSoundDraft draft }
+    ensures same { IfOk result (λ t. scenario t ≡ so_far draft) }
+    ensures sound { IfOk result (λ t. IsSound (scenario t)) }
+    ensures memory { IsOkUnless result Stop.NoMemory }
+{
+    Ok(Trace {
+        header: draft.header,
+        cluster: draft.cluster,
+        sets: Rc::new(alloc, draft.sets)?,
+        jobs: draft.jobs,
+        events: draft.events,
+    })
 }

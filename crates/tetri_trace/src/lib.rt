@@ -1,19 +1,18 @@
 //! Reads a trace: one JSON object a line, the header first and then the events.
 #![tactic(auto)]
 
-mod arrival;
 mod draft;
+mod event;
 mod fault;
 mod field;
+mod find;
+mod happen;
 mod header;
 mod lines;
-mod opening;
 mod read;
 mod trace;
 
-pub use fault::{TraceFault, TraceWhy};
+pub use fault::{Field, TraceFault, TraceWhy};
+pub use find::job_of;
 pub use read::read_trace;
 pub use trace::{Event, Happening, Header, Job, Trace, Work};
-
-#[cfg(test)]
-mod tests;

@@ -1,23 +1,22 @@
 // A whole trace.
-ghost use Rattle.std.specs.Prelude.{◌≡◌, ◌≤◌, List, ℕ, Some, IsErrOf, IfOk};
+ghost use Rattle.std.specs.Prelude.{◌≡◌, ◌≤◌, List, ℕ, Some, IsErrOf, IfOk, option_map};
+ghost use Rattle.std.specs.Option.{ForSome};
 ghost use Rattle.tetri_algebra.specs.Counts.{Rose};
-ghost use Rattle.tetri_trace.specs.Answers.{AnswersTrace, fault_at_zero};
-ghost use Rattle.tetri_trace.specs.Lines.{scenario_in};
+ghost use Rattle.tetri_trace.specs.Answers.{AnswersTrace, fault_at};
+ghost use Rattle.tetri_trace.specs.Draft.{so_far, IsSoundDraft};
+ghost use Rattle.tetri_trace.specs.Lines.{ended, scenario_in};
 ghost use Rattle.tetri_trace.specs.Scenario.{scenario};
 ghost use Rattle.tetri_trace.specs.Sound.{IsSound};
 
-use crate::draft::Draft;
+use crate::draft::{Draft, finished};
 use crate::fault::{Stop, TraceFault, TraceWhy};
 use crate::lines::{LINE_MOST, add_line};
-use crate::opening::ended;
 use crate::trace::Trace;
 use std::alloc::Global;
-use tetri_cluster::NameTable;
 use tetri_io::{Line, LineFault, Shelf, read_line_at};
 
 /// The trace that a name holds. `Read` comes only where the count of the name's faults rose. `Bad` comes
-/// exactly where the content is not of the form that is built so far, at line 0, and else with the first
-/// line whose text of an expression has a fault.
+/// exactly where a line is faulty, with the first such line and the first fault that holds there.
 pub fn read_trace<S: Shelf>(alloc: Global, shelf: &mut S, name: &str) -> Result<Trace, TraceFault>
     ensures exact { (content : List ℕ) → S.told shelf.old name.now ≡ Some content
         → AnswersTrace result (scenario_in content) }
@@ -27,38 +26,51 @@ pub fn read_trace<S: Shelf>(alloc: Global, shelf: &mut S, name: &str) -> Result<
         → Rose (S.faults shelf.old name.now) (S.faults shelf.new name.now) }
     ensures later { (other : List ℕ) → S.faults shelf.old other ≤ S.faults shelf.new other }
 {
-    let mut draft = Draft {
-        head: None,
-        names: NameTable::new(alloc),
-        arriving: Vec::new(alloc),
-        lines: 0,
-    };
+    let mut draft = None;
+    let mut line = 1u64;
     let mut offset = 0u64;
     'lines: loop {
         match read_line_at(alloc, shelf, name, offset, LINE_MOST) {
             Ok(Line::Text { bytes, next }) => {
                 match add_line(alloc, draft, &bytes, next) {
                     Ok(more) => draft = more,
-                    Err(stop) => return Err(at_line_zero(stop)),
+                    Err(stop) => return Err(fault_at(line, stop)),
                 }
+                line += 1;
                 offset = next;
             }
-            Ok(Line::End) => {
-                return ended(alloc, draft);
+            Ok(Line::End) => return ended(alloc, draft, line),
+            Err(LineFault::TooLong) => {
+                return Err(fault_at(line, Stop::Because(TraceWhy::LineTooLong)));
             }
-            Err(LineFault::TooLong) => return Err(at_line_zero(Stop::Because(TraceWhy::NotBuilt))),
             Err(LineFault::Failed) => return Err(TraceFault::Read),
             Err(LineFault::NoMemory) => return Err(TraceFault::NoMemory),
         }
     }
 }
 
-// Input that is not built yet is refused at line 0.
-fn at_line_zero(stop: Stop) -> TraceFault
-    ensures { result ≡ fault_at_zero stop }
+// No line is left, and the next one would have this number.
+fn ended(alloc: Global, draft: Option<Draft>, line: u64) -> Result<Trace, TraceFault>
+    requires { ForSome draft IsSoundDraft }
+    ensures not_read { IsErrOf result TraceFault.Read → ⊥ }
+    ensures exact { AnswersTrace result (ended (option_map so_far draft) line) }
+    ensures sound { IfOk result (λ t. IsSound (scenario t)) }
+{
+    match draft {
+        Some(draft) => match finished(alloc, draft) {
+            Ok(trace) => Ok(trace),
+            Err(stop) => Err(fault_at(line, stop)),
+        },
+        None => Err(fault_at(line, Stop::Because(TraceWhy::NoHeader))),
+    }
+}
+
+// What a step stopped for at a line.
+fn fault_at(line: u64, stop: Stop) -> TraceFault
+    ensures { result ≡ fault_at line stop }
 {
     match stop {
-        Stop::Because(why) => TraceFault::Bad { line: 0, why },
+        Stop::Because(why) => TraceFault::Bad { line, why },
         Stop::NoMemory => TraceFault::NoMemory,
     }
 }

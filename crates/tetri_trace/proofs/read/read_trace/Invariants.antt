@@ -1,18 +1,18 @@
-use Rattle.std.proofs.Common.{◌≡◌, ◌≤◌, ◌-◌, List, ℕ, drop}
-use Rattle.std.specs.Prelude.{Some}
+use Rattle.std.proofs.Common.{◌≡◌, ◌≤◌, ◌-◌, ◌+◌, List, ℕ, drop}
+use Rattle.std.specs.Prelude.{Some, option_map}
+use Rattle.std.specs.Option.{ForSome}
 use Rattle.tetri_io.specs.Lines.{lines_from}
-use Rattle.tetri_trace.specs.Draft.{part}
+use Rattle.tetri_trace.specs.Draft.{so_far, IsSoundDraft}
 use Rattle.tetri_trace.specs.Lines.{scenario_in, from_lines}
-use Rattle.tetri_trace.specs.Opening.{IsSoundDraft}
 use Rattle.tetri_trace.proofs.read.read_trace.Given as goal
 
 abbrev pub invariant-lines : goal.invariant-lines
 invariant-lines g l = record {
   short : l.offset ≤ 67108864;
-  sound : IsSoundDraft l.draft;
-  counted : l.draft.lines ≤ l.offset;
+  sound : ForSome l.draft IsSoundDraft;
+  counted : l.line ≤ l.offset + 1;
   lines : (content : List ℕ) → g.S.Shelf.told l.fn.shelf l.name ≡ Some content →
-      scenario_in content ≡ from_lines (part l.draft) (lines_from l.offset (drop l.offset content));
+      scenario_in content ≡ from_lines (option_map so_far l.draft) l.line (lines_from l.offset (drop l.offset content));
   same : g.S.Shelf.told l.shelf ≡ g.S.Shelf.told l.fn.shelf;
   later : (other : List ℕ) → g.S.Shelf.faults l.fn.shelf other ≤ g.S.Shelf.faults l.shelf other;
 }

@@ -1,0 +1,198 @@
+// What an event does to the trace that is read so far.
+ghost use Rattle.std.specs.Prelude.{◌≡◌, ◌<◌, ◌≤◌, ◌≤ℤ◌, pos, negsuc, true, false, nat_lt, AllPairs, None, length, IfOk, OnOk, IsOkUnless, ok_or};
+ghost use Rattle.std.specs.List.{list_any};
+ghost use Rattle.tetri_cluster.specs.Cluster.{names_of};
+ghost use Rattle.tetri_cluster.specs.Names.{is_among, is_name, number_of};
+ghost use Rattle.tetri_parse.specs.Expression.{expression};
+ghost use Rattle.tetri_parse.specs.TextTree.{IsTextTree};
+ghost use Rattle.tetri_strl.specs.Tree.{tree};
+ghost use Rattle.tetri_trace.specs.Answers.{Gives, in_text};
+ghost use Rattle.tetri_trace.specs.Draft.{so_far, with_sets, IsNextSlot, IsSoundDraft};
+ghost use Rattle.tetri_trace.specs.Lines.{admitted, arrived, happened, next_slot, with_event};
+ghost use Rattle.tetri_trace.specs.Notices.{IsGoodNotice};
+ghost use Rattle.tetri_trace.specs.Objects.{notice};
+ghost use Rattle.tetri_trace.specs.Scenario.{job_names, submission};
+ghost use Rattle.tetri_trace.specs.Sound.{arrival_in, IsSound, IsSoundSubmission, NamesKnown};
+ghost use Rattle.tetri_trace.specs.declared.fault.TraceWhy.TheVariants as whys;
+
+use crate::draft::Draft;
+use crate::event::Notice;
+use crate::fault::{Stop, TraceWhy};
+use crate::field::read_name;
+use crate::trace::{Event, Happening, Job, Work};
+use std::alloc::Global;
+use tetri_parse::{ParseFault, read_expr};
+use tetri_strl::Expr;
+
+const JOBS_MOST: usize = 100_000;
+
+// Whether one of the events comes after this slot.
+fn is_before_one(events: &[Event], at: u64) -> bool
+    requires { AllPairs (λ e f. e.at ≤ f.at) events.now }
+    ensures { result ≡ list_any (λ e. nat_lt at e.at) events.now }
+{
+    match events.last() {
+        Some(last) => at < u64::from(last.at),
+        None => false,
+    }
+}
+
+/// The slot of one more event, which no earlier event comes after.
+pub(crate) fn next_slot(draft: &Draft, at: u64) -> Result<u32, Stop>
+    requires { IsSoundDraft draft.now }
+    ensures value { Gives (λ n. n) result (next_slot (so_far draft.now) at) }
+    ensures next { IfOk result (IsNextSlot (so_far draft.now)) }
+{
+    if is_before_one(&draft.events, at) {
+        return Err(Stop::Because(TraceWhy::OutOfOrder));
+    }
+    if at >= u64::from(draft.header.until) {
+        return Err(Stop::Because(TraceWhy::PastEnd));
+    }
+    Ok(at as u32)
+}
+
+// One event more, which brings no job.
+fn with_event(draft: &mut Draft, at: u32, what: Happening) -> Result<(), Stop>
+    requires sound { IsSoundDraft draft.old }
+    requires next { IsNextSlot (so_far draft.old) at }
+    requires known { NamesKnown (so_far draft.old) what }
+    requires no_arrival { arrival_in (record { at = at; what = what }) ≡ None }
+    ensures same { OnOk result (so_far draft.new ≡ with_event (so_far draft.old) at what) }
+    ensures sound { OnOk result (IsSoundDraft draft.new) }
+    ensures memory { IsOkUnless result Stop.NoMemory }
+{
+    draft.events.push(Event { at, what })?;
+    Ok(())
+}
+
+// One job more, which arrives.
+fn with_job(draft: &mut Draft, job: Job) -> Result<(), Stop>
+    requires sound { IsSoundDraft draft.old }
+    requires next { IsNextSlot (so_far draft.old) job.arrival }
+    requires job { IsSoundSubmission (so_far draft.old) (submission job) }
+    requires new { is_among job.name (job_names (so_far draft.old).submissions) ≡ false }
+    ensures gives { Gives (λ _. so_far draft.new) result (admitted (so_far draft.old) (submission job)) }
+    ensures sound { OnOk result (IsSoundDraft draft.new) }
+{
+    if draft.jobs.len() >= JOBS_MOST {
+        return Err(Stop::Because(TraceWhy::TooManyJobs));
+    }
+    let arrival = Event {
+        at: job.arrival,
+        what: Happening::Arrive(draft.jobs.len() as u32),
+    };
+    draft.names.add(job.name.bytes())?;
+    draft.jobs.push(job)?;
+    draft.events.push(arrival)?;
+    Ok(())
+}
+
+// The expression of a job that arrives at this slot. The sets that it names come to the trace.
+fn with_text(alloc: Global, draft: &mut Draft, at: u32, text: &str) -> Result<Expr, Stop>
+    requires sound { IsSoundDraft draft.old }
+    requires slot { at < draft.old.header.until }
+    ensures value { Gives (λ e. (tree e, draft.new.sets)) result
+        (in_text (expression text.now draft.old.header.unit at draft.old.cluster draft.old.sets)) }
+    ensures same { so_far draft.new ≡ with_sets (so_far draft.old) draft.new.sets }
+    ensures sound { OnOk result (IsSoundDraft draft.new) }
+    ensures good { IfOk result (λ e. IsTextTree at (length draft.new.sets) (tree e)) }
+{
+    match read_expr(
+        alloc,
+        text.as_bytes(),
+        draft.header.unit,
+        at,
+        &draft.cluster,
+        &mut draft.sets,
+    ) {
+        Ok(expr) => {
+            let _ = draft.sets.len();
+            Ok(expr)
+        }
+        Err(ParseFault::At { offset, fault }) => {
+            Err(Stop::Because(TraceWhy::BadStrl { offset, fault }))
+        }
+        Err(ParseFault::NoMemory) => Err(Stop::NoMemory),
+    }
+}
+
+// A job with this text arrives.
+#[tactic(auto, unfolding(crate::specs::Lines::arrived))]
+fn arrived(
+    alloc: Global,
+    draft: &mut Draft,
+    at: u32,
+    name: &str,
+    late: i32,
+    text: &str,
+) -> Result<(), Stop>
+    requires sound { IsSoundDraft draft.old }
+    requires next { IsNextSlot (so_far draft.old) at }
+    requires named { is_name name.now ≡ true }
+    requires late { (negsuc 9999 ≤ℤ late) × (late ≤ℤ pos 10000) }
+    ensures gives { Gives (λ _. so_far draft.new) result (arrived (so_far draft.old) at name.now late text.now) }
+    ensures sound { OnOk result (IsSoundDraft draft.new) }
+{
+    if draft.names.number(name.as_bytes()).is_some() {
+        return Err(Stop::Because(TraceWhy::NameTaken));
+    }
+    let name = read_name(alloc, name)?;
+    let expr = with_text(alloc, draft, at, text)?;
+    let work = Work::Strl(expr);
+    with_job(
+        draft,
+        Job {
+            name,
+            arrival: at,
+            late,
+            work,
+        },
+    )
+}
+
+fn job_named(draft: &Draft, name: &str) -> Result<u32, Stop>
+    requires { IsSoundDraft draft.now }
+    ensures value { Gives (λ n. n) result (ok_or (number_of name.now (job_names (so_far draft.now).submissions)) whys.NoSuchJob) }
+    ensures known { IfOk result (λ n. n < length (so_far draft.now).submissions) }
+{
+    match draft.names.number(name.as_bytes()) {
+        Some(job) => Ok(job as u32),
+        None => Err(Stop::Because(TraceWhy::NoSuchJob)),
+    }
+}
+
+fn node_named(draft: &Draft, name: &str) -> Result<u32, Stop>
+    ensures value { Gives (λ n. n) result (ok_or (number_of name.now (names_of draft.now.cluster)) whys.NoSuchNode) }
+    ensures known { IfOk result (λ n. n < length draft.now.cluster) }
+{
+    match draft.cluster.node(name.as_bytes()) {
+        Some(node) => Ok(node),
+        None => Err(Stop::Because(TraceWhy::NoSuchNode)),
+    }
+}
+
+/// Adds what a notice says.
+pub(crate) fn happened(alloc: Global, draft: &mut Draft, at: u32, said: Notice) -> Result<(), Stop>
+    requires sound { IsSoundDraft draft.old }
+    requires next { IsNextSlot (so_far draft.old) at }
+    requires good { IsGoodNotice (notice said) }
+    ensures gives { Gives (λ _. so_far draft.new) result (happened (so_far draft.old) at (notice said.entry)) }
+    ensures sound { OnOk result (IsSoundDraft draft.new) }
+{
+    match said {
+        Notice::Arrive { name, late, text } => arrived(alloc, draft, at, name, late, text),
+        Notice::Cancel(name) => {
+            let job = job_named(draft, name)?;
+            with_event(draft, at, Happening::Cancel(job))
+        }
+        Notice::Drain(name) => {
+            let node = node_named(draft, name)?;
+            with_event(draft, at, Happening::Drain(node))
+        }
+        Notice::Undrain(name) => {
+            let node = node_named(draft, name)?;
+            with_event(draft, at, Happening::Undrain(node))
+        }
+    }
+}
