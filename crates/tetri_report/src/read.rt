@@ -13,7 +13,7 @@ use tetri_cert::PlanMark;
 use tetri_io::{number_below, parts_at};
 use tetri_state::PieceId;
 use tetri_strl::{Grant, NodeList};
-use tetri_trace::Trace;
+use tetri_trace::{Trace, job_of};
 
 fn small_number(word: &[u8]) -> Option<u32>
     ensures { result ≡ small_number word.now }
@@ -148,11 +148,7 @@ fn job_in(trace: &Trace, name: &[u8]) -> Option<u32>
     requires { IsSound (scenario trace.now) }
     ensures { result ≡ job_in (scenario trace.now) name.now }
 {
-    let job = trace
-        .jobs
-        .iter()
-        .position(|job| name == job.name.bytes())?;
-    Some(job as u32)
+    job_of(trace, name)
 }
 
 #[tactic(auto, unfolding(crate::specs::Line::node_in))]
