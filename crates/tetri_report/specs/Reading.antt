@@ -142,29 +142,22 @@ abbrev pub reading_behind : Reading → Option ReportLine → Reading
 reading_behind r None = stopped r
 reading_behind r (Some line) = with_read r line
 
--- what one line more answers, which is the block that it ends or the number of the first line that is none; and the reading
--- behind it
-abbrev pub line_answer : Scenario → Reading → List ℕ → Result (Option Block) ℕ
-line_answer t r line = by_fault r.fault
-  where
-    by_fault : Option ℕ → Result (Option Block) ℕ
-    by_fault None = answer_to r (fitting r.stage (line_in t line))
-    by_fault (Some n) = Err n
+-- one of two answers, by whether a line was refused before
+abbrev pub unless_refused : {A : Type 0} → Option ℕ → (ℕ → A) → A → A
+unless_refused None refused answer = answer
+unless_refused (Some n) refused answer = refused n
 
+-- what one line more answers: the block that it ends, or the number of the first line that is none
+abbrev pub line_answer : Scenario → Reading → List ℕ → Result (Option Block) ℕ
+line_answer t r line = unless_refused r.fault (λ n. Err n) (answer_to r (fitting r.stage (line_in t line)))
+
+-- what is read so far behind that line
 abbrev pub behind_line : Scenario → Reading → List ℕ → Reading
-behind_line t r line = by_fault r.fault
-  where
-    by_fault : Option ℕ → Reading
-    by_fault None = reading_behind r (fitting r.stage (line_in t line))
-    by_fault (Some n) = r
+behind_line t r line = unless_refused r.fault (λ n. r) (reading_behind r (fitting r.stage (line_in t line)))
 
 -- what the end answers: the summary, or the number of the first line that is none or is wanting
 abbrev pub end_answer : Reading → Result Summary ℕ
-end_answer r = by_fault r.fault
-  where
-    by_fault : Option ℕ → Result Summary ℕ
-    by_fault None = ok_or r.summary (r.lines + 1)
-    by_fault (Some n) = Err n
+end_answer r = unless_refused r.fault (λ n. Err n) (ok_or r.summary (r.lines + 1))
 
 abbrev pub onto_blocks : Option Block → List Block → List Block
 onto_blocks None bs = bs
