@@ -115,7 +115,7 @@ module _ (t : Scenario) where
       ∙ ap (λ (l : List ℕ). record b { grants = b.grants ++ g ∷ gs; starts = l }) (private_append b.starts s ss)
 
   -- the facts of each grant's line
-  grants_good : (gs : List Grant) (ss : List ℕ) → length ss ≡ length gs → All (IsPrintableGrant t) gs → All (λ g. g.leaf < 2 ^ 32) gs → All (λ n. n < 2 ^ 32) ss →
+  pub grants_good : (gs : List Grant) (ss : List ℕ) → length ss ≡ length gs → All (IsPrintableGrant t) gs → All (λ g. g.leaf < 2 ^ 32) gs → All (λ n. n < 2 ^ 32) ss →
       All (λ p. IsPrintableLine t (grant_line p)) (granted gs ss)
   grants_good [] ss e good small starts = All-nil (λ p. IsPrintableLine t (grant_line p))
   grants_good (g ∷ gs) [] e good small starts = All-nil (λ p. IsPrintableLine t (grant_line p))

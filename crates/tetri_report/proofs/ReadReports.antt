@@ -1,9 +1,9 @@
 -- A printed report reads back.
 use Rattle.std.proofs.Common.{◌≡◌, ℕ, ◌+◌, ◌<◌, ◌≤◌, ◌^◌, refl, sym, ap, ◌∙◌, arith, List, [], ◌∷◌, ◌++◌, length, map, cond, true, false, Bool, All, codes, decimal}
-use Rattle.std.specs.Prelude.{Option, Some, None, Result, Ok, Err, flat_map, ◌&&◌}
+use Rattle.std.specs.Prelude.{Option, Some, None, Result, Ok, Err, flat_map, if◌then◌else◌}
 use Rattle.std.specs.List.{join_with_byte}
-use Rattle.std.proofs.lemmas.List.{append-nil, append_assoc}
-use Rattle.std.proofs.lemmas.List.Elements.{All-head, All-tail}
+use Rattle.std.proofs.lemmas.List.{append-nil, append_assoc, map-append}
+use Rattle.std.proofs.lemmas.List.Elements.{All-append, All-cons, All-head, All-map, All-nil, All-tail}
 use Rattle.tetri_strl.specs.declared.grants.Grant.{Grant}
 use Rattle.tetri_cert.specs.Text.{certificate_text}
 use Rattle.tetri_cert.specs.declared.certificate.Certificate.{Certificate}
@@ -15,7 +15,7 @@ use Rattle.tetri_state.specs.declared.happened.PieceId.{PieceId}
 use Rattle.tetri_trace.specs.Scenario.{Scenario}
 use Rattle.tetri_trace.specs.Sound.{IsSound}
 use Rattle.tetri_report.specs.Block.{Block}
-use Rattle.tetri_report.specs.Printable.{IsInRange, IsPrintable, IsSummaryInRange}
+use Rattle.tetri_report.specs.Printable.{IsCertificateInRange, IsInRange, IsPrintable, IsSummaryInRange}
 use Rattle.tetri_report.specs.Reading.{Reading, block_before, is_between, is_certified, onto_blocks, opened, report_from, report_in, with_read}
 use Rattle.tetri_report.specs.Text.{after_comma, cycle_line, cycle_text, entry, grant_line, grant_lines, granted_line, happened_text, job_line, job_name, joined, leaf_line, name_line, piece_line, plan_line, summary_text}
 use Rattle.tetri_report.specs.declared.cycle.Summary.{Summary}
@@ -24,7 +24,7 @@ use Rattle.tetri_report.specs.declared.line.ReportLine.TheVariants as lines
 use Rattle.tetri_report.specs.declared.line.Stage.{Stage}
 use Rattle.tetri_report.specs.declared.line.Stage.TheVariants as stages
 use Rattle.tetri_report.proofs.PrintedLines.{IsPrintableLine, line_avoids, line_back, line_of, words}
-use Rattle.tetri_report.proofs.ReadBlocks.{certificate_line, granted, inner_lines, plan_of, reads_block}
+use Rattle.tetri_report.proofs.ReadBlocks.{certificate_line, granted, grants_good, inner_lines, plan_of, reads_block}
 use Rattle.tetri_report.proofs.ReadBlocks as read
 use Rattle.tetri_report.proofs.ReadSteps.{onto_report, step}
 
@@ -162,3 +162,68 @@ module _ (t : Scenario) where
   report_text_is (b ∷ bs) s =
       append_assoc (cycle_text t b) (flat_map (cycle_text t) bs) (summary_text s)
       ∙ glue (cycle_text t b) (flat_map (cycle_text t) bs ++ summary_text s) (block_lines b) (report_lines bs s) (cycle_text_is b) (report_text_is bs s)
+
+module _ (t : Scenario) (sound : IsSound t) where
+  inner_printable : (b : Block) → IsPrintable t b → IsInRange b → All (IsPrintableLine t) (inner_lines b)
+  inner_printable b good range =
+      let P = IsPrintableLine t in
+      All-append P (map lines.End b.ended) _ (All-map P lines.End b.ended (λ k d lt. (good.ended k d lt, range.ended k d lt)))
+      (All-append P (map lines.Cancel b.cancelled) _ (All-map P lines.Cancel b.cancelled good.cancelled)
+      (All-append P (map lines.Over b.over) _ (All-map P lines.Over b.over (λ k d lt. (good.over k d lt, range.over k d lt)))
+      (All-append P (map lines.Expire b.expired) _ (All-map P lines.Expire b.expired good.expired)
+      (All-cons P (lines.Plan (plan_of b)) _ (range.value, range.bound, range.nodes)
+      (All-append P (map read.grant_line (granted b.grants b.starts)) _
+      (All-map P read.grant_line (granted b.grants b.starts) (grants_good t b.grants b.starts good.starts good.grants range.grants range.starts))
+      (All-cons P (certificate_line b.certificate) _ (certificate_good b.certificate range.certificate) (All-map P lines.Launch b.launched good.launched)))))))
+    where
+      certificate_good : (c : Certificate) → IsCertificateInRange c → IsPrintableLine t (certificate_line c)
+      certificate_good (Tops columns rows) small = small
+
+  summary_good : (s : Summary) → IsSummaryInRange s → IsPrintableLine t (lines.Summary s)
+  summary_good s range = (range.cycles, range.launched, range.ended, range.cancelled, range.expired, range.worth, range.optimal)
+
+  lines_printable : (bs : List Block) (s : Summary) → All (IsPrintable t) bs → All IsInRange bs → IsSummaryInRange s → All (IsPrintableLine t) (report_lines bs s)
+  lines_printable [] s good range small = All-cons (IsPrintableLine t) (lines.Summary s) [] (summary_good s small) (All-nil (IsPrintableLine t))
+  lines_printable (b ∷ bs) s good range small =
+      All-cons (IsPrintableLine t) (lines.Cycle b.number) _ (All-head IsInRange b bs range).number
+      (All-append (IsPrintableLine t) (inner_lines b) (report_lines bs s) (inner_printable b (All-head (IsPrintable t) b bs good) (All-head IsInRange b bs range))
+      (lines_printable bs s (All-tail (IsPrintable t) b bs good) (All-tail IsInRange b bs range) small))
+
+  lines_avoid : (ls : List ReportLine) → All (IsPrintableLine t) ls → AllAvoid 10 (map (line_of t) ls)
+  lines_avoid [] all = tt
+  lines_avoid (l ∷ ls) all = (line_avoids t sound l (All-head (IsPrintableLine t) l ls all), lines_avoid ls (All-tail (IsPrintableLine t) l ls all))
+
+  -- the block before a reading at which a block may begin, if there is one
+  abbrev before : Reading → Option Block
+  before r = if is_certified r.stage then Some r.block else None
+
+  lines_read : (bs : List Block) (s : Summary) → All (IsPrintable t) bs → All IsInRange bs → IsSummaryInRange s → (r : Reading) → r.fault ≡ None → is_between r.stage ≡ true →
+      report_from t r (map (line_of t) (report_lines bs s)) ≡ Ok (onto_blocks (before r) bs, s)
+  lines_read [] s good range small r sane here = step t r (line_of t (lines.Summary s)) (lines.Summary s) [] sane (line_back t sound (lines.Summary s) (summary_good s small)) here
+  lines_read (b ∷ bs) s good range small r sane here =
+      let first = lines.Cycle b.number in
+      let rest = map (line_of t) (report_lines bs s) in
+      let numbered = (All-head IsInRange b bs range).number in
+      let inner = reads_block t sound b (All-head (IsPrintable t) b bs good) (All-head IsInRange b bs range) (with_read r first) refl refl refl in
+      let more = lines_read bs s (All-tail (IsPrintable t) b bs good) (All-tail IsInRange b bs range) small inner.behind inner.sane (certified_between inner.behind.stage inner.stage) in
+      let ended : before inner.behind ≡ Some b = ap (λ (x : Bool). if x then Some inner.behind.block else None) inner.stage ∙ ap Some inner.is in
+      step t r (line_of t first) first (map (line_of t) (inner_lines b ++ report_lines bs s)) sane (line_back t sound first numbered) here
+      ∙ ap (λ ls. onto_report (before r) (report_from t (with_read r first) ls)) (map-append (line_of t) (inner_lines b) (report_lines bs s))
+      ∙ ap (onto_report (before r)) (inner.same rest ∙ more ∙ ap (λ (o : Option Block). Ok (onto_blocks o bs, s)) ended)
+    where
+      certified_between : (stage : Stage) → is_certified stage ≡ true → is_between stage ≡ true
+      certified_between stages.Opened h = refl
+      certified_between stages.Begun h = h
+      certified_between stages.Ends h = h
+      certified_between stages.Cancels h = h
+      certified_between stages.Overs h = h
+      certified_between stages.Expires h = h
+      certified_between stages.Planned h = h
+      certified_between stages.Certified h = h
+      certified_between stages.Closed h = h
+
+  pub report_back : (bs : List Block) (s : Summary) → All (IsPrintable t) bs → All IsInRange bs → IsSummaryInRange s → report_in t (flat_map (cycle_text t) bs ++ summary_text s) ≡ Ok (bs, s)
+  report_back bs s good range small =
+      ap (λ bytes. report_from t opened (map (λ l. l.0) (lines_from 0 bytes))) (report_text_is t bs s)
+      ∙ ap (report_from t opened) (lines_of_text 0 (map (line_of t) (report_lines bs s)) (lines_avoid (report_lines bs s) (lines_printable bs s good range small)))
+      ∙ lines_read bs s good range small opened refl refl
