@@ -1,4 +1,5 @@
 pub mod Ascii
+pub mod NamesBack
 pub mod NameTables
 pub mod Repeats
 pub mod SetsAdded

@@ -11,6 +11,7 @@ use Rattle.std.proofs.lemmas.Slice.Eq.{bytes_eq-Decides}
 use Rattle.tetri_cluster.specs.declared.cluster.NodeText.{NodeText}
 use Rattle.tetri_cluster.specs.Names.{differ, is_among, is_name, number_of}
 use Rattle.tetri_cluster.specs.Cluster.{names_of, name_at}
+use Rattle.tetri_cluster.proofs.NamesBack.{number_back}
 use Rattle.tetri_parse.specs.declared.token.Class.TheVariants.{Named}
 use Rattle.tetri_parse.specs.Answers.{◌>>=◌}
 use Rattle.tetri_parse.specs.Printing.{after_comma, with_commas, is_every, set_text, HasNames}
@@ -77,35 +78,6 @@ picked (suc count) a (x ∷ xs) h all = by_first (a == x) refl (λ e. picked cou
 by_recursion : {X : Type 0} (P : X → Type 0) (xs : List X) → All P xs → AllByRecursion P xs
 by_recursion P [] h = tt
 by_recursion P (x ∷ xs) h = (h 0 x (omega arith), by_recursion P xs (All-tail P x xs h))
-
--- the node of a name
-same_name : (x : List ℕ) → bytes_eq x x ≡ true
-same_name x = (bytes_eq-Decides x x).1 refl
-
-other_names : (x : List ℕ) (xs : List (List ℕ)) (i : ℕ) → is_among x xs ≡ false → i < length xs → bytes_eq (get_or xs i []) x ≡ false
-other_names x xs i none lt = by_test (bytes_eq (get_or xs i []) x) refl
-  where
-    by_test : (b : Bool) → bytes_eq (get_or xs i []) x ≡ b → b ≡ false
-    by_test true e =
-        let same : get_or xs i [] ≡ x = (bytes_eq-Decides (get_or xs i []) x).0 e in
-        let found = list_any_at (bytes_eq x) xs i [] lt (ap (bytes_eq x) same ∙ same_name x) in
-        absurd (cc)
-    by_test false e = refl
-
-place_of : (names : List (List ℕ)) (n : ℕ) → differ names ≡ true → n < length names → position_or_len (bytes_eq (get_or names n [])) names ≡ n
-place_of [] n h lt = absurd (omega arith)
-place_of (x ∷ xs) zero h lt = rw (same_name x) refl
-place_of (x ∷ xs) (suc n) h lt = by_first (is_among x xs) refl h (λ g. place_of xs n g (omega arith))
-  where
-    by_first : (b : Bool) → is_among x xs ≡ b → (not b && differ xs) ≡ true → (differ xs ≡ true → position_or_len (bytes_eq (get_or xs n [])) xs ≡ n) → position_or_len (bytes_eq (get_or xs n [])) (x ∷ xs) ≡ suc n
-    by_first true e g ih = absurd (cc)
-    by_first false e g ih = let other = other_names x xs n e (omega arith) in let rest = ih g in rw other (omega (arith, rest))
-
-number_back : (names : List (List ℕ)) (n : ℕ) → differ names ≡ true → n < length names → number_of (get_or names n []) names ≡ Some n
-number_back names n h lt =
-    let place = place_of names n h lt in
-    let within : nat_lt n (length names) ≡ true = grind (arith, nat_tests) in
-    rw (place, within) refl
 
 numbers_back : (cluster : List NodeText) (nodes : List ℕ) → differ (names_of cluster) ≡ true → AllByRecursion (λ n. n < length (names_of cluster)) nodes → numbers_of cluster (map (name_at cluster) nodes) ≡ Some nodes
 numbers_back cluster [] h all = refl

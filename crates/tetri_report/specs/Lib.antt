@@ -1,3 +1,6 @@
 pub mod Block
 pub mod Printable
 pub mod Text
+pub mod Line
+pub mod Reading
+pub mod Answers

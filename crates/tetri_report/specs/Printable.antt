@@ -1,9 +1,12 @@
 -- Which cycles may be printed.
-use Rattle.std.specs.Prelude.{◌≡◌, ◌<◌, ◌≤◌, ℕ, List, All, length}
+use Rattle.std.specs.Prelude.{◌≡◌, ◌<◌, ◌≤◌, ◌^◌, ℕ, List, All, length}
 use Rattle.tetri_strl.specs.declared.grants.Grant.{Grant}
 use Rattle.tetri_state.specs.declared.happened.PieceId.{PieceId}
+use Rattle.tetri_cert.specs.declared.certificate.Certificate.{Certificate}
+use Rattle.tetri_cert.specs.declared.certificate.Certificate.TheVariants.{Tops}
 use Rattle.tetri_trace.specs.Scenario.{Scenario}
 use Rattle.tetri_report.specs.Block.{Block}
+use Rattle.tetri_report.specs.declared.cycle.Summary.{Summary}
 
 abbrev pub AreJobs : Scenario → List ℕ → Type 0
 AreJobs s jobs = All (λ job. job < length s.submissions) jobs
@@ -27,3 +30,31 @@ pub record IsPrintable (s : Scenario) (b : Block) : Type 0 where
   pub grants : All (IsPrintableGrant s) b.grants
   pub starts : length b.starts ≡ length b.grants
   pub launched : AreJobs s b.launched
+
+abbrev pub AreSmall : List ℕ → Type 0
+AreSmall ns = All (λ n. n < 2 ^ 32) ns
+
+abbrev pub IsCertificateInRange : Certificate → Type 0
+IsCertificateInRange (Tops columns rows) = (columns < 2 ^ 64) × (rows < 2 ^ 64)
+
+-- the numbers of a block are within the ranges of their lines
+pub record IsInRange (b : Block) : Type 0 where
+  pub number : b.number < 2 ^ 32
+  pub ended : All (λ p. p.leaf < 2 ^ 32) b.ended
+  pub over : All (λ p. p.leaf < 2 ^ 32) b.over
+  pub value : b.value < 2 ^ 64
+  pub bound : b.bound < 2 ^ 64
+  pub nodes : b.nodes < 2 ^ 32
+  pub grants : All (λ g. g.leaf < 2 ^ 32) b.grants
+  pub starts : AreSmall b.starts
+  pub certificate : IsCertificateInRange b.certificate
+
+-- the numbers of a summary are within the ranges of its line
+pub record IsSummaryInRange (s : Summary) : Type 0 where
+  pub cycles : s.cycles < 2 ^ 64
+  pub launched : s.launched < 2 ^ 64
+  pub ended : s.ended < 2 ^ 64
+  pub cancelled : s.cancelled < 2 ^ 64
+  pub expired : s.expired < 2 ^ 64
+  pub worth : s.worth < 2 ^ 127
+  pub optimal : s.optimal < 2 ^ 64

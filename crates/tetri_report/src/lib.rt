@@ -1,13 +1,21 @@
 //! The text of a report.
 #![tactic(auto)]
 
+mod blocks;
 mod cycle;
+mod laws;
+mod line;
 mod lines;
 mod print;
+mod ranges;
+mod read;
 mod summary;
 
+pub use blocks::{Blocks, ReportFault};
 pub use cycle::{Cycle, Summary};
+pub use laws::printed_reports_read_back;
 pub use print::print_cycle;
+pub use ranges::cycle_is_in_range;
 pub use summary::print_summary;
 
 #[cfg(test)]

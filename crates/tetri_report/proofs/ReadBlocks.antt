@@ -1,0 +1,225 @@
+-- Reading the printed lines of a block.
+use Rattle.std.proofs.Common.{◌≡◌, ℕ, ◌+◌, ◌<◌, ◌≤◌, ◌^◌, refl, sym, ap, ◌∙◌, arith, List, [], ◌∷◌, ◌++◌, length, map, cond, true, false, Bool, All, get_or, suc}
+use Rattle.std.specs.Prelude.{Option, Some, None, Result, Ok, Err}
+use Rattle.std.proofs.lemmas.List.{append-nil, append_assoc}
+use Rattle.std.proofs.lemmas.List.Elements.{All-cons, All-head, All-nil, All-tail}
+use Rattle.tetri_strl.specs.declared.grants.Grant.{Grant}
+use Rattle.tetri_cert.specs.declared.mark.PlanMark.TheVariants.{Wide}
+use Rattle.tetri_cert.specs.declared.certificate.Certificate.{Certificate}
+use Rattle.tetri_cert.specs.declared.certificate.Certificate.TheVariants.{Tops}
+use Rattle.tetri_state.specs.declared.happened.PieceId.{PieceId}
+use Rattle.tetri_trace.specs.Scenario.{Scenario}
+use Rattle.tetri_trace.specs.Sound.{IsSound}
+use Rattle.tetri_report.specs.Block.{Block}
+use Rattle.tetri_report.specs.Printable.{IsCertificateInRange, IsInRange, IsPrintable, IsPrintableGrant}
+use Rattle.tetri_report.specs.Reading.{Reading, before_cancels, before_ends, before_overs, before_plan, block_of, is_between, is_certified, is_planned, may_follow, report_from, with_line}
+use Rattle.tetri_report.specs.declared.line.PlanLine.{PlanLine}
+use Rattle.tetri_report.specs.declared.line.ReportLine.{ReportLine}
+use Rattle.tetri_report.specs.declared.line.ReportLine.TheVariants as lines
+use Rattle.tetri_report.specs.declared.line.Stage.{Stage}
+use Rattle.tetri_report.specs.declared.line.Stage.TheVariants as stages
+use Rattle.tetri_report.proofs.PrintedLines.{IsPrintableLine, line_of}
+use Rattle.tetri_report.proofs.ReadSteps.{ReadsTo, and_then, lines_of_kind, one_line, with_lines}
+
+-- each grant with its start
+abbrev pub granted : List Grant → List ℕ → List (Grant × ℕ)
+granted [] starts = []
+granted (g ∷ gs) [] = []
+granted (g ∷ gs) (start ∷ starts) = (g, start) ∷ granted gs starts
+
+abbrev pub grant_line : Grant × ℕ → ReportLine
+grant_line p = lines.Grant p.0 p.1
+
+abbrev pub certificate_line : Certificate → ReportLine
+certificate_line (Tops columns rows) = lines.Tops columns rows
+
+abbrev pub plan_of : Block → PlanLine
+plan_of b = record { value = b.value; bound = b.bound; mark = b.mark; nodes = b.nodes }
+
+-- the lines of a block behind its first one
+abbrev pub inner_lines : Block → List ReportLine
+inner_lines b =
+    map lines.End b.ended ++ (map lines.Cancel b.cancelled ++ (map lines.Over b.over ++ (map lines.Expire b.expired ++ (lines.Plan (plan_of b) ∷ []
+    ++ (map grant_line (granted b.grants b.starts) ++ (certificate_line b.certificate ∷ [] ++ map lines.Launch b.launched))))))
+
+-- what is in an earlier stage is in a later one
+ends_cancels : (s : Stage) → before_ends s ≡ true → before_cancels s ≡ true
+ends_cancels stages.Begun h = h
+ends_cancels stages.Ends h = h
+ends_cancels stages.Cancels h = refl
+ends_cancels stages.Opened h = h
+ends_cancels stages.Overs h = h
+ends_cancels stages.Expires h = h
+ends_cancels stages.Planned h = h
+ends_cancels stages.Certified h = h
+ends_cancels stages.Closed h = h
+
+cancels_overs : (s : Stage) → before_cancels s ≡ true → before_overs s ≡ true
+cancels_overs stages.Begun h = h
+cancels_overs stages.Ends h = h
+cancels_overs stages.Cancels h = h
+cancels_overs stages.Opened h = h
+cancels_overs stages.Overs h = refl
+cancels_overs stages.Expires h = h
+cancels_overs stages.Planned h = h
+cancels_overs stages.Certified h = h
+cancels_overs stages.Closed h = h
+
+overs_plan : (s : Stage) → before_overs s ≡ true → before_plan s ≡ true
+overs_plan stages.Begun h = h
+overs_plan stages.Ends h = h
+overs_plan stages.Cancels h = h
+overs_plan stages.Opened h = h
+overs_plan stages.Overs h = h
+overs_plan stages.Expires h = refl
+overs_plan stages.Planned h = h
+overs_plan stages.Certified h = h
+overs_plan stages.Closed h = h
+
+-- what lines of one kind add to a block
+module _ (t : Scenario) where
+  private_append : {X : Type 0} (xs : List X) (x : X) (ys : List X) → (xs ++ x ∷ []) ++ ys ≡ xs ++ x ∷ ys
+  private_append xs x ys = append_assoc xs (x ∷ []) ys
+
+  adds_ended : (b : Block) (xs : List PieceId) → with_lines t lines.End b xs ≡ record b { ended = b.ended ++ xs }
+  adds_ended b [] = ap (λ (l : List PieceId). record b { ended = l }) (sym (append-nil b.ended))
+  adds_ended b (x ∷ xs) = adds_ended (record b { ended = b.ended ++ x ∷ [] }) xs ∙ ap (λ (l : List PieceId). record b { ended = l }) (private_append b.ended x xs)
+
+  adds_cancelled : (b : Block) (xs : List ℕ) → with_lines t lines.Cancel b xs ≡ record b { cancelled = b.cancelled ++ xs }
+  adds_cancelled b [] = ap (λ (l : List ℕ). record b { cancelled = l }) (sym (append-nil b.cancelled))
+  adds_cancelled b (x ∷ xs) = adds_cancelled (record b { cancelled = b.cancelled ++ x ∷ [] }) xs ∙ ap (λ (l : List ℕ). record b { cancelled = l }) (private_append b.cancelled x xs)
+
+  adds_over : (b : Block) (xs : List PieceId) → with_lines t lines.Over b xs ≡ record b { over = b.over ++ xs }
+  adds_over b [] = ap (λ (l : List PieceId). record b { over = l }) (sym (append-nil b.over))
+  adds_over b (x ∷ xs) = adds_over (record b { over = b.over ++ x ∷ [] }) xs ∙ ap (λ (l : List PieceId). record b { over = l }) (private_append b.over x xs)
+
+  adds_expired : (b : Block) (xs : List ℕ) → with_lines t lines.Expire b xs ≡ record b { expired = b.expired ++ xs }
+  adds_expired b [] = ap (λ (l : List ℕ). record b { expired = l }) (sym (append-nil b.expired))
+  adds_expired b (x ∷ xs) = adds_expired (record b { expired = b.expired ++ x ∷ [] }) xs ∙ ap (λ (l : List ℕ). record b { expired = l }) (private_append b.expired x xs)
+
+  adds_launched : (b : Block) (xs : List ℕ) → with_lines t lines.Launch b xs ≡ record b { launched = b.launched ++ xs }
+  adds_launched b [] = ap (λ (l : List ℕ). record b { launched = l }) (sym (append-nil b.launched))
+  adds_launched b (x ∷ xs) = adds_launched (record b { launched = b.launched ++ x ∷ [] }) xs ∙ ap (λ (l : List ℕ). record b { launched = l }) (private_append b.launched x xs)
+
+  adds_granted : (b : Block) (gs : List Grant) (ss : List ℕ) → length ss ≡ length gs →
+      with_lines t grant_line b (granted gs ss) ≡ record b { grants = b.grants ++ gs; starts = b.starts ++ ss }
+  adds_granted b [] [] e = ap (λ (l : List Grant × List ℕ). record b { grants = l.0; starts = l.1 }) (pair (sym (append-nil b.grants)) (sym (append-nil b.starts)))
+    where
+      pair : {X Y : Type 0} {x u : X} {y v : Y} → x ≡ u → y ≡ v → ◌≡◌ {A = X × Y} (x, y) (u, v)
+      pair p q = cc
+  adds_granted b [] (s ∷ ss) e = absurd (omega (arith, e))
+  adds_granted b (g ∷ gs) [] e = absurd (omega (arith, e))
+  adds_granted b (g ∷ gs) (s ∷ ss) e =
+      adds_granted (record b { grants = b.grants ++ g ∷ []; starts = b.starts ++ s ∷ [] }) gs ss (omega (arith, e))
+      ∙ ap (λ (l : List Grant). record b { grants = l; starts = (b.starts ++ s ∷ []) ++ ss }) (private_append b.grants g gs)
+      ∙ ap (λ (l : List ℕ). record b { grants = b.grants ++ g ∷ gs; starts = l }) (private_append b.starts s ss)
+
+  -- the facts of each grant's line
+  pub grants_good : (gs : List Grant) (ss : List ℕ) → length ss ≡ length gs → All (IsPrintableGrant t) gs → All (λ g. g.leaf < 2 ^ 32) gs → All (λ n. n < 2 ^ 32) ss →
+      All (λ p. IsPrintableLine t (grant_line p)) (granted gs ss)
+  grants_good [] ss e good small starts = All-nil (λ p. IsPrintableLine t (grant_line p))
+  grants_good (g ∷ gs) [] e good small starts = All-nil (λ p. IsPrintableLine t (grant_line p))
+  grants_good (g ∷ gs) (s ∷ ss) e good small starts =
+      let here = All-head (IsPrintableGrant t) g gs good in
+      All-cons (λ p. IsPrintableLine t (grant_line p)) (g, s) (granted gs ss)
+      (here.job, All-head (λ h. h.leaf < 2 ^ 32) g gs small, All-head (λ n. n < 2 ^ 32) s ss starts, here.some, here.nodes)
+      (grants_good gs ss (omega (arith, e)) (All-tail (IsPrintableGrant t) g gs good) (All-tail (λ h. h.leaf < 2 ^ 32) g gs small) (All-tail (λ n. n < 2 ^ 32) s ss starts))
+
+-- the block without what its later lines say
+abbrev before_launches : Block → Block
+before_launches b = record b { launched = [] }
+
+abbrev before_certificate : Block → Block
+before_certificate b = record (before_launches b) { certificate = Tops 0 0 }
+
+abbrev before_grants : Block → Block
+before_grants b = record (before_certificate b) { grants = []; starts = [] }
+
+abbrev without_plan : Block → Block
+without_plan b = record (before_grants b) { value = 0; bound = 0; mark = Wide; nodes = 0 }
+
+abbrev before_expired : Block → Block
+before_expired b = record (without_plan b) { expired = [] }
+
+abbrev before_over : Block → Block
+before_over b = record (before_expired b) { over = [] }
+
+abbrev before_cancelled : Block → Block
+before_cancelled b = record (before_over b) { cancelled = [] }
+
+module _ (t : Scenario) (sound : IsSound t) (b : Block) (good : IsPrintable t b) (range : IsInRange b) where
+  launches_read : (r : Reading) → r.fault ≡ None → is_certified r.stage ≡ true → r.block ≡ before_launches b → ReadsTo t is_certified r (map lines.Launch b.launched) b
+  launches_read r sane here is =
+      let s = lines_of_kind t lines.Launch is_certified (λ stage x h. h) (λ x. refl) (λ x. refl) sound r b.launched sane here good.launched in
+      record {
+        behind = s.behind;
+        sane = s.sane;
+        stage = s.stage;
+        is = s.is ∙ ap (λ (c : Block). with_lines t lines.Launch c b.launched) is ∙ adds_launched t (before_launches b) b.launched;
+        same = s.same;
+      }
+
+  certificate_read : (r : Reading) (c : Certificate) → r.fault ≡ None → is_planned r.stage ≡ true → IsCertificateInRange c →
+      ReadsTo t is_certified r (certificate_line c ∷ []) (record r.block { certificate = c })
+  certificate_read r (Tops columns rows) sane here small = one_line t is_certified sound r (lines.Tops columns rows) sane here refl refl small
+
+  abbrev from_certificate : List ReportLine
+  from_certificate = certificate_line b.certificate ∷ [] ++ map lines.Launch b.launched
+
+  rest_from_certificate : (r : Reading) → r.fault ≡ None → is_planned r.stage ≡ true → r.block ≡ before_certificate b → ReadsTo t is_certified r from_certificate b
+  rest_from_certificate r sane here is =
+      let s = certificate_read r b.certificate sane here range.certificate in
+      and_then t is_certified is_certified r (certificate_line b.certificate ∷ []) (map lines.Launch b.launched) _ b s
+      (launches_read s.behind s.sane s.stage (s.is ∙ ap (λ (c : Block). record c { certificate = b.certificate }) is))
+
+  abbrev from_grants : List ReportLine
+  from_grants = map grant_line (granted b.grants b.starts) ++ from_certificate
+
+  rest_from_grants : (r : Reading) → r.fault ≡ None → is_planned r.stage ≡ true → r.block ≡ before_grants b → ReadsTo t is_certified r from_grants b
+  rest_from_grants r sane here is =
+      let s = lines_of_kind t grant_line is_planned (λ stage x h. h) (λ x. refl) (λ x. refl) sound r (granted b.grants b.starts) sane here (grants_good t b.grants b.starts good.starts good.grants range.grants range.starts) in
+      and_then t is_planned is_certified r (map grant_line (granted b.grants b.starts)) from_certificate _ b s
+      (rest_from_certificate s.behind s.sane s.stage (s.is ∙ ap (λ (c : Block). with_lines t grant_line c (granted b.grants b.starts)) is ∙ adds_granted t (before_grants b) b.grants b.starts good.starts))
+
+  abbrev from_plan : List ReportLine
+  from_plan = lines.Plan (plan_of b) ∷ [] ++ from_grants
+
+  rest_from_plan : (r : Reading) → r.fault ≡ None → before_plan r.stage ≡ true → r.block ≡ without_plan b → ReadsTo t is_certified r from_plan b
+  rest_from_plan r sane here is =
+      let s = one_line t is_planned sound r (lines.Plan (plan_of b)) sane here refl refl (range.value, range.bound, range.nodes) in
+      and_then t is_planned is_certified r (lines.Plan (plan_of b) ∷ []) from_grants _ b s
+      (rest_from_grants s.behind s.sane s.stage (s.is ∙ ap (λ (c : Block). with_line c (lines.Plan (plan_of b))) is))
+
+  abbrev from_expired : List ReportLine
+  from_expired = map lines.Expire b.expired ++ from_plan
+
+  rest_from_expired : (r : Reading) → r.fault ≡ None → before_plan r.stage ≡ true → r.block ≡ before_expired b → ReadsTo t is_certified r from_expired b
+  rest_from_expired r sane here is =
+      let s = lines_of_kind t lines.Expire before_plan (λ stage x h. h) (λ x. refl) (λ x. refl) sound r b.expired sane here good.expired in
+      and_then t before_plan is_certified r (map lines.Expire b.expired) from_plan _ b s
+      (rest_from_plan s.behind s.sane s.stage (s.is ∙ ap (λ (c : Block). with_lines t lines.Expire c b.expired) is ∙ adds_expired t (before_expired b) b.expired))
+
+  abbrev from_over : List ReportLine
+  from_over = map lines.Over b.over ++ from_expired
+
+  rest_from_over : (r : Reading) → r.fault ≡ None → before_overs r.stage ≡ true → r.block ≡ before_over b → ReadsTo t is_certified r from_over b
+  rest_from_over r sane here is =
+      let s = lines_of_kind t lines.Over before_overs (λ stage x h. h) (λ x. refl) (λ x. refl) sound r b.over sane here (λ k d lt. (good.over k d lt, range.over k d lt)) in
+      and_then t before_overs is_certified r (map lines.Over b.over) from_expired _ b s
+      (rest_from_expired s.behind s.sane (overs_plan s.behind.stage s.stage) (s.is ∙ ap (λ (c : Block). with_lines t lines.Over c b.over) is ∙ adds_over t (before_over b) b.over))
+
+  abbrev from_cancelled : List ReportLine
+  from_cancelled = map lines.Cancel b.cancelled ++ from_over
+
+  rest_from_cancelled : (r : Reading) → r.fault ≡ None → before_cancels r.stage ≡ true → r.block ≡ before_cancelled b → ReadsTo t is_certified r from_cancelled b
+  rest_from_cancelled r sane here is =
+      let s = lines_of_kind t lines.Cancel before_cancels (λ stage x h. h) (λ x. refl) (λ x. refl) sound r b.cancelled sane here good.cancelled in
+      and_then t before_cancels is_certified r (map lines.Cancel b.cancelled) from_over _ b s
+      (rest_from_over s.behind s.sane (cancels_overs s.behind.stage s.stage) (s.is ∙ ap (λ (c : Block). with_lines t lines.Cancel c b.cancelled) is ∙ adds_cancelled t (before_cancelled b) b.cancelled))
+
+  -- all lines of a block behind its first one are read
+  pub reads_block : (r : Reading) → r.fault ≡ None → before_ends r.stage ≡ true → r.block ≡ block_of b.number → ReadsTo t is_certified r (inner_lines b) b
+  reads_block r sane here is =
+      let s = lines_of_kind t lines.End before_ends (λ stage x h. h) (λ x. refl) (λ x. refl) sound r b.ended sane here (λ k d lt. (good.ended k d lt, range.ended k d lt)) in
+      and_then t before_ends is_certified r (map lines.End b.ended) from_cancelled _ b s
+      (rest_from_cancelled s.behind s.sane (ends_cancels s.behind.stage s.stage) (s.is ∙ ap (λ (c : Block). with_lines t lines.End c b.ended) is ∙ adds_ended t (block_of b.number) b.ended))

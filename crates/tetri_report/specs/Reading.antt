@@ -1,0 +1,178 @@
+-- What the lines of a report read as.
+use Rattle.std.specs.Prelude.{ℕ, ◌+◌, ◌&&◌, List, [], ◌∷◌, ◌++◌, map, Bool, true, false, if◌then◌else◌, Option, Some, None, ok_or, Result, Ok, Err}
+use Rattle.tetri_strl.specs.declared.grants.Grant.{Grant}
+use Rattle.tetri_cert.specs.declared.mark.PlanMark.TheVariants.{Wide}
+use Rattle.tetri_cert.specs.declared.certificate.Certificate.TheVariants.{Tops}
+use Rattle.tetri_io.specs.Lines.{lines_from}
+use Rattle.tetri_trace.specs.Scenario.{Scenario}
+use Rattle.tetri_report.specs.Block.{Block}
+use Rattle.tetri_report.specs.Line.{line_in}
+use Rattle.tetri_report.specs.declared.cycle.Summary.{Summary}
+use Rattle.tetri_report.specs.declared.line.PlanLine.{PlanLine}
+use Rattle.tetri_report.specs.declared.line.ReportLine.{ReportLine}
+use Rattle.tetri_report.specs.declared.line.ReportLine.TheVariants as lines
+use Rattle.tetri_report.specs.declared.line.Stage.{Stage}
+use Rattle.tetri_report.specs.declared.line.Stage.TheVariants as stages
+
+-- the block that has no lines but its first one
+abbrev pub block_of : ℕ → Block
+block_of number = record {
+  number = number;
+  ended = []; cancelled = []; over = []; expired = [];
+  value = 0; bound = 0; mark = Wide; nodes = 0;
+  grants = []; starts = []; certificate = Tops 0 0; launched = [];
+}
+
+abbrev pub with_plan : Block → PlanLine → Block
+with_plan b p = record b { value = p.value; bound = p.bound; mark = p.mark; nodes = p.nodes }
+
+-- the block with one line more
+abbrev pub with_line : Block → ReportLine → Block
+with_line b (lines.Cycle number) = block_of number
+with_line b (lines.End piece) = record b { ended = b.ended ++ piece ∷ [] }
+with_line b (lines.Cancel job) = record b { cancelled = b.cancelled ++ job ∷ [] }
+with_line b (lines.Over piece) = record b { over = b.over ++ piece ∷ [] }
+with_line b (lines.Expire job) = record b { expired = b.expired ++ job ∷ [] }
+with_line b (lines.Plan p) = with_plan b p
+with_line b (lines.Grant grant start) = record b { grants = b.grants ++ grant ∷ []; starts = b.starts ++ start ∷ [] }
+with_line b (lines.Tops columns rows) = record b { certificate = Tops columns rows }
+with_line b (lines.Launch job) = record b { launched = b.launched ++ job ∷ [] }
+with_line b (lines.Summary s) = block_of 0
+
+-- Where a line may stand: events of one kind behind those of earlier kinds, then the plan with its grants, the certificate
+-- and the launches. A cycle or the summary may stand first or behind a block.
+abbrev pub before_ends : Stage → Bool
+before_ends stages.Begun = true
+before_ends stages.Ends = true
+before_ends _ = false
+
+abbrev pub before_cancels : Stage → Bool
+before_cancels stages.Cancels = true
+before_cancels stage = before_ends stage
+
+abbrev pub before_overs : Stage → Bool
+before_overs stages.Overs = true
+before_overs stage = before_cancels stage
+
+abbrev pub before_plan : Stage → Bool
+before_plan stages.Expires = true
+before_plan stage = before_overs stage
+
+abbrev pub is_planned : Stage → Bool
+is_planned stages.Planned = true
+is_planned _ = false
+
+abbrev pub is_certified : Stage → Bool
+is_certified stages.Certified = true
+is_certified _ = false
+
+abbrev pub is_between : Stage → Bool
+is_between stages.Opened = true
+is_between stage = is_certified stage
+
+-- whether a line may follow at this stage
+abbrev pub may_follow : Stage → ReportLine → Bool
+may_follow stage (lines.Cycle number) = is_between stage
+may_follow stage (lines.End piece) = before_ends stage
+may_follow stage (lines.Cancel job) = before_cancels stage
+may_follow stage (lines.Over piece) = before_overs stage
+may_follow stage (lines.Expire job) = before_plan stage
+may_follow stage (lines.Plan p) = before_plan stage
+may_follow stage (lines.Grant grant start) = is_planned stage
+may_follow stage (lines.Tops columns rows) = is_planned stage
+may_follow stage (lines.Launch job) = is_certified stage
+may_follow stage (lines.Summary s) = is_between stage
+
+-- the stage behind a line
+abbrev pub stage_behind : ReportLine → Stage
+stage_behind (lines.Cycle number) = stages.Begun
+stage_behind (lines.End piece) = stages.Ends
+stage_behind (lines.Cancel job) = stages.Cancels
+stage_behind (lines.Over piece) = stages.Overs
+stage_behind (lines.Expire job) = stages.Expires
+stage_behind (lines.Plan p) = stages.Planned
+stage_behind (lines.Grant grant start) = stages.Planned
+stage_behind (lines.Tops columns rows) = stages.Certified
+stage_behind (lines.Launch job) = stages.Certified
+stage_behind (lines.Summary s) = stages.Closed
+
+-- the report so far: how many lines were read, the last stage, the block that is not ended yet, the summary, and the number
+-- of the first line that is none
+pub record Reading : Type 0 where
+  pub lines : ℕ
+  pub stage : Stage
+  pub block : Block
+  pub summary : Option Summary
+  pub fault : Option ℕ
+
+-- no line was read
+abbrev pub opened : Reading
+opened = record { lines = 0; stage = stages.Opened; block = block_of 0; summary = None; fault = None }
+
+abbrev pub summary_of : ReportLine → Option Summary
+summary_of (lines.Summary s) = Some s
+summary_of _ = None
+
+abbrev pub with_read : Reading → ReportLine → Reading
+with_read r line = record { lines = r.lines + 1; stage = stage_behind line; block = with_line r.block line; summary = summary_of line; fault = None }
+
+abbrev pub stopped : Reading → Reading
+stopped r = record r { fault = Some (r.lines + 1) }
+
+-- whether the line stands behind a whole block
+abbrev pub ends_block : ReportLine → Bool
+ends_block (lines.Cycle number) = true
+ends_block (lines.Summary s) = true
+ends_block _ = false
+
+-- the block that a line ends, where it follows one
+abbrev pub block_before : Reading → ReportLine → Option Block
+block_before r line = if ends_block line && is_certified r.stage then Some r.block else None
+
+-- the line, where it may stand here
+abbrev pub fitting : Stage → Option ReportLine → Option ReportLine
+fitting stage None = None
+fitting stage (Some line) = if may_follow stage line then Some line else None
+
+abbrev pub answer_to : Reading → Option ReportLine → Result (Option Block) ℕ
+answer_to r None = Err (r.lines + 1)
+answer_to r (Some line) = Ok (block_before r line)
+
+abbrev pub reading_behind : Reading → Option ReportLine → Reading
+reading_behind r None = stopped r
+reading_behind r (Some line) = with_read r line
+
+-- one of two answers, by whether a line was refused before
+abbrev pub unless_refused : {A : Type 0} → Option ℕ → (ℕ → A) → A → A
+unless_refused None refused answer = answer
+unless_refused (Some n) refused answer = refused n
+
+-- what one line more answers: the block that it ends, or the number of the first line that is none
+abbrev pub line_answer : Scenario → Reading → List ℕ → Result (Option Block) ℕ
+line_answer t r line = unless_refused r.fault (λ n. Err n) (answer_to r (fitting r.stage (line_in t line)))
+
+-- what is read so far behind that line
+abbrev pub behind_line : Scenario → Reading → List ℕ → Reading
+behind_line t r line = unless_refused r.fault (λ n. r) (reading_behind r (fitting r.stage (line_in t line)))
+
+-- what the end answers: the summary, or the number of the first line that is none or is wanting
+abbrev pub end_answer : Reading → Result Summary ℕ
+end_answer r = unless_refused r.fault (λ n. Err n) (ok_or r.summary (r.lines + 1))
+
+abbrev pub onto_blocks : Option Block → List Block → List Block
+onto_blocks None bs = bs
+onto_blocks (Some b) bs = b ∷ bs
+
+infixl 10 ◌>>=◌
+abbrev pub ◌>>=◌ : {A B E : Type 0} → Result A E → (A → Result B E) → Result B E
+(Ok x) >>= f = f x
+(Err e) >>= f = Err e
+
+-- the blocks and the summary that further lines make
+abbrev pub report_from : Scenario → Reading → List (List ℕ) → Result (List Block × Summary) ℕ
+report_from t r [] = end_answer r >>= λ s. Ok ([], s)
+report_from t r (line ∷ rest) = line_answer t r line >>= λ o. report_from t (behind_line t r line) rest >>= λ x. Ok (onto_blocks o x.0, x.1)
+
+-- the blocks and the summary that the lines of a content are, or the number of the first line that is none
+abbrev pub report_in : Scenario → List ℕ → Result (List Block × Summary) ℕ
+report_in t bytes = report_from t opened (map (λ l. l.0) (lines_from 0 bytes))

@@ -1,0 +1,59 @@
+// What one line of a report says.
+use tetri_cert::PlanMark;
+use tetri_state::PieceId;
+use tetri_strl::Grant;
+
+use crate::cycle::Summary;
+
+/// What kind of line it is, by its first word.
+#[derive(Clone, Copy, Debug, PartialEq, Eq)]
+pub(crate) enum Kind {
+    Cycle,
+    End,
+    Cancel,
+    Over,
+    Expire,
+    Plan,
+    Grant,
+    Tops,
+    Launch,
+    Summary,
+}
+
+/// The numbers of a `plan` line.
+#[derive(Clone, Copy, Debug, PartialEq, Eq)]
+pub(crate) struct PlanLine {
+    pub(crate) value: u64,
+    pub(crate) bound: u64,
+    pub(crate) mark: PlanMark,
+    pub(crate) nodes: u32,
+}
+
+/// A line of a report, with jobs and nodes by their numbers in the trace.
+#[derive(Drop)]
+pub(crate) enum ReportLine {
+    Cycle(u32),
+    End(PieceId),
+    Cancel(u32),
+    Over(PieceId),
+    Expire(u32),
+    Plan(PlanLine),
+    Grant { grant: Grant, start: u32 },
+    Tops { columns: u64, rows: u64 },
+    Launch(u32),
+    Summary(Summary),
+}
+
+/// How far a report has come: which line was the last one, or that there was none.
+#[derive(Clone, Copy, Debug, PartialEq, Eq)]
+pub(crate) enum Stage {
+    Opened,
+    Begun,
+    Ends,
+    Cancels,
+    Overs,
+    Expires,
+    Planned,
+    Certified,
+    Closed,
+}
