@@ -1,7 +1,6 @@
 // The event that an object is.
-ghost use Rattle.std.specs.Prelude.{◌≡◌, ◌≤ℤ◌, pos, negsuc, true, IfOk, ok_or};
+ghost use Rattle.std.specs.Prelude.{IfOk, ok_or};
 ghost use Rattle.serde_json.specs.View.{view};
-ghost use Rattle.tetri_cluster.specs.Names.{is_name};
 ghost use Rattle.tetri_trace.specs.Answers.{Gives};
 ghost use Rattle.tetri_trace.specs.Notices.{IsGoodNotice};
 ghost use Rattle.tetri_trace.specs.Objects.{arrival_notice, event_in, event_key, notice, notice_by, text_alone};

@@ -1,5 +1,5 @@
 // The values of an object.
-ghost use Rattle.std.specs.Prelude.{◌≡◌, ◌<◌, ◌≤◌, ◌≤ℤ◌, ◌^◌, pos, negsuc, true, codes, IfOk, option_map, ok_or};
+ghost use Rattle.std.specs.Prelude.{◌≡◌, ◌≤◌, ◌≤ℤ◌, pos, negsuc, true, codes, IfOk, option_map, ok_or};
 ghost use Rattle.serde_json.specs.View.{view};
 ghost use Rattle.tetri_cluster.specs.Names.{is_name};
 ghost use Rattle.tetri_trace.specs.Answers.{Gives};

@@ -12,7 +12,7 @@ ghost use Rattle.tetri_trace.specs.Lines.{admitted, arrived, happened, next_slot
 ghost use Rattle.tetri_trace.specs.Notices.{IsGoodNotice};
 ghost use Rattle.tetri_trace.specs.Objects.{notice};
 ghost use Rattle.tetri_trace.specs.Scenario.{job_names, submission};
-ghost use Rattle.tetri_trace.specs.Sound.{arrival_in, IsSound, IsSoundSubmission, NamesKnown};
+ghost use Rattle.tetri_trace.specs.Sound.{arrival_in, IsSoundSubmission, NamesKnown};
 ghost use Rattle.tetri_trace.specs.declared.fault.TraceWhy.TheVariants as whys;
 
 use crate::draft::Draft;
