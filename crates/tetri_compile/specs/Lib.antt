@@ -1,0 +1,6 @@
+pub mod Allotted
+pub mod Draft
+pub mod Flat
+pub mod Forms
+pub mod Marks
+pub mod Walk
