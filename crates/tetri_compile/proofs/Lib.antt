@@ -1,1 +1,11 @@
+pub mod BoxLemmas
 pub mod Example
+pub mod FairLemmas
+pub mod FlatLemmas
+pub mod FormLemmas
+pub mod GrantLemmas
+pub mod LawLemmas
+pub mod LawfulLemmas
+pub mod TallyLemmas
+pub mod ThriftOfLeft
+pub mod WalkLemmas

@@ -4,7 +4,10 @@ pub mod JobLemmas
 pub mod LawLemmas
 pub mod LawfulLemmas
 pub mod LeafLemmas
+pub mod ListLemmas
 pub mod NodeLemmas
+pub mod PartitionLemmas
+pub mod PrunedLemmas
 pub mod RuleLemmas
 pub mod SearchLemmas
 pub mod TotalLemmas
