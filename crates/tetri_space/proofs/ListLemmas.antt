@@ -5,7 +5,6 @@ use Rattle.std.proofs.lemmas.Bool.{cond_both, and_from, and_parts, or_right, cas
 use Rattle.std.proofs.lemmas.Bool.Decides.{nat_tests}
 use Rattle.tetri_space.specs.Lists.{sum_of, bit, count, has, same, Each, EachPair, Ascends}
 
-
 pub eq_from_test : (m n : ℕ) → (m == n) ≡ true → m ≡ n
 eq_from_test m n e = grind (arith, nat_tests)
 
@@ -119,7 +118,7 @@ pub common-le : (ms ns : List ℕ) → Ascends ms → count (has ns) ms ≤ coun
 common-le ms ns up =
     le_trans (sum_of-le (λ m. bit (has ns m)) (λ m. count (λ n. n == m) ns) ms (Each-all (λ m. bit (has ns m) ≤ count (λ n. n == m) ns) (has-le ns) ms))
     (subst (λ k. k ≤ count (has ms) ns) (sym (sum_of-swap (λ m n. bit (n == m)) ms ns))
-      (sum_of-le (λ n. sum_of (λ m. bit (n == m)) ms) (λ n. bit (has ms n)) ns (Each-all (λ n. sum_of (λ m. bit (n == m)) ms ≤ bit (has ms n)) one ns)))
+    (sum_of-le (λ n. sum_of (λ m. bit (n == m)) ms) (λ n. bit (has ms n)) ns (Each-all (λ n. sum_of (λ m. bit (n == m)) ms ≤ bit (has ms n)) one ns)))
   where
     one : (n : ℕ) → sum_of (λ m. bit (n == m)) ms ≤ bit (has ms n)
     one n = subst (λ k. k ≤ bit (has ms n)) (sum_of-eq (λ m. bit (m == n)) (λ m. bit (n == m)) ms (Each-all (λ m. bit (m == n) ≡ bit (n == m)) (λ m. ap bit (same_test m n)) ms)) (count-one ms n up)
@@ -147,6 +146,7 @@ filter-ascends p [] h = tt
 filter-ascends p (n ∷ ns) h =
     cond_both (p n) (n ∷ filter p ns) (filter p ns) (λ zs. Ascends zs)
     (λ e. (Each-filter (λ k. n < k) p ns h.0, filter-ascends p ns h.1)) (λ e. filter-ascends p ns h.1)
+
 -- ---- facts of pairs
 module _ {X : Type 0} (R : X → X → Type 0) where
   pub EachPair-append : (xs ys : List X) → EachPair R xs → EachPair R ys → Each (λ x. Each (R x) ys) xs → EachPair R (xs ++ ys)
@@ -224,6 +224,7 @@ has-filter p (n ∷ ns) m =
     here : (b d c f : Bool) → (b ≡ true → c ≡ true) → f ≡ (d && c) → (b || f) ≡ ((b || d) && c)
     here true d c f t e = sym (t refl)
     here false d c f t e = e
+
     away : (b d c f : Bool) → (b ≡ true → c ≡ false) → f ≡ (d && c) → f ≡ ((b || d) && c)
     away true true c f t e = e
     away true false c f t e = e ∙ sym (t refl)
@@ -237,7 +238,7 @@ has-range a (suc n) m low high =
     (split a m low)
   where
     split : (j k : ℕ) → j ≤ k → (j ≡ k) ⊎ (j < k)
-    split j k le = elim (cases_order j k) [ | inl e ↦ inl e | inr (inl lt) ↦ inr lt | inr (inr gt) ↦ absurd (omega arith) ]
+    split j k le = elim (cases_order j k) [ inl e ↦ inl e | inr (inl lt) ↦ inr lt | inr (inr gt) ↦ absurd (omega arith) ]
 
 pub range_contains : (a n j : ℕ) → a ≤ j → j < a + n → Contains (range_with_len a n) j
 range_contains a zero j low high = absurd (omega arith)
@@ -248,13 +249,13 @@ range_contains a (suc n) j low high =
       | inr (inr gt) ↦ absurd (omega arith)
     ]
 
-
 -- all pairs of a list, one item after another
 pub EachPair-from : {X : Type 0} (R : X → X → Type 0) (xs : List X) → AllPairs R xs → EachPair R xs
 EachPair-from R [] h = tt
-EachPair-from R (x ∷ xs) h =
-    (Each-from (R x) xs (λ y at. subst (R x) at.2 (h 0 (suc at.0) y (omega arith) (omega (arith, at.1)))),
-     EachPair-from R xs (λ i j d lt short. h (suc i) (suc j) d (omega arith) (omega arith)))
+EachPair-from R (x ∷ xs) h = (
+  Each-from (R x) xs (λ y at. subst (R x) at.2 (h 0 (suc at.0) y (omega arith) (omega (arith, at.1)))),
+  EachPair-from R xs (λ i j d lt short. h (suc i) (suc j) d (omega arith) (omega arith)),
+)
 
 pub sum_of-append : {X : Type 0} (f : X → ℕ) (xs ys : List X) → sum_of f (xs ++ ys) ≡ sum_of f xs + sum_of f ys
 sum_of-append f [] ys = omega arith

@@ -70,9 +70,9 @@ least_such p (suc m) =
     elim (least_such p m) [
       | inl f ↦ inl (f.0, record { below = omega (arith, f.1.below); passes = f.1.passes; before = f.1.before })
       | inr none ↦ elim (cases_Bool (p (suc m))) [
-          | inl e ↦ inl (suc m, record { below = omega arith; passes = e; before = λ k lt. none k (omega arith) })
-          | inr e ↦ inr (λ k le. ⊎_elim (λ (lt : k < suc m). none k (omega arith)) (λ (ge : suc m ≤ k). let z : k ≡ suc m = omega arith in ap p z ∙ e) (cases_lt k (suc m)))
-        ]
+        | inl e ↦ inl (suc m, record { below = omega arith; passes = e; before = λ k lt. none k (omega arith) })
+        | inr e ↦ inr (λ k le. ⊎_elim (λ (lt : k < suc m). none k (omega arith)) (λ (ge : suc m ≤ k). let z : k ≡ suc m = omega arith in ap p z ∙ e) (cases_lt k (suc m)))
+      ]
     ]
 
 -- a count of the one that passes
@@ -84,10 +84,16 @@ count_single : (p : ℕ → Bool) (a n j : ℕ) → a ≤ j → j < a + n → p 
 count_single p a zero j low high e one = absurd (omega arith)
 count_single p a (suc n) j low high e one =
     elim (cases_order a j) [
-      | inl same_place ↦ omega (arith, ap bit (ap p same_place ∙ e),
-          count_none p (a + 1) n (λ k l h. false_from_ne_true (p k) (λ t. omega (arith, one k (omega arith) t, same_place))))
-      | inr (inl lt) ↦ omega (arith, ap bit (false_from_ne_true (p a) (λ t. omega (arith, one a (omega arith) t, lt))),
-          count_single p (a + 1) n j (omega (arith, lt)) (omega arith) e (λ k l t. one k (omega arith) t))
+      | inl same_place ↦ omega (
+        arith,
+        ap bit (ap p same_place ∙ e),
+        count_none p (a + 1) n (λ k l h. false_from_ne_true (p k) (λ t. omega (arith, one k (omega arith) t, same_place))),
+      )
+      | inr (inl lt) ↦ omega (
+        arith,
+        ap bit (false_from_ne_true (p a) (λ t. omega (arith, one a (omega arith) t, lt))),
+        count_single p (a + 1) n j (omega (arith, lt)) (omega arith) e (λ k l t. one k (omega arith) t),
+      )
       | inr (inr gt) ↦ absurd (omega (arith, gt))
     ]
 
@@ -139,15 +145,16 @@ module _ (sets : List (List ℕ)) (size : ℕ) (s : List ℕ) (asked : Contains 
   least_leads n h =
       and_from (leads sets nodes n) (alike sets n m)
       (and_from (list_any (λ t. has t n) sets) (not (list_any (λ k. nat_lt k n && alike sets k n) nodes))
-        (any_from (λ t. has t n) sets s asked (in_set n h.passes))
-        (ap not (none_from (λ k. nat_lt k n && alike sets k n) nodes (Each-all (λ k. (nat_lt k n && alike sets k n) ≡ false) none_less nodes))))
+      (any_from (λ t. has t n) sets s asked (in_set n h.passes))
+      (ap not (none_from (λ k. nat_lt k n && alike sets k n) nodes (Each-all (λ k. (nat_lt k n && alike sets k n) ≡ false) none_less nodes))))
       h.passes
     where
       lt_from_test : (x y : ℕ) → nat_lt x y ≡ true → x < y
       lt_from_test x y e = grind (arith, nat_tests)
+
       none_less : (k : ℕ) → (nat_lt k n && alike sets k n) ≡ false
       none_less k = false_from_ne_true _ (λ t. let both = and_parts (nat_lt k n) (alike sets k n) t in
-        true≢false (sym (alike_trans sets k n m both.1 h.passes) ∙ h.before k (lt_from_test k n both.0)))
+          true≢false (sym (alike_trans sets k n m both.1 h.passes) ∙ h.before k (lt_from_test k n both.0)))
 
   count_leaders : count leader nodes ≡ 1
   count_leaders =
@@ -157,7 +164,7 @@ module _ (sets : List (List ℕ)) (size : ℕ) (s : List ℕ) (asked : Contains 
       ]
     where
       only : (j k : ℕ) → j < size → k < size → leader j ≡ true → leader k ≡ true → k ≡ j
-      only j k a b p q = elim (cases_order j k) [ | inl e ↦ sym e | inr (inl lt) ↦ absurd (one_leader j k a lt p q) | inr (inr gt) ↦ absurd (one_leader k j b gt q p) ]
+      only j k a b p q = elim (cases_order j k) [ inl e ↦ sym e | inr (inl lt) ↦ absurd (one_leader j k a lt p q) | inr (inr gt) ↦ absurd (one_leader k j b gt q p) ]
 
 -- a node that is in an asked set is in exactly one partition in that set
 pub covered : (i : Space) (sets : List (List ℕ)) (s m : ℕ) → Contains sets (set_at i s) → m < i.nodes → has (set_at i s) m ≡ true →
@@ -173,5 +180,5 @@ covered i sets s m asked small there =
     ∙ sum_of-map f g (filter (leads sets ns) ns)
     ∙ sum_of-filter (λ n. f (g n)) (leads sets ns) ns
     ∙ sum_of-eq (λ n. cond (leads sets ns n) (f (g n)) 0) (λ n. bit (leader sets i.nodes S asked m small there n)) ns
-        (Each-all _ (term sets i.nodes S asked m small there) ns)
+    (Each-all _ (term sets i.nodes S asked m small there) ns)
     ∙ count_leaders sets i.nodes S asked m small there

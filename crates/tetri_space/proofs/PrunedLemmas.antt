@@ -10,7 +10,7 @@ use Rattle.tetri_strl.specs.WellMade.{peak, peaks, peak_joined, PEAK, HasChild, 
 use Rattle.tetri_strl.specs.Worth.{greatest_of, added_of}
 use Rattle.tetri_strl.proofs.PartsApart.{AreApart, AreApartOf}
 use Rattle.tetri_space.specs.Lists.{Each, EachPair}
-use Rattle.tetri_space.specs.Partitions.{with_left, bids_left, set_at, asked}
+use Rattle.tetri_space.specs.Partitions.{with_left, bids_left, set_at, sets_in, asked}
 use Rattle.tetri_space.specs.Space.{Bid, Space}
 use Rattle.tetri_space.proofs.ListLemmas.{Each-map}
 
@@ -196,7 +196,7 @@ module _ (from to : ℕ) where
   lefts_jobs [] h = tt
   lefts_jobs (b ∷ bs) h = pair_left b.job (pruned from to b.expr) (bids_left from to bs) (lefts_jobs_each (λ j. b.job ≡ j → ⊥) bs h.0) (lefts_jobs bs h.1)
 
-  abbrev AllLeavesOf : List Bid → Bid → Type 0
+  abbrev pub AllLeavesOf : List Bid → Bid → Type 0
   AllLeavesOf bs b = (l : Leaf) → Contains (leaves b.expr) l → IsLeafOf from to bs b.job l
 
   wider : (c : Bid) (bs : List Bid) (job : ℕ) (l : Leaf) → IsLeafOf from to bs job l → IsLeafOf from to (c ∷ bs) job l
@@ -206,22 +206,25 @@ module _ (from to : ℕ) where
   leaves_left b bs None h = tt
   leaves_left b bs (Some t) h = λ l at. let here = h l at in record { bid = b; among = (0, omega arith, refl); job = refl; below = here.0; in_range = here.1 }
 
-  lefts_leaves : (bs : List Bid) → Each (AllLeavesOf bs) (bids_left from to bs)
+  pub lefts_leaves : (bs : List Bid) → Each (AllLeavesOf bs) (bids_left from to bs)
   lefts_leaves [] = tt
   lefts_leaves (b ∷ bs) =
       Each-left (AllLeavesOf (b ∷ bs)) b.job (pruned from to b.expr) (bids_left from to bs) (leaves_left b bs (pruned from to b.expr) (left_leaves from to b.expr))
       (Each-map (AllLeavesOf bs) (AllLeavesOf (b ∷ bs)) (λ c h l at. wider b bs c.job l (h l at)) (bids_left from to bs) (lefts_leaves bs))
 
-pub asked_has : (i : Space) (os : List Bid) (b : Bid) (l : Leaf) → Contains os b → Contains (leaves b.expr) l → Contains (asked i os) (set_at i l.set)
-asked_has i [] b l at below = absurd (omega (arith, at.1))
-asked_has i (c ∷ os) b l (zero, lt, e) below =
-    Contains-append_left (map (λ m. set_at i m.set) (leaves c.expr)) (asked i os) (set_at i l.set)
-    (in_map (leaves c.expr) (subst (λ (d : Bid). Contains (leaves d.expr) l) (sym e) below))
-  where
-    in_map : (ls : List Leaf) → Contains ls l → Contains (map (λ m. set_at i m.set) ls) (set_at i l.set)
-    in_map [] at = absurd (omega (arith, at.1))
-    in_map (m ∷ ls) (zero, lt, e) = (0, omega arith, ap (λ z. set_at i z.set) e)
-    in_map (m ∷ ls) (suc k, lt, e) = let rest = in_map ls (k, omega (arith, lt), e) in (suc rest.0, omega (arith, rest.1), rest.2)
-asked_has i (c ∷ os) b l (suc k, lt, e) below =
-    Contains-append_right (map (λ m. set_at i m.set) (leaves c.expr)) (asked i os) (set_at i l.set) (asked_has i os b l (k, omega (arith, lt), e) below)
+pub in_map : {X Y : Type 0} (f : X → Y) (xs : List X) (x : X) → Contains xs x → Contains (map f xs) (f x)
+in_map f [] x at = absurd (omega (arith, at.1))
+in_map f (y ∷ xs) x (zero, lt, e) = (0, omega arith, ap f e)
+in_map f (y ∷ xs) x (suc k, lt, e) = let rest = in_map f xs x (k, omega (arith, lt), e) in (suc rest.0, omega (arith, rest.1), rest.2)
 
+-- the set of a leaf is among those that the bids name
+pub sets_in_has : (bs : List Bid) (b : Bid) (l : Leaf) → Contains bs b → Contains (leaves b.expr) l → Contains (sets_in bs) l.set
+sets_in_has [] b l at below = absurd (omega (arith, at.1))
+sets_in_has (c ∷ bs) b l (zero, lt, e) below =
+    Contains-append_left (map (λ m. m.set) (leaves c.expr)) (sets_in bs) l.set
+    (in_map (λ m. m.set) (leaves c.expr) l (subst (λ (d : Bid). Contains (leaves d.expr) l) (sym e) below))
+sets_in_has (c ∷ bs) b l (suc k, lt, e) below =
+    Contains-append_right (map (λ m. m.set) (leaves c.expr)) (sets_in bs) l.set (sets_in_has bs b l (k, omega (arith, lt), e) below)
+
+pub asked_has : (s : Space) (bs : List Bid) (b : Bid) (l : Leaf) → Contains bs b → Contains (leaves b.expr) l → Contains (asked s bs) (set_at s l.set)
+asked_has s bs b l at below = in_map (set_at s) (sets_in bs) l.set (sets_in_has bs b l at below)

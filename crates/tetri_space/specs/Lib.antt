@@ -1,4 +1,5 @@
 pub mod Broken
+pub mod Finding
 pub mod Free
 pub mod Lawful
 pub mod Lists

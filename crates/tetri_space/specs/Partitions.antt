@@ -1,11 +1,12 @@
 -- Groups of nodes that the live leaves cannot tell apart, and how many of their nodes are free.
-use Rattle.std.specs.Prelude.{ℕ, ◌+◌, Bool, true, ◌&&◌, not, nat_lt, nat_le, List, [], ◌∷◌, ◌++◌, map, length, slice_index_or, Option, Some, None}
+use Rattle.std.specs.Prelude.{◌≡◌, ℕ, ◌+◌, ◌<◌, Bool, true, ◌&&◌, not, nat_lt, nat_le, List, [], ◌∷◌, ◌++◌, map, length, slice_index_or, Contains, Option, Some, None}
 use Rattle.std.specs.List.{list_any, list_all, filter, range_with_len}
 use Rattle.tetri_strl.specs.declared.expr.Leaf.{Leaf}
 use Rattle.tetri_strl.specs.Prune.{pruned}
 use Rattle.tetri_strl.specs.Tree.{Tree, leaves}
 use Rattle.tetri_space.specs.Lists.{has, same, count}
-use Rattle.tetri_space.specs.Space.{Bid, Space}
+use Rattle.tetri_space.specs.Space.{Bid, Space, bid}
+use Rattle.tetri_space.specs.declared.parts.Partitions as made
 
 -- a job with what is left of its expression, before further bids; none where nothing is left
 abbrev pub with_left : ℕ → Option Tree → List Bid → List Bid
@@ -25,10 +26,14 @@ live_bids s = bids_left s.now (s.now + s.window) s.bids
 abbrev pub set_at : Space → ℕ → List ℕ
 set_at s k = slice_index_or s.sets k []
 
--- the sets that the leaves of bids name
+-- the numbers of the sets that the leaves of bids name
+abbrev pub sets_in : List Bid → List ℕ
+sets_in [] = []
+sets_in (b ∷ bs) = map (λ l. l.set) (leaves b.expr) ++ sets_in bs
+
+-- these sets
 abbrev pub asked : Space → List Bid → List (List ℕ)
-asked s [] = []
-asked s (b ∷ bs) = map (λ l. set_at s l.set) (leaves b.expr) ++ asked s bs
+asked s bs = map (set_at s) (sets_in bs)
 
 -- two nodes are in exactly the same sets
 abbrev pub alike : List (List ℕ) → ℕ → ℕ → Bool
@@ -64,3 +69,33 @@ is_free s n t = nat_lt n s.nodes && not (slice_index_or s.drained n true) && nat
 -- how many nodes of a partition are free in a slot
 abbrev pub available : Space → List (List ℕ) → ℕ → ℕ → ℕ
 available s parts p t = count (λ n. is_free s n t) (part_at parts p)
+
+-- What was found of an instance: what is left of its bids in the window, the nodes of each partition, and the
+-- partitions in each set that a live leaf names.
+pub record Parts : Type 0 where
+  pub bids : List Bid
+  pub groups : List (List ℕ)
+  pub inside : List (List ℕ)
+
+-- what partitions say
+abbrev pub parts_of : made.Partitions → Parts
+parts_of p = record {
+  bids = map bid p.offers.items;
+  groups = p.groups.items;
+  inside = map (λ v. v.items) p.inside.items;
+}
+
+-- the partitions in the set of this number, if some live leaf names it
+abbrev pub parts_found : Parts → ℕ → List ℕ
+parts_found p k = slice_index_or p.inside k []
+
+-- the set's partitions were found
+pub record IsFoundIn (s : Space) (p : Parts) (k : ℕ) : Type 0 where
+  pub known : k < length p.inside
+  pub parts : parts_found p k ≡ parts_in s (partitions s) k
+
+-- these are the partitions of the instance
+pub record ArePartitionsOf (s : Space) (p : Parts) : Type 0 where
+  pub bids : p.bids ≡ live_bids s
+  pub groups : p.groups ≡ partitions s
+  pub inside : (k : ℕ) → Contains (sets_in (live_bids s)) k → IsFoundIn s p k
