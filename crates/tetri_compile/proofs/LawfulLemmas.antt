@@ -31,36 +31,15 @@ use Rattle.tetri_space.specs.Partitions.{with_left, bids_left, live_bids, asked,
 use Rattle.tetri_space.specs.Sound.{IsSoundBid, IsSound}
 use Rattle.tetri_space.specs.Space.{Bid, Space, leaf_in, IsLive, Covers}
 use Rattle.tetri_space.specs.Total.{bid_worth, total_in}
+use Rattle.tetri_space.proofs.FreeLemmas.{free_decides}
 use Rattle.tetri_space.proofs.LawLemmas.{granted_right, dead_granted}
 use Rattle.tetri_space.proofs.LeafLemmas.{find-by_key, leaf_in-found}
 use Rattle.tetri_space.proofs.ListLemmas.{eq_from_test, test_from_eq, Each-map, Each-all, Each-at, Each-from, EachPair-from, EachPair-with, any_from, sum_of-filter-le}
 use Rattle.tetri_space.proofs.PartitionLemmas.{covered}
-use Rattle.tetri_space.proofs.PrunedLemmas.{OfLeft, Each-left, AreFrom, IsGood, OtherJob, asked_has, left_leaves, lefts_good, lefts_jobs}
+use Rattle.tetri_space.proofs.PrunedLemmas.{IsLeftOf, each_left_of, OfLeft, AreFrom, IsGood, OtherJob, asked_has, left_leaves, lefts_good, lefts_jobs}
 use Rattle.tetri_compile.specs.Allotted.{suits, earning, trimmed_for}
 use Rattle.tetri_compile.proofs.FairLemmas.{IsRightFor, IsKept, IsFair, HoldsApart, worth_of_bids, granted_total, lt_from_test, le_from_test}
 use Rattle.tetri_compile.proofs.ThriftOfLeft.{left_thrifty}
-
--- ---- what is left of a bid comes from the bid
-pub record IsLeftOf (from to : ℕ) (bs : List Bid) (b : Bid) : Type 0 where
-  pub whole : Bid
-  pub among : Contains bs whole
-  pub job : whole.job ≡ b.job
-  pub left : pruned from to whole.expr ≡ Some b.expr
-
-module _ (from to : ℕ) where
-  wider : (c : Bid) (bs : List Bid) (b : Bid) → IsLeftOf from to bs b → IsLeftOf from to (c ∷ bs) b
-  wider c bs b h = record { whole = h.whole; among = (suc h.among.0, omega (arith, h.among.1), h.among.2); job = h.job; left = h.left }
-
-  first_left : (b : Bid) (bs : List Bid) (o : Option Tree) → pruned from to b.expr ≡ o →
-      OfLeft (λ u. IsLeftOf from to (b ∷ bs) (record { job = b.job; expr = u })) o
-  first_left b bs None e = tt
-  first_left b bs (Some u) e = record { whole = b; among = (0, omega arith, refl); job = refl; left = e }
-
-  pub each_left_of : (bs : List Bid) → Each (IsLeftOf from to bs) (bids_left from to bs)
-  each_left_of [] = tt
-  each_left_of (b ∷ bs) =
-      Each-left (IsLeftOf from to (b ∷ bs)) b.job (pruned from to b.expr) (bids_left from to bs) (first_left b bs (pruned from to b.expr) refl)
-      (Each-map (IsLeftOf from to bs) (IsLeftOf from to (b ∷ bs)) (λ c h. wider b bs c h) (bids_left from to bs) (each_left_of bs))
 
 -- ---- tests of what is known
 has_from : (ns : List ℕ) (n : ℕ) → Contains ns n → has ns n ≡ true
@@ -74,22 +53,6 @@ contains_from (m ∷ ns) n e = by_test (m == n) (λ t. eq_from_test m n t) (λ t
     by_test true same rest t = (0, omega arith, same refl)
     by_test false same rest t = let later = rest t in (suc later.0, omega (arith, later.1), later.2)
 
-at_place : {X : Type 0} (xs : List X) (k : ℕ) (x d : X) → slice_get xs k ≡ Some x → slice_index_or xs k d ≡ x
-at_place [] k x d e = absurd cc
-at_place (y ∷ ys) zero x d e = cc
-at_place (y ∷ ys) (suc k) x d e = at_place ys k x d e
-
-pub free_test : (s : Space) (n t : ℕ) → IsFree s n t → is_free s n t ≡ true
-free_test s n t free =
-    and_from (nat_lt n s.nodes && not (slice_index_or s.drained n true)) (nat_le (slice_index_or s.busy_until n 0) t)
-    (and_from (nat_lt n s.nodes) (not (slice_index_or s.drained n true)) (lt_test n s.nodes free.there) (ap not (at_place s.drained n false true free.not_drained)))
-    (le_test (slice_index_or s.busy_until n 0) t free.idle)
-  where
-    lt_test : (x y : ℕ) → x < y → nat_lt x y ≡ true
-    lt_test x y h = grind (arith, nat_tests)
-    le_test : (x y : ℕ) → x ≤ y → nat_le x y ≡ true
-    le_test x y h = grind (arith, nat_tests)
-
 ascends_from : (ns : List ℕ) → IsStrictlyIncreasing ns → Ascends ns
 ascends_from ns h = EachPair-from (λ m n. m < n) ns (AllPairs-from_increasing ns h)
 
@@ -102,7 +65,7 @@ right_for s l nodes h = record {
   few = h.few;
   in_set = Each-from (λ n. has (set_at s l.set) n ≡ true) nodes (λ n at. has_from (set_at s l.set) n (All-contains (Contains (set_at s l.set)) nodes n h.in_set at));
   idle = Each-from (λ n. (slot : ℕ) → l.start ≤ slot → slot < l.start + l.dur → is_free s n slot ≡ true) nodes
-      (λ n at slot low high. free_test s n slot (All-contains (λ m. (t : ℕ) → Covers l t → IsFree s m t) nodes n h.free at slot (record { begun = low; not_over = high })));
+      (λ n at slot low high. (free_decides s n slot).1 (All-contains (λ m. (t : ℕ) → Covers l t → IsFree s m t) nodes n h.free at slot (record { begun = low; not_over = high })));
 }
 
 starts : (from to : ℕ) (l : Leaf) → from ≤ l.start → l.start < to → starts_in from to l ≡ true

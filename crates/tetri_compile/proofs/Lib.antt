@@ -4,8 +4,11 @@ pub mod FairLemmas
 pub mod FlatLemmas
 pub mod FormLemmas
 pub mod GrantLemmas
+pub mod KidLemmas
 pub mod LawLemmas
 pub mod LawfulLemmas
+pub mod SizeLemmas
 pub mod TallyLemmas
 pub mod ThriftOfLeft
 pub mod WalkLemmas
+pub mod WidthLemmas

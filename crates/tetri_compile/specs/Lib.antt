@@ -3,4 +3,5 @@ pub mod Draft
 pub mod Flat
 pub mod Forms
 pub mod Marks
+pub mod Sizes
 pub mod Walk

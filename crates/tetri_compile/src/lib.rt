@@ -4,5 +4,7 @@
 #![tactic(auto)]
 
 mod compiling;
+mod sizes;
 
 pub use compiling::{Compiled, Count};
+pub use sizes::size;

@@ -2,11 +2,12 @@
 use Rattle.std.proofs.Common.{◌≡◌, ◌⊎◌, ℕ, zero, suc, ◌+◌, ◌*◌, ◌<◌, ◌≤◌, max, Bool, true, false, cond, List, [], ◌∷◌, ◌++◌, length, map, Option, Some, None, is_none, Contains, refl, sym, ap, ◌∙◌, subst, arith, ⊎_elim, le_trans}
 use Rattle.std.proofs.Math.Nat.{mul-le-mul_left}
 use Rattle.std.specs.List.{list_any}
+use Rattle.std.proofs.lemmas.List.{length-append}
 use Rattle.std.proofs.lemmas.List.Elements.{Contains-append_left, Contains-append_right, Contains-append_cases}
 use Rattle.tetri_strl.specs.declared.expr.Leaf.{Leaf}
 use Rattle.tetri_strl.specs.Prune.{starts_in, kept, join_kept, pruned_join, pruned_scale, pruned_barrier, pruned, pruned_of}
 use Rattle.tetri_strl.specs.Tree.{Operator, greatest, least, added, Tree, one, join, scale, barrier, Trees, none, more, row, leaves, leaves_of, numbers, numbers_of}
-use Rattle.tetri_strl.specs.WellMade.{peak, peaks, peak_joined, PEAK, HasChild, IsSound, AreSound}
+use Rattle.tetri_strl.specs.WellMade.{peak, peaks, peak_joined, PEAK, HasChild, IsSound, AreSound, depth, depth_of}
 use Rattle.tetri_strl.specs.Worth.{greatest_of, added_of}
 use Rattle.tetri_strl.proofs.PartsApart.{AreApart, AreApartOf}
 use Rattle.tetri_space.specs.Lists.{Each, EachPair}
@@ -116,7 +117,7 @@ module _ (from to : ℕ) where
         cons_apart (numbers t) (numbers_of ts) (pruned from to t) (pruned_of from to ts) apart.2 (left_numbers t) (left_numbers_of ts) (left_apart t apart.0) (left_apart_of ts apart.1)
 
   -- sound, with a peak that is no greater
-  abbrev IsLess : ℕ → Tree → Type 0
+  abbrev pub IsLess : ℕ → Tree → Type 0
   IsLess p u = IsSound u × (peak u ≤ p)
 
   pub record AreLess (ps : List ℕ) (us : Trees) : Type 0 where
@@ -228,3 +229,68 @@ sets_in_has (c ∷ bs) b l (suc k, lt, e) below =
 
 pub asked_has : (s : Space) (bs : List Bid) (b : Bid) (l : Leaf) → Contains bs b → Contains (leaves b.expr) l → Contains (asked s bs) (set_at s l.set)
 asked_has s bs b l at below = in_map (set_at s) (sets_in bs) l.set (sets_in_has bs b l at below)
+
+-- ---- what is left is no larger
+pub record IsSmaller (t u : Tree) : Type 0 where
+  pub leaves_le : length (leaves u) ≤ length (leaves t)
+  pub depth_le : depth u ≤ depth t
+
+record AreSmaller (ts us : Trees) : Type 0 where
+  leaves_le : length (leaves_of us) ≤ length (leaves_of ts)
+  depth_le : depth_of us ≤ depth_of ts
+
+cons_smaller : (t : Tree) (ts : Trees) (o : Option Tree) (os : List (Option Tree)) → OfLeft (IsSmaller t) o → AreSmaller ts (row (kept os)) → AreSmaller (more t ts) (row (kept (o ∷ os)))
+cons_smaller t ts None os h k = record { leaves_le = omega (arith, k.leaves_le, length-append (leaves t) (leaves_of ts)); depth_le = omega (arith, k.depth_le) }
+cons_smaller t ts (Some u) os h k = record {
+  leaves_le = omega (arith, h.leaves_le, k.leaves_le, length-append (leaves t) (leaves_of ts), length-append (leaves u) (leaves_of (row (kept os))));
+  depth_le = omega (arith, h.depth_le, k.depth_le);
+}
+
+module _ (from to : ℕ) where
+  mutual
+    pub left_smaller : (t : Tree) → OfLeft (IsSmaller t) (pruned from to t)
+    left_smaller (one l) = by_count (starts_in from to l)
+      where
+        by_count : (b : Bool) → OfLeft (IsSmaller (one l)) (cond b (Some (one l)) None)
+        by_count true = record { leaves_le = omega arith; depth_le = omega arith }
+        by_count false = tt
+    left_smaller (join op ts) =
+        of_join (IsSmaller (join op ts)) op (pruned_of from to ts) (λ some. let below = left_smaller_of ts in record { leaves_le = below.leaves_le; depth_le = omega (arith, below.depth_le) })
+    left_smaller (scale t s) =
+        of_scale (IsSmaller (scale t s)) (IsSmaller t) s (pruned from to t) (λ u h. record { leaves_le = h.leaves_le; depth_le = omega (arith, h.depth_le) }) (left_smaller t)
+    left_smaller (barrier t v) =
+        of_bar (IsSmaller (barrier t v)) (IsSmaller t) v (pruned from to t) (λ u h. record { leaves_le = h.leaves_le; depth_le = omega (arith, h.depth_le) }) (left_smaller t)
+
+    left_smaller_of : (ts : Trees) → AreSmaller ts (row (kept (pruned_of from to ts)))
+    left_smaller_of none = record { leaves_le = omega arith; depth_le = omega arith }
+    left_smaller_of (more t ts) = cons_smaller t ts (pruned from to t) (pruned_of from to ts) (left_smaller t) (left_smaller_of ts)
+
+-- ---- what is left of a bid comes from the bid
+pub record IsLeftOf (from to : ℕ) (bs : List Bid) (b : Bid) : Type 0 where
+  pub whole : Bid
+  pub among : Contains bs whole
+  pub job : whole.job ≡ b.job
+  pub left : pruned from to whole.expr ≡ Some b.expr
+
+module _ (from to : ℕ) where
+  among_more : (c : Bid) (bs : List Bid) (b : Bid) → IsLeftOf from to bs b → IsLeftOf from to (c ∷ bs) b
+  among_more c bs b h = record { whole = h.whole; among = (suc h.among.0, omega (arith, h.among.1), h.among.2); job = h.job; left = h.left }
+
+  first_left : (b : Bid) (bs : List Bid) (o : Option Tree) → pruned from to b.expr ≡ o →
+      OfLeft (λ u. IsLeftOf from to (b ∷ bs) (record { job = b.job; expr = u })) o
+  first_left b bs None e = tt
+  first_left b bs (Some u) e = record { whole = b; among = (0, omega arith, refl); job = refl; left = e }
+
+  pub each_left_of : (bs : List Bid) → Each (IsLeftOf from to bs) (bids_left from to bs)
+  each_left_of [] = tt
+  each_left_of (b ∷ bs) =
+      Each-left (IsLeftOf from to (b ∷ bs)) b.job (pruned from to b.expr) (bids_left from to bs) (first_left b bs (pruned from to b.expr) refl)
+      (Each-map (IsLeftOf from to bs) (IsLeftOf from to (b ∷ bs)) (λ c h. among_more b bs c h) (bids_left from to bs) (each_left_of bs))
+
+  pub bids_left-shorter : (bs : List Bid) → length (bids_left from to bs) ≤ length bs
+  bids_left-shorter [] = omega arith
+  bids_left-shorter (b ∷ bs) = by_left (pruned from to b.expr) (bids_left-shorter bs)
+    where
+      by_left : (o : Option Tree) → length (bids_left from to bs) ≤ length bs → length (with_left b.job o (bids_left from to bs)) ≤ suc (length bs)
+      by_left None le = omega arith
+      by_left (Some t) le = omega arith

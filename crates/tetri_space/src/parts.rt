@@ -14,5 +14,6 @@ pub struct Partitions {
     pub(crate) groups: Vec<NodeList>,
     pub(crate) inside: Vec<Vec<u32>>,
     ghost few: { length groups.items ≤ 4096 },
+    ghost few_sets: { length inside.items ≤ 4096 },
     ghost ascending: { All (λ v. IsStrictlyIncreasing v.items) inside.items },
 }
