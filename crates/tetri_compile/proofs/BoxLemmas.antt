@@ -12,7 +12,8 @@ use Rattle.tetri_space.specs.Partitions.{part_at}
 use Rattle.tetri_space.specs.Space.{Bid, Space}
 use Rattle.tetri_space.proofs.ListLemmas.{sum_of-le, bit-le, Each-from, Each-map, Each-all}
 use Rattle.tetri_compile.specs.Allotted.{suits, granted_in, bid_values, values_of_bids}
-use Rattle.tetri_compile.specs.Draft.{Tally, bid_uppers}
+use Rattle.tetri_compile.specs.declared.outline.Tally.{Tally}
+use Rattle.tetri_compile.specs.Draft.{bid_uppers}
 use Rattle.tetri_compile.specs.Marks.{mark, own_values, values, values_of}
 use Rattle.tetri_compile.specs.Walk.{ones, own_uppers, uppers, uppers_of, best}
 use Rattle.tetri_compile.proofs.FairLemmas.{inside, room, IsFair, kept, taken, value, held, all_right, granted_le, granted_few, granted_total, kept-le, supply_le, good}

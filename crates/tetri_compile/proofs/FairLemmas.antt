@@ -19,7 +19,8 @@ use Rattle.tetri_space.specs.Partitions.{set_at, part_at, parts_in, is_free, ava
 use Rattle.tetri_space.specs.Space.{Bid, Space}
 use Rattle.tetri_space.proofs.ListLemmas.{eq_from_test, Each-at, Each-from, Each-map, Each-all, Each-append, Each-filter, Each-passed, Each-across, Each-both, EachPair-append, EachPair-filter, EachPair-with, sum_of-le, sum_of-eq, sum_of-filter-le, filter-ascends, range-ascends}
 use Rattle.tetri_compile.specs.Allotted.{suits, granted_in, bid_values, values_of_bids}
-use Rattle.tetri_compile.specs.Draft.{Tally, is_held, tally_form, supply_row, tallies, bid_uppers, objective, bid_rows, bid_tallies, part_supply, supply, draft_of}
+use Rattle.tetri_compile.specs.declared.outline.Tally.{Tally}
+use Rattle.tetri_compile.specs.Draft.{is_held, tally_form, supply_row, tallies, bid_uppers, objective, bid_rows, bid_tallies, part_supply, supply, draft_of}
 use Rattle.tetri_compile.specs.Marks.{mark, values}
 use Rattle.tetri_compile.specs.Forms.{share, at_point, Limit, IsMet, AreMet, Reads}
 use Rattle.tetri_compile.specs.Walk.{uppers, width, form, rows}

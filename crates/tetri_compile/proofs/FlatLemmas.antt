@@ -19,7 +19,8 @@ use Rattle.tetri_space.specs.Lists.{sum_of}
 use Rattle.tetri_space.proofs.ListLemmas.{test_from_eq, test_from_ne, eq_from_test, sum_of-plus, sum_of-eq, sum_of-zero, Each-all}
 use Rattle.tetri_compile.specs.Draft.{Draft}
 use Rattle.tetri_compile.specs.Flat.{FlatRow, plain_row, coefficient, terms_at, flat_row, flat}
-use Rattle.tetri_compile.specs.Forms.{Share, Form, at_point, Limit, IsMet, AreMet, Reads, Within}
+use Rattle.tetri_compile.specs.declared.outline.Share.{Share}
+use Rattle.tetri_compile.specs.Forms.{Form, at_point, Limit, IsMet, AreMet, Reads, Within}
 
 -- a point's number of a column
 abbrev pub at_column : List ℤ → ℕ → ℕ

@@ -22,7 +22,8 @@ use Rattle.tetri_space.specs.Space.{Bid, bid}
 use Rattle.tetri_space.proofs.BidLemmas.{next_bid}
 use Rattle.tetri_space.proofs.GroupLemmas.{range_next, range_push}
 use Rattle.tetri_space.proofs.ListLemmas.{eq_from_test, test_from_eq, any_from, sum_of-append, sum_of-eq, sum_of-swap, Each-all, Each-from, range_from, range_contains}
-use Rattle.tetri_compile.specs.Draft.{Tally, leaf_tallies, is_held, supply_row, tallies, tallies_of, bid_uppers, bid_rows, bid_tallies, part_supply, supply}
+use Rattle.tetri_compile.specs.declared.outline.Tally.{Tally}
+use Rattle.tetri_compile.specs.Draft.{leaf_tallies, is_held, supply_row, tallies, tallies_of, bid_uppers, bid_rows, bid_tallies, part_supply, supply}
 use Rattle.tetri_compile.specs.Forms.{Limit}
 use Rattle.tetri_compile.specs.Sizes.{width_by, widths_by, widths_marked, row_total, row_totals, row_totals_under, covers, leaves_in, is_used, IsUsable, HasUsableParts}
 use Rattle.tetri_compile.specs.Walk.{ones, own_uppers, uppers, uppers_of, width, rows, rows_of, rows_under, leaf_rows}

@@ -7,7 +7,8 @@ use Rattle.tetri_strl.specs.declared.expr.Leaf.{Leaf}
 use Rattle.tetri_strl.specs.Tree.{Operator, greatest, least, added, Tree, one, join, scale, barrier, Trees, none, more}
 use Rattle.tetri_strl.specs.Tree.{numbers, numbers_of}
 use Rattle.tetri_strl.specs.Tree.{leaves, leaves_of}
-use Rattle.tetri_compile.specs.Draft.{Tally, leaf_tallies, is_held, tally_form, tallies, tallies_of, bid_tallies}
+use Rattle.tetri_compile.specs.declared.outline.Tally.{Tally}
+use Rattle.tetri_compile.specs.Draft.{leaf_tallies, is_held, tally_form, tallies, tallies_of, bid_tallies}
 use Rattle.tetri_space.specs.Lists.{sum_of, bit, count, has, Each, EachPair, Ascends}
 use Rattle.tetri_compile.specs.Marks.{mark, own_values, values, values_of}
 use Rattle.tetri_compile.specs.Forms.{share, at_point, Reads}

@@ -20,7 +20,8 @@ use Rattle.tetri_space.specs.Space.{Bid, Space}
 use Rattle.tetri_space.proofs.ListLemmas.{Each-get, Each-at, Each-from, Each-all, Each-filter, Each-map, sum_of-append, sum_of-eq, sum_of-le, sum_of-swap, range_from}
 use Rattle.tetri_space.proofs.PartsLemmas.{live_within, filter_shorter}
 use Rattle.tetri_space.proofs.PrunedLemmas.{OfLeft, IsLess, IsLeftOf, IsSmaller, each_left_of, left_smaller, left_sound, sets_in_has, bids_left-shorter}
-use Rattle.tetri_compile.specs.Draft.{Tally, leaf_tallies, is_held, supply_row, tallies, tallies_of, bid_uppers, bid_rows, bid_tallies, part_supply, supply}
+use Rattle.tetri_compile.specs.declared.outline.Tally.{Tally}
+use Rattle.tetri_compile.specs.Draft.{leaf_tallies, is_held, supply_row, tallies, tallies_of, bid_uppers, bid_rows, bid_tallies, part_supply, supply}
 use Rattle.tetri_compile.specs.Flat.{column_count, row_count}
 use Rattle.tetri_compile.specs.Forms.{Limit, limit, share, run}
 use Rattle.tetri_compile.specs.Sizes.{width_by, widths_by, widths_marked, row_total, row_totals, row_totals_under, covers, leaves_in, is_used, IsUsable, HasUsableParts}

@@ -5,16 +5,11 @@ use Rattle.tetri_strl.specs.declared.expr.Leaf.{Leaf}
 use Rattle.tetri_strl.specs.Tree.{Operator, greatest, least, added, Tree, one, join, scale, barrier, Trees, none, more}
 use Rattle.tetri_space.specs.Space.{Bid, Space}
 use Rattle.tetri_space.specs.Partitions.{live_bids, partitions, parts_in, available}
+use Rattle.tetri_compile.specs.declared.outline.Tally.{Tally}
 use Rattle.tetri_compile.specs.Forms.{Form, share, Limit, run}
 use Rattle.tetri_compile.specs.Walk.{own_uppers, uppers, width, form, rows}
 
--- a column that counts the nodes of one partition for a leaf of a job
-pub record Tally : Type 0 where
-  pub column : ℕ
-  pub job : ℕ
-  pub leaf : Leaf
-  pub part : ℕ
-
+-- the columns that count the nodes of a leaf by partition, from number n on
 abbrev pub leaf_tallies : ℕ → Leaf → List ℕ → ℕ → List Tally
 leaf_tallies job l [] n = []
 leaf_tallies job l (p ∷ ps) n = record { column = n; job = job; leaf = l; part = p } ∷ leaf_tallies job l ps (n + 1)

@@ -10,7 +10,8 @@ use Rattle.tetri_space.specs.Space.{Space}
 use Rattle.tetri_compile.specs.declared.compiling.Compiled.{Compiled}
 use Rattle.tetri_compile.specs.declared.compiling.Count.{Count}
 use Rattle.tetri_compile.specs.Forms.{Form, Limit}
-use Rattle.tetri_compile.specs.Draft.{Draft, Tally, draft}
+use Rattle.tetri_compile.specs.declared.outline.Tally.{Tally}
+use Rattle.tetri_compile.specs.Draft.{Draft, draft}
 
 -- a row of a program: the terms are at most the right side
 pub record FlatRow : Type 0 where

@@ -1,12 +1,10 @@
 -- Forms and limits over the columns of a program, in natural numbers, and what they are at a point.
 use Rattle.std.specs.Prelude.{◌≡◌, ℕ, ◌+◌, ◌*◌, ◌≤◌, List, [], ◌∷◌}
 use Rattle.tetri_space.specs.Lists.{sum_of}
+use Rattle.tetri_compile.specs.declared.outline.Inequality.{Inequality}
+use Rattle.tetri_compile.specs.declared.outline.Share.{Share}
 
 -- so many times a column
-pub record Share : Type 0 where
-  pub column : ℕ
-  pub by : ℕ
-
 abbrev pub share : ℕ → ℕ → Share
 share c b = record { column = c; by = b }
 
@@ -33,6 +31,10 @@ pub record Limit : Type 0 where
   pub most : Form
   pub under : Form
   pub plus : ℕ
+
+-- what an inequality says
+abbrev pub plain_limit : Inequality → Limit
+plain_limit r = record { most = r.most.items; under = r.under.items; plus = r.plus }
 
 abbrev pub limit : Form → Form → Limit
 limit f g = record { most = f; under = g; plus = 0 }

@@ -5,3 +5,4 @@ pub mod Forms
 pub mod Marks
 pub mod Sizes
 pub mod Walk
+pub mod Walked

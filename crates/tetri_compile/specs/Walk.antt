@@ -3,7 +3,8 @@ use Rattle.std.specs.Prelude.{ℕ, ◌+◌, ◌/◌, ◌==◌, min, if◌then◌
 use Rattle.tetri_strl.specs.declared.expr.Leaf.{Leaf}
 use Rattle.tetri_strl.specs.Tree.{Operator, greatest, least, added, Tree, one, join, scale, barrier, Trees, none, more}
 use Rattle.tetri_strl.specs.Worth.{worth_by, worths_by}
-use Rattle.tetri_compile.specs.Forms.{Share, share, Form, times, run, Limit, limit}
+use Rattle.tetri_compile.specs.declared.outline.Share.{Share}
+use Rattle.tetri_compile.specs.Forms.{share, Form, times, run, Limit, limit}
 
 -- a list of a one for each tree
 abbrev pub ones : Trees → List ℕ
@@ -13,6 +14,16 @@ ones (more t ts) = 1 ∷ ones ts
 -- the greatest worth, where each leaf is worth its value
 abbrev pub best : Tree → ℕ
 best = worth_by (λ l. l.v)
+
+-- the form and the rows of a leaf under the indicator i, whose columns begin at n; `inside` gives the partitions in a set
+module _ (inside : ℕ → List ℕ) where
+  abbrev pub leaf_form : Leaf → ℕ → ℕ → Form
+  leaf_form l i n = if l.linear then run (l.v / l.k) n (inside l.set) else (share i l.v ∷ [])
+
+  abbrev pub leaf_rows : Leaf → ℕ → ℕ → List Limit
+  leaf_rows l i n =
+      limit (run 1 n (inside l.set)) (share i l.k ∷ [])
+      ∷ (if l.linear then [] else (limit (share i l.k ∷ []) (run 1 n (inside l.set)) ∷ []))
 
 -- `inside` gives the partitions in a set, and `room` how many nodes of a partition are free at a slot
 module _ (inside : ℕ → List ℕ) (room : ℕ → ℕ → ℕ) where
@@ -37,10 +48,13 @@ module _ (inside : ℕ → List ℕ) (room : ℕ → ℕ → ℕ) where
   abbrev pub width : Tree → ℕ
   width t = length (uppers t)
 
+  abbrev pub width_of : Trees → ℕ
+  width_of ts = length (uppers_of ts)
+
   abbrev mutual
     -- the form of a walk under the indicator i, whose own columns begin at n
     pub form : Tree → ℕ → ℕ → Form
-    form (one l) i n = if l.linear then run (l.v / l.k) n (inside l.set) else (share i l.v ∷ [])
+    form (one l) i n = leaf_form inside l i n
     form (join greatest ts) i n = forms ts n (n + length (ones ts))
     form (join least ts) i n = if best (join least ts) == 0 then [] else (share n 1 ∷ [])
     form (join added ts) i n = forms ts n (n + length (ones ts))
@@ -52,15 +66,10 @@ module _ (inside : ℕ → List ℕ) (room : ℕ → ℕ → ℕ) where
     forms none j n = []
     forms (more t ts) j n = form t j n ++ forms ts (j + 1) (n + width t)
 
-  abbrev pub leaf_rows : Leaf → ℕ → ℕ → List Limit
-  leaf_rows l i n =
-      limit (run 1 n (inside l.set)) (share i l.k ∷ [])
-      ∷ (if l.linear then [] else (limit (share i l.k ∷ []) (run 1 n (inside l.set)) ∷ []))
-
   abbrev mutual
     -- the rows of a walk, in order
     pub rows : Tree → ℕ → ℕ → List Limit
-    rows (one l) i n = leaf_rows l i n
+    rows (one l) i n = leaf_rows inside l i n
     rows (join greatest ts) i n = limit (run 1 n (ones ts)) (share i 1 ∷ []) ∷ rows_of ts n (n + length (ones ts))
     rows (join least ts) i n = rows_under ts i n (n + 1)
     rows (join added ts) i n = limit (run 1 n (ones ts)) (share i (length (ones ts)) ∷ []) ∷ rows_of ts n (n + length (ones ts))

@@ -4,7 +4,9 @@
 #![tactic(auto)]
 
 mod compiling;
+mod outline;
 mod sizes;
+mod walking;
 
 pub use compiling::{Compiled, Count};
 pub use sizes::size;
