@@ -35,7 +35,7 @@ module _ (s : Space) (sound : IsSound s) where
       subst (λ o. IsSomeAnd o (λ m. MayBeGranted s m g.nodes)) found lawful
 
   -- nothing is granted to a leaf that is not live
-  dead_granted : (b : Bid) (l : Leaf) (a : List Grant) → Contains s.bids b → Contains (leaves b.expr) l → (IsLive s l → ⊥) →
+  pub dead_granted : (b : Bid) (l : Leaf) (a : List Grant) → Contains s.bids b → Contains (leaves b.expr) l → (IsLive s l → ⊥) →
       All (IsLawfulGrant s) a → granted a b.job l.num ≡ 0
   dead_granted b l [] pending below dead lawful = refl
   dead_granted b l (g ∷ gs) pending below dead lawful =

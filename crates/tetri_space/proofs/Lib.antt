@@ -1,10 +1,17 @@
 pub mod BidLemmas
 pub mod ClashLemmas
+pub mod FindingLemmas
+pub mod FreeLemmas
+pub mod GroupLemmas
 pub mod JobLemmas
 pub mod LawLemmas
 pub mod LawfulLemmas
 pub mod LeafLemmas
+pub mod ListLemmas
 pub mod NodeLemmas
+pub mod PartitionLemmas
+pub mod PartsLemmas
+pub mod PrunedLemmas
 pub mod RuleLemmas
 pub mod SearchLemmas
 pub mod TotalLemmas

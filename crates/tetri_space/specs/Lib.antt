@@ -1,6 +1,9 @@
 pub mod Broken
+pub mod Finding
 pub mod Free
 pub mod Lawful
+pub mod Lists
+pub mod Partitions
 pub mod Sound
 pub mod Space
 pub mod Total

@@ -106,7 +106,7 @@ module _ (value : Leaf → ℕ) where
   pruned_barrier_worth (Some t) v = refl
 
   module _ (from to : ℕ) where
-    abbrev IsNothing : Leaf → Type 0
+    abbrev pub IsNothing : Leaf → Type 0
     IsNothing l = starts_in from to l ≡ false → value l ≡ 0
 
     leaf_left : (l : Leaf) (b : Bool) → (b ≡ false → value l ≡ 0) → worth_kept value (cond b (Some (one l)) None) ≡ value l
@@ -127,7 +127,7 @@ module _ (value : Leaf → ℕ) where
 module _ (from to : ℕ) (a : List Grant) (job : ℕ) where
   mutual
     -- a leaf that is granted nothing is worth nothing
-    each_nothing : (t : Tree) → IsSound t → GrantsOnlyIn from to a job t → EachLeaf (IsNothing (leaf_worth a job) from to) t
+    pub each_nothing : (t : Tree) → IsSound t → GrantsOnlyIn from to a job t → EachLeaf (IsNothing (leaf_worth a job) from to) t
     each_nothing (one l) sound only = λ out. leaf_worth-none a job l sound.0 (only out)
     each_nothing (join op ts) sound only = each_nothing_of ts sound.1 only
     each_nothing (scale t s) sound only = each_nothing t sound.0 only

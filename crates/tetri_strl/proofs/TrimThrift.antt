@@ -151,7 +151,7 @@ no_nodes true true m n never rest = absurd (never refl refl)
 no_nodes true false m n never rest = omega (arith, rest)
 no_nodes false c m n never rest = omega (arith, rest)
 
-ungranted : (a : List Grant) (job leaf : ℕ) → (Contains (held_leaves a job) leaf → ⊥) → granted a job leaf ≡ 0
+pub ungranted : (a : List Grant) (job leaf : ℕ) → (Contains (held_leaves a job) leaf → ⊥) → granted a job leaf ≡ 0
 ungranted [] job leaf away = refl
 ungranted (g ∷ gs) job leaf away =
     no_nodes (g.job == job) (g.leaf == leaf) (length g.nodes) (granted gs job leaf)

@@ -1,0 +1,104 @@
+-- The numbers of a form stay small, and its columns are the walk's.
+use Rattle.std.proofs.Common.{◌≡◌, ℕ, zero, suc, ◌+◌, ◌*◌, ◌/◌, ◌<◌, ◌≤◌, ◌==◌, max, min, Bool, true, false, cond, List, [], ◌∷◌, ◌++◌, length, map, refl, sym, ap, ◌∙◌, subst, arith, le_trans}
+use Rattle.std.specs.Prelude.{if◌then◌else◌}
+use Rattle.std.proofs.Math.Nat.{mul-le-mul_left, div-mul-le_self}
+use Rattle.std.proofs.lemmas.Bool.{cond_both}
+use Rattle.std.proofs.lemmas.Bool.Decides.{nat_tests}
+use Rattle.std.proofs.lemmas.List.{length-append, length-map}
+use Rattle.tetri_strl.specs.declared.expr.Leaf.{Leaf}
+use Rattle.tetri_strl.specs.Tree.{Operator, greatest, least, added, Tree, one, join, scale, barrier, Trees, none, more}
+use Rattle.tetri_strl.specs.WellMade.{peak, peaks, IsGoodLeaf, IsSound, AreSound}
+use Rattle.tetri_strl.specs.Worth.{greatest_of, least_of, added_of, worth_by, worths_by}
+use Rattle.tetri_strl.proofs.WorthLemmas.{worth_le_peak}
+use Rattle.tetri_space.specs.Lists.{Each}
+use Rattle.tetri_compile.specs.declared.outline.Share.{Share}
+use Rattle.tetri_compile.specs.Forms.{share, Form, times, run, Limit, limit}
+use Rattle.tetri_compile.specs.Walk.{ones, best, own_uppers, uppers, uppers_of, width, form, forms, rows, rows_of, rows_under}
+use Rattle.tetri_space.proofs.ListLemmas.{Each-map, Each-append}
+
+run_small : {X : Type 0} (b m n : ℕ) (xs : List X) → b ≤ m → Each (λ s. s.by ≤ m) (run b n xs)
+run_small b m n [] le = tt
+run_small b m n (x ∷ xs) le = (le, run_small b m (n + 1) xs le)
+
+times_small : (s m : ℕ) (f : Form) → Each (λ p. p.by ≤ m) f → Each (λ p. p.by ≤ s * m) (times s f)
+times_small s m [] h = tt
+times_small s m (p ∷ ps) h = (mul-le-mul_left s h.0, times_small s m ps h.1)
+
+abbrev AllBelow : ℕ → List ℕ → Type 0
+AllBelow m [] = Unit {0}
+AllBelow m (x ∷ xs) = (x ≤ m) × AllBelow m xs
+
+below_up : (m n : ℕ) (xs : List ℕ) → m ≤ n → AllBelow m xs → AllBelow n xs
+below_up m n [] le h = tt
+below_up m n (x ∷ xs) le h = (le_trans h.0 le, below_up m n xs le h.1)
+
+below_greatest : (xs : List ℕ) → AllBelow (greatest_of xs) xs
+below_greatest [] = tt
+below_greatest (x ∷ xs) = (omega arith, below_up (greatest_of xs) (max x (greatest_of xs)) xs (omega arith) (below_greatest xs))
+
+below_added : (xs : List ℕ) → AllBelow (added_of xs) xs
+below_added [] = tt
+below_added (x ∷ xs) = (omega arith, below_up (added_of xs) (x + added_of xs) xs (omega arith) (below_added xs))
+
+least_small : (n b m : ℕ) → b ≤ m → Each (λ s. s.by ≤ m) (if b == 0 then [] else (share n 1 ∷ []))
+least_small n b m le = by_test (b == 0) (λ e. some b e)
+  where
+    some : (k : ℕ) → (k == 0) ≡ false → 1 ≤ k
+    some k e = grind (arith, nat_tests)
+    by_test : (t : Bool) → (t ≡ false → 1 ≤ b) → Each (λ s. s.by ≤ m) (cond t [] (share n 1 ∷ []))
+    by_test true f = tt
+    by_test false f = (omega (arith, f refl), tt)
+
+module _ (inside : ℕ → List ℕ) (room : ℕ → ℕ → ℕ) where
+  mutual
+    -- each coefficient of a form is at most the peak
+    pub form_small : (t : Tree) → IsSound t → (i n : ℕ) → Each (λ s. s.by ≤ peak t) (form inside room t i n)
+    form_small (one l) sound i n =
+        cond_both l.linear (run (l.v / l.k) n (inside l.set)) (share i l.v ∷ []) (λ f. Each (λ s. s.by ≤ l.v) f)
+        (λ e. run_small (l.v / l.k) l.v n (inside l.set) (omega (arith, mul-le-mul_left (l.v / l.k) sound.0.some_nodes, div-mul-le_self l.v l.k)))
+        (λ e. (omega arith, tt))
+    form_small (join greatest ts) sound i n = forms_small ts sound.1 (greatest_of (peaks ts)) (below_greatest (peaks ts)) n (n + length (ones ts))
+    form_small (join least ts) sound i n =
+        least_small n (best (join least ts)) (greatest_of (peaks ts)) (worth_le_peak (λ l. l.v) (λ l g. omega arith) (join least ts) sound)
+    form_small (join added ts) sound i n = forms_small ts sound.1 (added_of (peaks ts)) (below_added (peaks ts)) n (n + length (ones ts))
+    form_small (scale t s) sound i n = times_small s (peak t) (form inside room t i n) (form_small t sound.0 i n)
+    form_small (barrier t v) sound i n = (omega arith, tt)
+
+    forms_small : (ts : Trees) → AreSound ts → (m : ℕ) → AllBelow m (peaks ts) → (j n : ℕ) → Each (λ s. s.by ≤ m) (forms inside room ts j n)
+    forms_small none sound m h j n = tt
+    forms_small (more t ts) sound m h j n =
+        Each-append (λ s. s.by ≤ m) (form inside room t j n) (forms inside room ts (j + 1) (n + width inside room t))
+        (Each-map (λ s. s.by ≤ peak t) (λ s. s.by ≤ m) (λ s le. le_trans le h.0) (form inside room t j n) (form_small t sound.0 j n))
+        (forms_small ts sound.1 m h.1 (j + 1) (n + width inside room t))
+
+  -- ---- columns
+  run_in : {X : Type 0} (b n top : ℕ) (xs : List X) → n + length xs ≤ top → Each (λ s. s.column < top) (run b n xs)
+  run_in b n top [] le = tt
+  run_in b n top (x ∷ xs) le = (omega arith, run_in b (n + 1) top xs (omega arith))
+
+  times_in : (s top : ℕ) (f : Form) → Each (λ p. p.column < top) f → Each (λ p. p.column < top) (times s f)
+  times_in s top [] h = tt
+  times_in s top (p ∷ ps) h = (h.0, times_in s top ps h.1)
+
+  mutual
+    pub form_in : (t : Tree) (i n top : ℕ) → i < top → n + width inside room t ≤ top → Each (λ s. s.column < top) (form inside room t i n)
+    form_in (one l) i n top low le =
+        cond_both l.linear (run (l.v / l.k) n (inside l.set)) (share i l.v ∷ []) (λ f. Each (λ s. s.column < top) f)
+        (λ e. run_in (l.v / l.k) n top (inside l.set) (omega (arith, length-map (inside l.set) (λ p. min l.k (room p l.start)))))
+        (λ e. (low, tt))
+    form_in (join greatest ts) i n top low le =
+        let w = length-append (ones ts) (uppers_of inside room ts) in
+        forms_in ts n (n + length (ones ts)) top (omega (arith, w)) (omega (arith, w))
+    form_in (join least ts) i n top low le = cond_both (best (join least ts) == 0) [] (share n 1 ∷ []) (λ f. Each (λ s. s.column < top) f) (λ e. tt) (λ e. (omega arith, tt))
+    form_in (join added ts) i n top low le =
+        let w = length-append (ones ts) (uppers_of inside room ts) in
+        forms_in ts n (n + length (ones ts)) top (omega (arith, w)) (omega (arith, w))
+    form_in (scale t s) i n top low le = times_in s top (form inside room t i n) (form_in t i n top low le)
+    form_in (barrier t v) i n top low le = (low, tt)
+
+    forms_in : (ts : Trees) (j n top : ℕ) → j + length (ones ts) ≤ top → n + length (uppers_of inside room ts) ≤ top → Each (λ s. s.column < top) (forms inside room ts j n)
+    forms_in none j n top low le = tt
+    forms_in (more t ts) j n top low le =
+        let w = length-append (uppers inside room t) (uppers_of inside room ts) in
+        Each-append (λ s. s.column < top) (form inside room t j n) (forms inside room ts (j + 1) (n + width inside room t))
+        (form_in t j n top (omega arith) (omega (arith, w))) (forms_in ts (j + 1) (n + width inside room t) top (omega arith) (omega (arith, w)))

@@ -1,0 +1,17 @@
+pub mod BoxLemmas
+pub mod Example
+pub mod FairLemmas
+pub mod FlatLemmas
+pub mod FormLemmas
+pub mod FormSizes
+pub mod GrantLemmas
+pub mod KidLemmas
+pub mod LawLemmas
+pub mod LawfulLemmas
+pub mod OutlineLemmas
+pub mod SizeLemmas
+pub mod TallyLemmas
+pub mod ThriftOfLeft
+pub mod WalkLemmas
+pub mod WalkedLemmas
+pub mod WidthLemmas

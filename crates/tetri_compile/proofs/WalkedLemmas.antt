@@ -1,0 +1,84 @@
+-- What the walks of parts add, put together.
+use Rattle.std.proofs.Common.{◌≡◌, ℕ, ◌+◌, ◌==◌, ◌<◌, ◌^◌, List, [], ◌∷◌, ◌++◌, length, map, refl, sym, ap, ◌∙◌, subst, arith}
+use Rattle.std.specs.Prelude.{if◌then◌else◌}
+use Rattle.std.proofs.lemmas.List.{append_assoc, append-nil, length-append}
+use Rattle.tetri_strl.specs.Tree.{Tree, Trees, join, least, added, more}
+use Rattle.tetri_space.specs.Space.{Space}
+use Rattle.tetri_compile.specs.declared.outline.Inequality.{Inequality}
+use Rattle.tetri_compile.specs.declared.outline.Outline.{Outline}
+use Rattle.tetri_compile.specs.declared.outline.Share.{Share}
+use Rattle.tetri_compile.specs.declared.outline.Tally.{Tally}
+use Rattle.tetri_compile.specs.Draft.{tallies, tallies_of}
+use Rattle.tetri_compile.specs.Forms.{Form, Limit, limit, run, share, plain_limit}
+use Rattle.tetri_compile.specs.Walk.{best, ones, uppers, uppers_of, width, width_of, form, forms, rows, rows_of, rows_under}
+use Rattle.tetri_compile.specs.Walked.{Grows, IsWalked, AreWalked, inside, next_column, room}
+use Rattle.tetri_compile.proofs.OutlineLemmas.{forms_next, uppers_next, rows_next, tallies_next, next_is, grows_more, grows_length}
+
+module _ (s : Space) (job : ℕ) (ts : Trees) (i b : ℕ) (old new : Outline) (f : Form) where
+  pub under_walked : b ≡ best (join least ts) → f ≡ (if b == 0 then [] else (share (next_column old) 1 ∷ [])) →
+      Grows old new (b ∷ uppers_of (inside s) (room s) ts) (rows_under (inside s) (room s) ts i (next_column old) (next_column old + 1))
+        (tallies_of (inside s) (room s) job ts (next_column old + 1)) →
+      IsWalked s job (join least ts) i old new f
+  under_walked e is g = record {
+    form = is ∙ ap (λ (k : ℕ). if k == 0 then [] else (share (next_column old) 1 ∷ [])) e;
+    grows = subst (λ (k : ℕ). Grows old new (k ∷ uppers_of (inside s) (room s) ts) (rows_under (inside s) (room s) ts i (next_column old) (next_column old + 1))
+        (tallies_of (inside s) (room s) job ts (next_column old + 1))) e g;
+  }
+
+  pub sum_walked : b ≡ length (ones ts) → f ≡ forms (inside s) (room s) ts (next_column old) (next_column old + length (ones ts)) →
+      Grows old new (ones ts ++ uppers_of (inside s) (room s) ts)
+        (limit (run 1 (next_column old) (ones ts)) (share i b ∷ []) ∷ rows_of (inside s) (room s) ts (next_column old) (next_column old + length (ones ts)))
+        (tallies_of (inside s) (room s) job ts (next_column old + length (ones ts))) →
+      IsWalked s job (join added ts) i old new f
+  sum_walked e is g = record {
+    form = is;
+    grows = subst (λ (k : ℕ). Grows old new (ones ts ++ uppers_of (inside s) (room s) ts)
+        (limit (run 1 (next_column old) (ones ts)) (share i k ∷ []) ∷ rows_of (inside s) (room s) ts (next_column old) (next_column old + length (ones ts)))
+        (tallies_of (inside s) (room s) job ts (next_column old + length (ones ts)))) e g;
+  }
+
+pub marked_grows : (s : Space) (job : ℕ) (ts : Trees) (i b first : ℕ) (old mid new : Outline) (f : Form) → first ≡ next_column old →
+    Grows old mid (ones ts) (limit (run 1 (next_column old) (ones ts)) (share i b ∷ []) ∷ []) [] → AreWalked s job ts first mid new f →
+    Grows old new (ones ts ++ uppers_of (inside s) (room s) ts)
+      (limit (run 1 (next_column old) (ones ts)) (share i b ∷ []) ∷ rows_of (inside s) (room s) ts (next_column old) (next_column old + length (ones ts)))
+      (tallies_of (inside s) (room s) job ts (next_column old + length (ones ts)))
+marked_grows s job ts i b first old mid new f e ahead walked =
+    let top = limit (run 1 (next_column old) (ones ts)) (share i b ∷ []) in
+    let long : next_column mid ≡ next_column old + length (ones ts) = grows_length old mid (ones ts) (top ∷ []) [] ahead in
+    let all = grows_more old mid new (ones ts) (uppers_of (inside s) (room s) ts) (top ∷ []) (rows_of (inside s) (room s) ts first (next_column mid)) [] (tallies_of (inside s) (room s) job ts (next_column mid)) ahead walked.grows in
+    record {
+      uppers = all.uppers;
+      rows = all.rows ∙ ap (λ (j : ℕ). map plain_limit old.rows.items ++ (top ∷ rows_of (inside s) (room s) ts j (next_column mid))) e
+          ∙ ap (λ (m : ℕ). map plain_limit old.rows.items ++ (top ∷ rows_of (inside s) (room s) ts (next_column old) m)) long;
+      tallies = all.tallies ∙ ap (λ (m : ℕ). old.tallies.items ++ tallies_of (inside s) (room s) job ts m) long;
+    }
+
+-- one more part, where the parts from a place on were still to be walked
+pub place_next : (s : Space) (job : ℕ) (t : Tree) (rest here all : Trees) (first k : ℕ) (start old new : Outline) (before after f : Form) →
+    here ≡ more t rest → IsWalked s job t (first + k) old new f → after ≡ before ++ f →
+    next_column old + width_of (inside s) (room s) here < 2 ^ 31 →
+    before ++ forms (inside s) (room s) here (first + k) (next_column old) ≡ forms (inside s) (room s) all first (next_column start) →
+    old.uppers.items ++ uppers_of (inside s) (room s) here ≡ start.uppers.items ++ uppers_of (inside s) (room s) all →
+    map plain_limit old.rows.items ++ rows_of (inside s) (room s) here (first + k) (next_column old) ≡ map plain_limit start.rows.items ++ rows_of (inside s) (room s) all first (next_column start) →
+    old.tallies.items ++ tallies_of (inside s) (room s) job here (next_column old) ≡ start.tallies.items ++ tallies_of (inside s) (room s) job all (next_column start) →
+    (next_column new + width_of (inside s) (room s) rest < 2 ^ 31)
+    × (after ++ forms (inside s) (room s) rest (first + (k + 1)) (next_column new) ≡ forms (inside s) (room s) all first (next_column start))
+    × (new.uppers.items ++ uppers_of (inside s) (room s) rest ≡ start.uppers.items ++ uppers_of (inside s) (room s) all)
+    × (map plain_limit new.rows.items ++ rows_of (inside s) (room s) rest (first + (k + 1)) (next_column new) ≡ map plain_limit start.rows.items ++ rows_of (inside s) (room s) all first (next_column start))
+    × (new.tallies.items ++ tallies_of (inside s) (room s) job rest (next_column new) ≡ start.tallies.items ++ tallies_of (inside s) (room s) job all (next_column start))
+place_next s job t rest here all first k start old new before after f cut walked put fits h_form h_uppers h_rows h_tallies =
+    let ins = inside s in
+    let rm = room s in
+    let step : first + (k + 1) ≡ (first + k) + 1 = omega arith in
+    let wide = length-append (uppers ins rm t) (uppers_of ins rm rest) in
+    let size : width_of ins rm here ≡ width_of ins rm (more t rest) = ap (width_of ins rm) cut in
+    let next : next_column new ≡ next_column old + width ins rm t = next_is ins rm job (first + k) t rest old new f walked.form walked.grows in
+    (omega (arith, fits, wide, size, next),
+     ap (λ (j : ℕ). after ++ forms ins rm rest j (next_column new)) step
+       ∙ forms_next ins rm job (first + k) t rest old new f walked.form walked.grows before after put
+       ∙ ap (λ (us : Trees). before ++ forms ins rm us (first + k) (next_column old)) (sym cut) ∙ h_form,
+     uppers_next ins rm job (first + k) t rest old new f walked.form walked.grows ∙ ap (λ (us : Trees). old.uppers.items ++ uppers_of ins rm us) (sym cut) ∙ h_uppers,
+     ap (λ (j : ℕ). map plain_limit new.rows.items ++ rows_of ins rm rest j (next_column new)) step
+       ∙ rows_next ins rm job (first + k) t rest old new f walked.form walked.grows
+       ∙ ap (λ (us : Trees). map plain_limit old.rows.items ++ rows_of ins rm us (first + k) (next_column old)) (sym cut) ∙ h_rows,
+     tallies_next ins rm job (first + k) t rest old new f walked.form walked.grows ∙ ap (λ (us : Trees). old.tallies.items ++ tallies_of ins rm job us (next_column old)) (sym cut) ∙ h_tallies)

@@ -1,0 +1,12 @@
+//! The integer program of an instance: its columns are the indicators of parts of expressions and the
+//! counts of nodes by leaf and partition, and every lawful allotment has a point of it that is worth
+//! no less.
+#![tactic(auto)]
+
+mod compiling;
+mod outline;
+mod sizes;
+mod walking;
+
+pub use compiling::{Compiled, Count};
+pub use sizes::size;

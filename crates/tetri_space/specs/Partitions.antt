@@ -1,0 +1,101 @@
+-- Groups of nodes that the live leaves cannot tell apart, and how many of their nodes are free.
+use Rattle.std.specs.Prelude.{◌≡◌, ℕ, ◌+◌, ◌<◌, Bool, true, ◌&&◌, not, nat_lt, nat_le, List, [], ◌∷◌, ◌++◌, map, length, slice_index_or, Contains, Option, Some, None}
+use Rattle.std.specs.List.{list_any, list_all, filter, range_with_len}
+use Rattle.tetri_strl.specs.declared.expr.Leaf.{Leaf}
+use Rattle.tetri_strl.specs.Prune.{pruned}
+use Rattle.tetri_strl.specs.Tree.{Tree, leaves}
+use Rattle.tetri_space.specs.Lists.{has, same, count}
+use Rattle.tetri_space.specs.Space.{Bid, Space, bid}
+use Rattle.tetri_space.specs.declared.parts.Partitions as made
+
+-- a job with what is left of its expression, before further bids; none where nothing is left
+abbrev pub with_left : ℕ → Option Tree → List Bid → List Bid
+with_left job None bs = bs
+with_left job (Some t) bs = record { job = job; expr = t } ∷ bs
+
+-- what is left of the bids without the leaves that start outside the slots from `from` to `to - 1`
+abbrev pub bids_left : ℕ → ℕ → List Bid → List Bid
+bids_left from to [] = []
+bids_left from to (b ∷ bs) = with_left b.job (pruned from to b.expr) (bids_left from to bs)
+
+-- what is left of the bids in the window
+abbrev pub live_bids : Space → List Bid
+live_bids s = bids_left s.now (s.now + s.window) s.bids
+
+-- the nodes of the set of this number
+abbrev pub set_at : Space → ℕ → List ℕ
+set_at s k = slice_index_or s.sets k []
+
+-- the numbers of the sets that the leaves of bids name
+abbrev pub sets_in : List Bid → List ℕ
+sets_in [] = []
+sets_in (b ∷ bs) = map (λ l. l.set) (leaves b.expr) ++ sets_in bs
+
+-- these sets
+abbrev pub asked : Space → List Bid → List (List ℕ)
+asked s bs = map (set_at s) (sets_in bs)
+
+-- two nodes are in exactly the same sets
+abbrev pub alike : List (List ℕ) → ℕ → ℕ → Bool
+alike sets m n = list_all (λ s. same (has s m) (has s n)) sets
+
+-- the node is in some set, and no lesser node is in exactly its sets
+abbrev pub leads : List (List ℕ) → List ℕ → ℕ → Bool
+leads sets nodes n = list_any (λ s. has s n) sets && not (list_any (λ m. nat_lt m n && alike sets m n) nodes)
+
+-- the largest groups of nodes that are in exactly the same sets, by least node; nodes in no set are in none
+abbrev pub groups : List (List ℕ) → List ℕ → List (List ℕ)
+groups sets nodes = map (λ n. filter (alike sets n) nodes) (filter (leads sets nodes) nodes)
+
+abbrev pub nodes_of : Space → List ℕ
+nodes_of s = range_with_len 0 s.nodes
+
+-- the partitions of the nodes by the sets of the live leaves
+abbrev pub partitions : Space → List (List ℕ)
+partitions s = groups (asked s (live_bids s)) (nodes_of s)
+
+-- the nodes of the partition of this number
+abbrev pub part_at : List (List ℕ) → ℕ → List ℕ
+part_at parts p = slice_index_or parts p []
+
+-- the numbers of the partitions whose nodes are all in this set, ascending
+abbrev pub parts_in : Space → List (List ℕ) → ℕ → List ℕ
+parts_in s parts k = filter (λ p. list_all (has (set_at s k)) (part_at parts p)) (range_with_len 0 (length parts))
+
+-- a leaf may use the node in this slot
+abbrev pub is_free : Space → ℕ → ℕ → Bool
+is_free s n t = nat_lt n s.nodes && not (slice_index_or s.drained n true) && nat_le (slice_index_or s.busy_until n 0) t
+
+-- how many nodes of a partition are free in a slot
+abbrev pub available : Space → List (List ℕ) → ℕ → ℕ → ℕ
+available s parts p t = count (λ n. is_free s n t) (part_at parts p)
+
+-- What was found of an instance: what is left of its bids in the window, the nodes of each partition, and the
+-- partitions in each set that a live leaf names.
+pub record Parts : Type 0 where
+  pub bids : List Bid
+  pub groups : List (List ℕ)
+  pub inside : List (List ℕ)
+
+-- what partitions say
+abbrev pub parts_of : made.Partitions → Parts
+parts_of p = record {
+  bids = map bid p.offers.items;
+  groups = p.groups.items;
+  inside = map (λ v. v.items) p.inside.items;
+}
+
+-- the partitions in the set of this number, if some live leaf names it
+abbrev pub parts_found : Parts → ℕ → List ℕ
+parts_found p k = slice_index_or p.inside k []
+
+-- the set's partitions were found
+pub record IsFoundIn (s : Space) (p : Parts) (k : ℕ) : Type 0 where
+  pub known : k < length p.inside
+  pub parts : parts_found p k ≡ parts_in s (partitions s) k
+
+-- these are the partitions of the instance
+pub record ArePartitionsOf (s : Space) (p : Parts) : Type 0 where
+  pub bids : p.bids ≡ live_bids s
+  pub groups : p.groups ≡ partitions s
+  pub inside : (k : ℕ) → Contains (sets_in (live_bids s)) k → IsFoundIn s p k
