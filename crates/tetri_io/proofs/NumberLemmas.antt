@@ -24,9 +24,9 @@ Avoids mark bytes = All (λ b. eqb b mark ≡ false) bytes
 other : (x c : ℕ) → x ≢ c → eqb x c ≡ false
 other x c n = by_test (eqb x c) refl
   where
-  by_test : (t : Bool) → eqb x c ≡ t → t ≡ false
-  by_test true e = absurd (n (eqb-true x c e))
-  by_test false e = refl
+    by_test : (t : Bool) → eqb x c ≡ t → t ≡ false
+    by_test true e = absurd (n (eqb-true x c e))
+    by_test false e = refl
 
 digits_avoid : (mark : ℕ) (ds : List ℕ) → mark < 48 → AllDigits 10 ds → Avoids mark ds
 digits_avoid mark [] h d = λ k e l. absurd (omega arith)
@@ -71,9 +71,9 @@ number_below-only limit bytes n e =
 refused : (limit : ℕ) (bytes : List ℕ) → ((n : ℕ) → bytes ≡ decimal n → n < limit → ⊥) → None ≡ number_below limit bytes
 refused limit bytes h = by_result (number_below limit bytes) refl
   where
-  by_result : (o : Option ℕ) → number_below limit bytes ≡ o → None ≡ o
-  by_result None e = refl
-  by_result (Some n) e = let r = number_below-only limit bytes n e in absurd (h n r.0 r.1)
+    by_result : (o : Option ℕ) → number_below limit bytes ≡ o → None ≡ o
+    by_result None e = refl
+    by_result (Some n) e = let r = number_below-only limit bytes n e in absurd (h n r.0 r.1)
 
 pub no_number_without_text : (limit : ℕ) (bytes : List ℕ) → limit ≤ 2 ^ 127 → (IsUtf8 bytes → ⊥) → None ≡ number_below limit bytes
 no_number_without_text limit bytes k h = refused limit bytes (λ n e l. h (subst (λ x. IsUtf8 x) (sym e) (IsUtf8-from_ascii (decimal n) (IsAscii-decimal_wide n (wide n (omega arith))))))
@@ -81,23 +81,23 @@ no_number_without_text limit bytes k h = refused limit bytes (λ n e l. h (subst
 pub no_number_unparsed : (limit : ℕ) (bytes : List ℕ) → limit ≤ 2 ^ 127 → (IsNumeral 10 (without_leading_plus bytes) × (digits_value 10 (without_leading_plus bytes) < 2 ^ 128) → ⊥) → None ≡ number_below limit bytes
 no_number_unparsed limit bytes k h = refused limit bytes unparsed
   where
-  unparsed : (n : ℕ) → bytes ≡ decimal n → n < limit → ⊥
-  unparsed n e l =
-      let d = numeral n (omega arith) in
-      let q : without_leading_plus bytes ≡ decimal n = ap without_leading_plus e ∙ no_plus (decimal n) d.0 in
-      let v : digits_value 10 (without_leading_plus bytes) ≡ n = ap (digits_value 10) q ∙ d.1 in
-      let b : n < 2 ^ 128 = omega arith in
-      h (subst (λ x. IsNumeral 10 x) (sym q) d.0, subst (λ x. x < 2 ^ 128) (sym v) b)
+    unparsed : (n : ℕ) → bytes ≡ decimal n → n < limit → ⊥
+    unparsed n e l =
+        let d = numeral n (omega arith) in
+        let q : without_leading_plus bytes ≡ decimal n = ap without_leading_plus e ∙ no_plus (decimal n) d.0 in
+        let v : digits_value 10 (without_leading_plus bytes) ≡ n = ap (digits_value 10) q ∙ d.1 in
+        let b : n < 2 ^ 128 = omega arith in
+        h (subst (λ x. IsNumeral 10 x) (sym q) d.0, subst (λ x. x < 2 ^ 128) (sym v) b)
 
 -- what was parsed, and is not below the limit or prints otherwise
 pub no_number_otherwise : (limit : ℕ) (bytes : List ℕ) (n : ℕ) → limit ≤ 2 ^ 127 → n ≡ digits_value 10 (without_leading_plus bytes) → (n < limit → decimal n ≡ bytes → ⊥) → None ≡ number_below limit bytes
 no_number_otherwise limit bytes n k e h = refused limit bytes unprinted
   where
-  unprinted : (m : ℕ) → bytes ≡ decimal m → m < limit → ⊥
-  unprinted m b l =
-      let d = numeral m (omega arith) in
-      let v : n ≡ m = e ∙ ap (digits_value 10) (ap without_leading_plus b ∙ no_plus (decimal m) d.0) ∙ d.1 in
-      h (subst (λ x. x < limit) (sym v) l) (ap decimal v ∙ sym b)
+    unprinted : (m : ℕ) → bytes ≡ decimal m → m < limit → ⊥
+    unprinted m b l =
+        let d = numeral m (omega arith) in
+        let v : n ≡ m = e ∙ ap (digits_value 10) (ap without_leading_plus b ∙ no_plus (decimal m) d.0) ∙ d.1 in
+        h (subst (λ x. x < limit) (sym v) l) (ap decimal v ∙ sym b)
 
 pub number_below-printed : (limit : ℕ) (bytes : List ℕ) (n : ℕ) → limit ≤ 2 ^ 127 → n < limit → decimal n ≡ bytes → Some n ≡ number_below limit bytes
 number_below-printed limit bytes n k l e = sym (ap (number_below limit) (sym e) ∙ number_below-decimal limit n k l)

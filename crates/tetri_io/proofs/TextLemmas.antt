@@ -24,9 +24,9 @@ pub text_of-append : (ls ms : List (List ℕ)) → text_of (ls ++ ms) ≡ text_o
 text_of-append [] ms = refl
 text_of-append (l ∷ ls) ms = ap (λ x. l ++ 10 ∷ x) (text_of-append ls ms) ∙ append_on l (text_of ls) (text_of ms)
   where
-  append_on : (l xs ys : List ℕ) → l ++ 10 ∷ (xs ++ ys) ≡ (l ++ 10 ∷ xs) ++ ys
-  append_on [] xs ys = refl
-  append_on (x ∷ l) xs ys = ap (λ z. x ∷ z) (append_on l xs ys)
+    append_on : (l xs ys : List ℕ) → l ++ 10 ∷ (xs ++ ys) ≡ (l ++ 10 ∷ xs) ++ ys
+    append_on [] xs ys = refl
+    append_on (x ∷ l) xs ys = ap (λ z. x ∷ z) (append_on l xs ys)
 
 pub all_avoid-append : (mark : ℕ) (ls ms : List (List ℕ)) → AllAvoid mark ls → AllAvoid mark ms → AllAvoid mark (ls ++ ms)
 all_avoid-append mark [] ms a b = b

@@ -92,13 +92,13 @@ entry_back key limit n small h =
     ap (λ (b : Bool). cond b (number_below limit (drop (length key) (key ++ decimal n))) None) test
     ∙ ap (number_below limit) back ∙ number_below-decimal limit n small h
   where
-  take_front : (xs ys : List ℕ) → take (length xs) (xs ++ ys) ≡ xs
-  take_front [] ys = refl
-  take_front (x ∷ xs) ys = ap (λ l. x ∷ l) (take_front xs ys)
+    take_front : (xs ys : List ℕ) → take (length xs) (xs ++ ys) ≡ xs
+    take_front [] ys = refl
+    take_front (x ∷ xs) ys = ap (λ l. x ∷ l) (take_front xs ys)
 
-  drop_front : (xs ys : List ℕ) → drop (length xs) (xs ++ ys) ≡ ys
-  drop_front [] ys = refl
-  drop_front (x ∷ xs) ys = drop_front xs ys
+    drop_front : (xs ys : List ℕ) → drop (length xs) (xs ++ ys) ≡ ys
+    drop_front [] ys = refl
+    drop_front (x ∷ xs) ys = drop_front xs ys
 
 -- a line without its line feed
 abbrev pub line_of : Scenario → ReportLine → List ℕ

@@ -18,9 +18,18 @@ use Rattle.tetri_report.specs.declared.line.Stage.TheVariants as stages
 abbrev pub block_of : ℕ → Block
 block_of number = record {
   number = number;
-  ended = []; cancelled = []; over = []; expired = [];
-  value = 0; bound = 0; mark = Wide; nodes = 0;
-  grants = []; starts = []; certificate = Tops 0 0; launched = [];
+  ended = [];
+  cancelled = [];
+  over = [];
+  expired = [];
+  value = 0;
+  bound = 0;
+  mark = Wide;
+  nodes = 0;
+  grants = [];
+  starts = [];
+  certificate = Tops 0 0;
+  launched = [];
 }
 
 abbrev pub with_plan : Block → PlanLine → Block

@@ -12,5 +12,4 @@ ghost use Rattle.tetri_trace.specs.Sound.{IsSound};
 pub fn printed_reports_read_back()
     ensures { (t : Scenario) (bs : List Block) (s : Summary) → IsSound t → All (IsPrintable t) bs → All IsInRange bs
         → IsSummaryInRange s → report_in t (flat_map (cycle_text t) bs ++ summary_text s) ≡ Ok (bs, s) }
-{
-}
+{}

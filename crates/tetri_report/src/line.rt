@@ -1,9 +1,8 @@
 // What one line of a report says.
+use crate::cycle::Summary;
 use tetri_cert::PlanMark;
 use tetri_state::PieceId;
 use tetri_strl::Grant;
-
-use crate::cycle::Summary;
 
 /// What kind of line it is, by its first word.
 #[derive(Clone, Copy, Debug, PartialEq, Eq)]

@@ -10,18 +10,15 @@ use tetri_strl::Grant;
 
 fn number_is_small(number: u32)
     ensures { number < 2 ^ 32 }
-{
-}
+{}
 
 fn number_is_large(number: u64)
     ensures { number < 2 ^ 64 }
-{
-}
+{}
 
 fn slots_are_small(slots: &[u32])
     ensures { AreSmall slots.now }
-{
-}
+{}
 
 fn leaves_are_small(pieces: &[PieceId])
     ensures { All (λ p. p.leaf < 2 ^ 32) pieces.now }

@@ -196,11 +196,7 @@ fn nodes_in(alloc: Global, trace: &Trace, names: &[&[u8]]) -> Result<Option<Node
 }
 
 #[tactic(auto, unfolding(crate::specs::Line::grant_in))]
-fn grant_in(
-    alloc: Global,
-    trace: &Trace,
-    words: &[&[u8]],
-) -> Result<Option<ReportLine>, AllocError>
+fn grant_in(alloc: Global, trace: &Trace, words: &[&[u8]]) -> Result<Option<ReportLine>, AllocError>
     requires { IsSound (scenario trace.now) }
     ensures { IfOk result (λ o. o ≡ grant_in (scenario trace.entry.now) (map (λ w. w.now) words.now)) }
 {

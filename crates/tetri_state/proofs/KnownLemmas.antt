@@ -127,11 +127,11 @@ module _ (t : Scenario) where
     cancel_known job v here known = by_test (has v.pending job || runs v.running job)
       where
         by_test : (x : Bool) → TurnIsKnown (cond x (record {
-            drained = v.drained;
-            pending = without job v.pending;
-            running = filter (λ a. not (a.job == job)) v.running;
-            cancelled = v.cancelled ++ job ∷ [];
-          }) v)
+          drained = v.drained;
+          pending = without job v.pending;
+          running = filter (λ a. not (a.job == job)) v.running;
+          cancelled = v.cancelled ++ job ∷ [];
+        }) v)
         by_test true = record { pending = each_filtered IsJob (λ m. not (m == job)) v.pending known.pending; cancelled = each_parts IsJob v.cancelled (job ∷ []) known.cancelled (here, tt) }
         by_test false = known
 

@@ -277,7 +277,10 @@ fn cycle(
     assert!(rt; is_thrifty(&inst, &planned));
     let prepared = state.prepare(alloc, trace, &inst, &planned)?;
     assert_eq!(rt; prepared.launched(), seen.launched);
-    assert_eq!(rt; prepared.grants().as_slice().len(), planned.as_slice().len());
+    assert_eq!(rt;
+        prepared.grants().as_slice().len(),
+        planned.as_slice().len()
+    );
     state.apply(prepared);
     Ok(())
 }

@@ -19,5 +19,6 @@ pub returns-else-number-limit-clause-value : goal.returns-else-number-limit-clau
 returns-else-number-limit-clause-value c =
     rw (← c.in-Ok.ensures.cases.0) (no_number_otherwise _ c.in-Ok.text.now c.in-Ok-parse.number c.requires c.in-Ok-parse.ensures.value.0.1
     (elim c.else-number-limit.branch [
-      else-number-limit-via-then-number-limit+else-eq w ↦ λ l e. false≢true (sym w.if-eq.false ∙ w.eq.ensures ∙ (bytes_eq-Decides _ _).1 (w.as_bytes.ensures.value ∙ w.format.ensures.text ∙ e ∙ c.in-Ok.ensures.cases.0))
-    | else-number-limit-via-else-number-limit w ↦ λ l e. omega arith ]))
+      | else-number-limit-via-then-number-limit+else-eq w ↦ λ l e. false≢true (sym w.if-eq.false ∙ w.eq.ensures ∙ (bytes_eq-Decides _ _).1 (w.as_bytes.ensures.value ∙ w.format.ensures.text ∙ e ∙ c.in-Ok.ensures.cases.0))
+      | else-number-limit-via-else-number-limit w ↦ λ l e. omega arith
+    ]))
