@@ -4,3 +4,4 @@ pub mod KeptLemmas
 pub mod PrintLemmas
 pub mod RunLemmas
 pub mod SlotLemmas
+pub mod ReadBackLemmas

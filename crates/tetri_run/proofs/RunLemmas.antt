@@ -96,12 +96,3 @@ stopped_between t i old tally before middle now ran e = record { past = ran.past
 pub stopped_in_summary : (t : Scenario) (m : Summary) (before middle now : Option (List ℕ)) → RanAll t m before middle → AppendsPart middle now (summary_text m) → StoppedInText t before now
 stopped_in_summary t m before middle now ran part =
     in_text t ran.past ran.run (summary_text (summary_of t ran.past)) before middle now (summary ran.whole) ran.written (subst (λ (s : Summary). AppendsPart middle now (summary_text s)) ran.counted part)
-
-pub wrote_report : (t : Scenario) (m : Summary) (before middle now : Option (List ℕ)) → RanAll t m before middle → now ≡ append_known middle (summary_text m) → WroteReport t before now
-wrote_report t m before middle now ran e = record {
-  past = ran.past;
-  run = ran.run;
-  whole = ran.whole;
-  written = e ∙ ap (λ k. append_known k (summary_text m)) ran.written ∙ append_known-append before (cycles_text t ran.past) (summary_text m)
-      ∙ ap (λ (s : Summary). append_known before (cycles_text t ran.past ++ summary_text s)) ran.counted;
-}

@@ -5,6 +5,7 @@ use Rattle.tetri_claims.specs.Planned.{Planned}
 use Rattle.tetri_claims.specs.Good.{IsGood}
 use Rattle.tetri_claims.specs.Certified.{IsBoundedByTops}
 use Rattle.tetri_report.specs.Block.{Block}
+use Rattle.tetri_report.specs.Printable.{IsInRange}
 use Rattle.tetri_space.specs.Space.{Space}
 use Rattle.tetri_space.specs.Total.{total_in}
 use Rattle.tetri_state.specs.Begin.{Occurrences, begin, occurring}
@@ -52,7 +53,8 @@ pub record IsKeptFor (i : Space) (carry : List Grant) (b : Block) : Type 0 where
   pub ordered : AllPairs ComesBefore b.grants
   pub first_fit : total_in i (first_fit i) ≤ b.value
 
--- the cycle that this planner plans
+-- the cycle that this planner plans, whose numbers are within the ranges of their lines
 pub record IsPlannedCycle (t : Scenario) (s : Snapshot) (b : Block) : Type 0 where
   pub cycle : IsCycle t s b
   pub kept_for : IsKeptFor (instance_at t s) cycle.carry b
+  pub in_range : IsInRange b

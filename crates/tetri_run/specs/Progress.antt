@@ -1,8 +1,9 @@
 -- How far a run has come, of the values that are kept between cycles and of the written bytes.
-use Rattle.std.specs.Prelude.{◌≡◌, ◌<◌, ℕ, List, ◌++◌, Option, length, take}
+use Rattle.std.specs.Prelude.{◌≡◌, ◌<◌, ℕ, List, ◌++◌, Option, length, take, Ok}
 use Rattle.std.specs.Io.KnownBytes.{append_known}
 use Rattle.tetri_io.specs.Sink.{AppendsPart}
 use Rattle.tetri_report.specs.Block.{Block}
+use Rattle.tetri_report.specs.Reading.{report_in}
 use Rattle.tetri_report.specs.Text.{cycle_text}
 use Rattle.tetri_report.specs.declared.cycle.Summary.{Summary}
 use Rattle.tetri_state.specs.After.{after}
@@ -12,7 +13,7 @@ use Rattle.tetri_state.specs.Launch.{worth_launched}
 use Rattle.tetri_state.specs.Snapshot.{Snapshot}
 use Rattle.tetri_trace.specs.Scenario.{Scenario}
 use Rattle.tetri_run.specs.Cycle.{IsPlannedCycle, instance_at}
-use Rattle.tetri_run.specs.Run.{IsRun, NextText, cycles_text, optimal_count, optimal_cycles, report_text, state_behind, summary_of, worth_of_run}
+use Rattle.tetri_run.specs.Run.{IsRun, NextText, cycles_text, in_order, optimal_count, optimal_cycles, report_text, state_behind, summary_of, worth_of_run}
 use Rattle.tetri_run.specs.declared.slot.Ready.{Ready}
 use Rattle.tetri_run.specs.declared.slot.SlotTally.{SlotTally}
 use Rattle.tetri_run.specs.declared.cycles.RunTally.{RunTally}
@@ -68,12 +69,13 @@ pub record StoppedBetween (t : Scenario) (before now : Option (List ℕ)) : Type
   pub run : IsRun t past
   pub written : now ≡ append_known before (cycles_text t past)
 
--- The report of a whole run was written.
+-- The report of a whole run was written, and its lines read as the cycles and the summary of the run.
 pub record WroteReport (t : Scenario) (before now : Option (List ℕ)) : Type 0 where
   pub past : List Block
   pub run : IsRun t past
   pub whole : length past ≡ t.header.until
   pub written : now ≡ append_known before (report_text t past)
+  pub reads : report_in t (report_text t past) ≡ Ok (in_order past, summary_of t past)
 
 -- All slots were run, and the summary is theirs.
 pub record RanAll (t : Scenario) (summary : Summary) (before now : Option (List ℕ)) : Type 0 where

@@ -53,6 +53,11 @@ summary_of t past =
       optimal = optimal_cycles past;
     }
 
+-- the cycles, the first one first
+abbrev pub in_order : List Block → List Block
+in_order [] = []
+in_order (b ∷ past) = in_order past ++ b ∷ []
+
 -- the lines of all cycles
 abbrev pub cycles_text : Scenario → List Block → List ℕ
 cycles_text t [] = []

@@ -1,6 +1,7 @@
 // The cycles of a run, one a slot.
 ghost use Rattle.std.specs.Prelude.{◌≡◌, ◌≤◌, ◌<◌, ◌^◌, IfOk, IsErrOf, OnOk};
 ghost use Rattle.tetri_algebra.specs.Counts.{Rose};
+ghost use Rattle.tetri_report.specs.Printable.{IsSummaryInRange};
 ghost use Rattle.tetri_run.specs.Progress.{RanAll, StoppedBetween, StoppedInText, WroteReport};
 ghost use Rattle.tetri_run.specs.Status.{IsRunAnswer};
 ghost use Rattle.tetri_trace.specs.Scenario.{scenario};
@@ -53,6 +54,24 @@ fn run_slots<K: Sink>(alloc: Global, trace: &Trace, sink: &mut K) -> Result<Summ
     })
 }
 
+fn number_is_large(number: u64)
+    ensures { number < 2 ^ 64 }
+{
+}
+
+// The numbers of a summary, which have the types of their fields, are within the ranges of its line.
+fn summary_is_in_range(summary: &Summary)
+    requires { summary.now.worth < 2 ^ 127 }
+    ensures { IsSummaryInRange summary.now }
+{
+    number_is_large(summary.cycles);
+    number_is_large(summary.launched);
+    number_is_large(summary.ended);
+    number_is_large(summary.cancelled);
+    number_is_large(summary.expired);
+    number_is_large(summary.optimal);
+}
+
 // Runs all slots, and then writes the summary.
 fn write_run<K: Sink>(alloc: Global, trace: &Trace, sink: &mut K) -> Result<(), Halt>
     requires { IsSound (scenario trace.now) }
@@ -63,6 +82,7 @@ fn write_run<K: Sink>(alloc: Global, trace: &Trace, sink: &mut K) -> Result<(), 
     ensures later { K.faults sink.old ≤ K.faults sink.new }
 {
     let summary = run_slots(alloc, trace, sink)?;
+    summary_is_in_range(&summary);
     let text = print_summary(alloc, &summary)?;
     send_all(sink, &text)?;
     Ok(())

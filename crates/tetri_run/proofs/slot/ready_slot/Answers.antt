@@ -53,6 +53,7 @@ returns-clause-ready c =
           plan = subst (λ (i : Space). IsPlanFor i carry b) is c.in_ok-told.ensures.plan;
         };
         kept_for = subst (λ (i : Space). IsKeptFor i carry b) is c.in_ok-told.ensures.kept;
+        in_range = c.cycle_is_in_range.ensures;
       };
       text = c.in_ok-text.ensures;
       launch = subst (λ (q : Snapshot). IsLaunchOf t q b.grants c.in_ok-prepared.prepared) begun c.in_ok-prepared.ensures.launch;
