@@ -16,7 +16,7 @@ pub use instance::{Instance, Offer};
 pub use laws::tops_bound_every_lawful_total;
 pub use leaves::leaf_of;
 pub use rules::{Rule, Unlawful, lawful};
-pub use runs::run_len;
+pub use runs::{ascends_by_job, run_len};
 pub use totals::{tops, total};
 
 #[cfg(test)]

@@ -1,0 +1,10 @@
+//! The judge of one cycle: whether its plan is good and its bound is certified.
+#![tactic(auto)]
+
+mod judging;
+mod verdict;
+mod wasted;
+
+pub use judging::judge;
+pub use verdict::Verdict;
+
