@@ -4,8 +4,9 @@ use Rattle.std.specs.Prelude.{◌↔◌, Option, Some, None}
 use Rattle.std.specs.List.{list_any, position_from}
 use Rattle.std.specs.Option.{option_map}
 use Rattle.std.proofs.Math.Path.{fun_ext}
+use Rattle.std.proofs.Math.Seq.{take-add}
 use Rattle.std.proofs.lemmas.Bool.Decides.{nat_tests}
-use Rattle.std.proofs.lemmas.List.{take-append-drop, length-take-le, append-nil}
+use Rattle.std.proofs.lemmas.List.{take-append-drop, length-take-le, length-drop, drop-drop}
 use Rattle.std.proofs.lemmas.List.Elements.{All-cons, All-head, All-tail, All-nil, All-weaker, All-append}
 use Rattle.tetri_claims.specs.Good.{IsThriftyForAll}
 use Rattle.tetri_judge.specs.Wasted.{lesser, first_wasted}
@@ -77,12 +78,11 @@ module _ (p : Grant → Bool) where
   none_passes k (g ∷ gs) never =
       ap (λ t. cond t (Some k) (position_from p (k + 1) gs)) (All-head (λ h. p h ≡ false) g gs never) ∙ none_passes (k + 1) gs (All-tail (λ h. p h ≡ false) g gs never)
 
-  skip_front : (k : ℕ) (a b : List Grant) → Never a → position_from p k (a ++ b) ≡ position_from p (k + length a) b
-  skip_front k [] b never = ap (λ n. position_from p n b) (omega arith)
-  skip_front k (g ∷ gs) b never =
-      let there : k + 1 + length gs ≡ k + length (g ∷ gs) = omega arith in
+  skip_front : (k n : ℕ) (a b : List Grant) → n ≡ k + length a → Never a → position_from p k (a ++ b) ≡ position_from p n b
+  skip_front k n [] b e never = ap (λ m. position_from p m b) (omega arith)
+  skip_front k n (g ∷ gs) b e never =
       ap (λ t. cond t (Some k) (position_from p (k + 1) (gs ++ b))) (All-head (λ h. p h ≡ false) g gs never)
-      ∙ skip_front (k + 1) gs b (All-tail (λ h. p h ≡ false) g gs never) ∙ ap (λ n. position_from p n b) there
+      ∙ skip_front (k + 1) n gs b (omega arith) (All-tail (λ h. p h ≡ false) g gs never)
 
   skip_back : (k : ℕ) (b c : List Grant) → Never c → position_from p k (b ++ c) ≡ position_from p k b
   skip_back k [] c never = none_passes k c never
@@ -122,7 +122,7 @@ waste_in_run a b c job t before after =
     let same : leaf_worth (a ++ (b ++ c)) job ≡ leaf_worth b job = fun_ext (λ l. ap (worth_at l) (same_count l.num)) in
     let p = wastes job (idle (leaf_worth b job) t) in
     ap (λ v. position_from (wastes job (idle v t)) 0 (a ++ (b ++ c))) same
-    ∙ skip_front p 0 a (b ++ c) (others_never job (idle (leaf_worth b job) t) a before)
+    ∙ skip_front p 0 (length a) a (b ++ c) (omega arith) (others_never job (idle (leaf_worth b job) t) a before)
     ∙ skip_back p (length a) b c (others_never job (idle (leaf_worth b job) t) c after)
     ∙ shifted p (length a) 0 (length a) b (omega arith)
   where
@@ -145,13 +145,14 @@ pub waste_behind : (grants : List Grant) (n m job : ℕ) (t : Tree) → n ≤ le
 waste_behind grants n m job t within others found =
     let p = wastes job (idle (leaf_worth grants job) t) in
     let there : position_from p n (drop n grants) ≡ Some m =
-        ap (λ k. position_from p k (drop n grants)) (sym (length-take-le n grants within))
-        ∙ sym (skip_front p 0 (take n grants) (drop n grants) (others_never job (idle (leaf_worth grants job) t) (take n grants) others))
+        sym (skip_front p 0 n (take n grants) (drop n grants) (omega (arith, length-take-le n grants within)) (others_never job (idle (leaf_worth grants job) t) (take n grants) others))
         ∙ ap (position_from p 0) (take-append-drop n grants) ∙ found in
     (position_within p n m (drop n grants) there).0
 
 pub waste_within : (a : List Grant) (job m : ℕ) (t : Tree) → first_waste a job t ≡ Some m → m < length a
-waste_within a job m t found = (position_within (wastes job (idle (leaf_worth a job) t)) 0 m a found).1
+waste_within a job m t found =
+    let there = position_within (wastes job (idle (leaf_worth a job) t)) 0 m a found in
+    omega (arith, there)
 
 -- what is wasted for the first job stands before what is wasted for the others
 pub first_is : (bs : List Bid) (a : List Grant) (n : ℕ) → All (λ (b : Bid). (m : ℕ) → first_waste a b.job b.expr ≡ Some m → n ≤ m) bs →
@@ -166,3 +167,73 @@ first_is (b ∷ bs) a n behind =
     keeps : (o : Option ℕ) → ((m : ℕ) → o ≡ Some m → n ≤ m) → lesser (Some n) o ≡ Some n
     keeps None after = refl
     keeps (Some m) after = let le = after m refl in ap Some (omega arith)
+
+-- all grants in front of a place are of earlier jobs than each of these
+abbrev pub ComeBefore : List Grant → List Bid → Type 0
+ComeBefore gs bs = All (λ (b : Bid). All (λ (g : Grant). g.job < b.job) gs) bs
+
+-- the loop over runs has come to this offer: what the grants of earlier jobs are, and its own run
+pub record IsAtRun (os : List Offer) (i : ℕ) (o : Offer) (grants rest run : List Grant) (seen n : ℕ) : Type 0 where
+  pub ascending : AllPairs (λ (b c : Bid). b.job < c.job) (map bid os)
+  pub some_left : i < length os
+  pub is : o ≡ get_or os i o
+  pub within : seen ≤ length grants
+  pub rest_is : rest ≡ drop seen grants
+  pub run_is : run ≡ take n rest
+  pub run_within : n ≤ length rest
+  pub before : ComeBefore (take seen grants) (drop i (map bid os))
+  pub own : All (λ (g : Grant). g.job ≤ o.job) (take n rest)
+  pub past : All (λ (g : Grant). o.job < g.job) (drop n rest)
+
+module _ (os : List Offer) (i : ℕ) (o : Offer) (grants rest run : List Grant) (seen n : ℕ) (at : IsAtRun os i o grants rest run seen n) where
+  front_before : All (λ (g : Grant). g.job < o.job) (take seen grants)
+  front_before = All-head (λ (b : Bid). All (λ (g : Grant). g.job < b.job) (take seen grants)) (bid o) (drop (i + 1) (map bid os))
+      (subst (ComeBefore (take seen grants)) (next_bid os i o at.some_left at.is) at.before)
+
+  run_long : length run ≡ n
+  run_long = ap length at.run_is ∙ length-take-le n rest at.run_within
+
+  -- the run's first wasted grant is the job's
+  pub waste_here : first_waste grants o.job (tree o.expr) ≡ option_map (λ m. seen + m) (first_waste run o.job (tree o.expr))
+  waste_here = waste_in_slice grants run rest seen n o.job (tree o.expr) at.within at.rest_is at.run_is
+      (All-weaker (λ (g : Grant). g.job < o.job) (λ (g : Grant). g.job ≢ o.job) (λ g lt same. absurd (omega arith)) (take seen grants) front_before)
+      (All-weaker (λ (g : Grant). o.job < g.job) (λ (g : Grant). g.job ≢ o.job) (λ g lt same. absurd (omega arith)) (drop n rest) at.past)
+
+  pub seen_more : seen + length run ≤ length grants
+  seen_more = omega (arith, run_long, at.run_within, ap length at.rest_is, length-drop seen grants, at.within)
+
+  -- front and run together are the front of what comes next
+  front_next : take (seen + length run) grants ≡ take seen grants ++ take n rest
+  front_next =
+      ap (λ k. take (seen + k) grants) run_long ∙ take-add seen n grants ∙ ap (λ gs. take seen grants ++ take n gs) (sym at.rest_is)
+
+  pub before_next : ComeBefore (take (seen + length run) grants) (drop (i + 1) (map bid os))
+  before_next = subst (λ gs. ComeBefore gs (drop (i + 1) (map bid os))) (sym front_next)
+      (All-weaker (λ (b : Bid). o.job < b.job) (λ (b : Bid). All (λ (g : Grant). g.job < b.job) (take seen grants ++ take n rest))
+      (λ b later. All-append (λ (g : Grant). g.job < b.job) (take seen grants) (take n rest)
+          (All-weaker (λ (g : Grant). g.job < o.job) (λ (g : Grant). g.job < b.job) (λ g lt. omega arith) (take seen grants) front_before)
+          (All-weaker (λ (g : Grant). g.job ≤ o.job) (λ (g : Grant). g.job < b.job) (λ g le. omega arith) (take n rest) at.own))
+      (drop (i + 1) (map bid os)) (later_jobs os i o at.ascending at.some_left at.is))
+
+  pub rest_next : drop n rest ≡ drop (seen + length run) grants
+  rest_next = ap (drop n) at.rest_is ∙ drop-drop n seen grants ∙ ap (λ k. drop (seen + k) grants) (sym run_long)
+
+  -- nothing is wasted for this job: the same is left over the later ones
+  pub none_here : first_waste run o.job (tree o.expr) ≡ None → first_wasted (drop i (map bid os)) grants ≡ first_wasted (drop (i + 1) (map bid os)) grants
+  none_here none =
+      next_wasted os i o grants at.some_left at.is
+      ∙ ap (λ w. lesser w (first_wasted (drop (i + 1) (map bid os)) grants)) (waste_here ∙ ap (option_map (λ m. seen + m)) none)
+
+  -- what is wasted for this job is wasted before all that is wasted for later ones
+  pub some_here : (place : ℕ) → first_waste run o.job (tree o.expr) ≡ Some place → first_wasted (drop i (map bid os)) grants ≡ Some (seen + place)
+  some_here place found =
+      next_wasted os i o grants at.some_left at.is
+      ∙ ap (λ w. lesser w (first_wasted (drop (i + 1) (map bid os)) grants)) (waste_here ∙ ap (option_map (λ m. seen + m)) found)
+      ∙ first_is (drop (i + 1) (map bid os)) grants (seen + place)
+      (All-weaker (λ (b : Bid). All (λ (g : Grant). g.job < b.job) (take (seen + length run) grants)) (λ (b : Bid). (m : ℕ) → first_waste grants b.job b.expr ≡ Some m → seen + place ≤ m)
+      (λ b earlier m e.
+          let behind : seen + length run ≤ m = waste_behind grants (seen + length run) m b.job b.expr seen_more
+              (All-weaker (λ (g : Grant). g.job < b.job) (λ (g : Grant). g.job ≢ b.job) (λ g lt same. absurd (omega arith)) (take (seen + length run) grants) earlier) e in
+          let inside : place < length run = waste_within run o.job place (tree o.expr) found in
+          omega arith)
+      (drop (i + 1) (map bid os)) before_next)

@@ -13,7 +13,7 @@ use Rattle.tetri_judge.specs.declared.verdict.Verdict.{Verdict}
 use Rattle.tetri_judge.specs.declared.verdict.Verdict.TheVariants.{Unlawful, WrongValue, WasteGrant, BelowCarry, BadTree, WrongBound, WrongMark}
 use Rattle.tetri_judge.specs.Wasted.{first_wasted}
 
--- the tests of a plan
+-- the tests of a plan, in the order in which they are made
 pub data Test : Type 0 where
   lawful : Test
   attained : Test
@@ -22,16 +22,6 @@ pub data Test : Type 0 where
   certified : Test
   bounded : Test
   marked : Test
-
--- where a test stands among the tests
-abbrev pub rank : Test → ℕ
-rank lawful = 1
-rank attained = 2
-rank thrifty = 3
-rank at_least = 4
-rank certified = 5
-rank bounded = 6
-rank marked = 7
 
 -- `optimal` stands where value and bound are equal and `wide` otherwise, and no nodes of a tree are counted
 pub record IsRightlyMarked (p : Planned) : Type 0 where
@@ -61,6 +51,16 @@ module _ (s : Space) (carried : ℕ) (p : Planned) where
   Passes bounded = p.bound ≡ tops_in s
   Passes marked = IsRightlyMarked p
 
+  -- the plan passes each test that is made before this one
+  abbrev pub PassesBefore : Test → Type 0
+  PassesBefore lawful = Unit {0}
+  PassesBefore attained = Passes lawful
+  PassesBefore thrifty = Passes lawful × Passes attained
+  PassesBefore at_least = Passes lawful × Passes attained × Passes thrifty
+  PassesBefore certified = Passes lawful × Passes attained × Passes thrifty × Passes at_least
+  PassesBefore bounded = Passes lawful × Passes attained × Passes thrifty × Passes at_least × Passes certified
+  PassesBefore marked = Passes lawful × Passes attained × Passes thrifty × Passes at_least × Passes certified × Passes bounded
+
   -- the plan fails a test as this verdict says
   abbrev pub Shows : Verdict → Type 0
   Shows (Unlawful u) = IsFirstBroken s p.grants u
@@ -74,7 +74,7 @@ module _ (s : Space) (carried : ℕ) (p : Planned) where
   -- the plan fails this test, and passes each that is made before
   pub record IsFirstFailed (v : Verdict) : Type 0 where
     pub fails : Shows v
-    pub passes : (t : Test) → rank t < rank (test_of v) → Passes t
+    pub passes : PassesBefore (test_of v)
 
   -- all tests are passed, or the verdict tells the first that is failed
   abbrev pub IsVerdict : {U : Type 0} → Result U Verdict → Type 0
