@@ -1,21 +1,15 @@
 -- What passes all tests is good, and what fails one is not.
-use Rattle.std.proofs.Common.{◌≡◌, ◌≢◌, ℕ, ◌<◌, ◌≤◌, List, sym, ◌∙◌, arith}
-use Rattle.std.specs.Prelude.{Some, None}
-use Rattle.tetri_cert.specs.declared.certificate.Certificate.TheVariants.{Tops}
+use Rattle.std.proofs.Common.{ℕ, sym, ◌∙◌, arith}
 use Rattle.tetri_claims.specs.Certified.{IsBoundedByTops}
-use Rattle.tetri_claims.specs.Good.{BoundsEveryLawful, IsGood, IsThriftyForAll}
+use Rattle.tetri_claims.specs.Good.{IsGood}
 use Rattle.tetri_claims.specs.Planned.{Planned}
-use Rattle.tetri_judge.specs.Verdict.{IsFirstFailed, IsRightlyMarked, Passes, PassesBefore, Shows, Test, attained, at_least, bounded, certified, lawful, marked, test_of, thrifty}
+use Rattle.tetri_judge.specs.Verdict.{IsFirstFailed, Passes, Shows, Test, attained, at_least, bounded, certified, lawful, marked, test_of, thrifty}
 use Rattle.tetri_judge.specs.declared.verdict.Verdict.{Verdict}
 use Rattle.tetri_judge.specs.declared.verdict.Verdict.TheVariants.{Unlawful, WrongValue, WasteGrant, BelowCarry, BadTree, WrongBound, WrongMark}
-use Rattle.tetri_judge.specs.Wasted.{first_wasted}
 use Rattle.tetri_judge.proofs.WastedLemmas.{none_wasted}
-use Rattle.tetri_space.specs.Lawful.{IsLawful}
 use Rattle.tetri_space.specs.Sound.{IsSound}
 use Rattle.tetri_space.specs.Space.{Space}
-use Rattle.tetri_space.specs.Total.{total_in, tops_in}
 use Rattle.tetri_space.proofs.RuleLemmas.{broken_first, lawful_keeps}
-use Rattle.tetri_strl.specs.declared.grants.Grant.{Grant}
 
 module _ (s : Space) (carried : ℕ) (p : Planned) where
   -- a verdict that is shown speaks of a test that is not passed
@@ -40,27 +34,3 @@ module _ (s : Space) (carried : ℕ) (p : Planned) where
 
   pub good_is_not_refused : IsSound s → (v : Verdict) → IsFirstFailed s carried p v → IsGood s carried p → IsBoundedByTops s p → ⊥
   good_is_not_refused sound v failed good tops = not_both sound v failed.fails (good_passes good tops (test_of v))
-
-  pub all_passed : PassesBefore s carried p marked → IsRightlyMarked p → (t : Test) → Passes s carried p t
-  all_passed before here lawful = before.0
-  all_passed before here attained = before.1
-  all_passed before here thrifty = before.2
-  all_passed before here at_least = before.3
-  all_passed before here certified = before.4
-  all_passed before here bounded = before.5
-  all_passed before here marked = here
-
-  -- a plan that passes each test is good and bounded by the tops
-  pub passed_is_good : ((a : List Grant) → IsLawful s a → total_in s a ≤ tops_in s) → PassesBefore s carried p marked → IsRightlyMarked p →
-      IsGood s carried p × IsBoundedByTops s p
-  passed_is_good law before here = (
-    record {
-      lawful = before.0;
-      thrifty = before.2;
-      attained = before.1;
-      at_least = before.3;
-      bounded = λ a lawful. omega (arith, law a lawful, before.5);
-      optimal = here.optimal;
-    },
-    record { certificate = before.4; bound = before.5; nodes = here.nodes; mark = here.either },
-  )

@@ -1,5 +1,5 @@
 -- The first wasted grant of all jobs, by each job's own grants.
-use Rattle.std.proofs.Common.{◌≡◌, ◌≢◌, ℕ, ◌+◌, ◌<◌, ◌≤◌, min, Bool, true, false, cond, ◌&&◌, ◌==◌, List, [], ◌∷◌, ◌++◌, length, take, drop, get_or, map, All, AllPairs, refl, sym, ap, ◌∙◌, subst, arith, suc}
+use Rattle.std.proofs.Common.{◌≡◌, ◌≢◌, ℕ, ◌+◌, ◌<◌, ◌≤◌, Bool, true, false, cond, ◌&&◌, ◌==◌, List, [], ◌∷◌, ◌++◌, length, take, drop, get_or, map, All, AllPairs, refl, sym, ap, ◌∙◌, subst, arith}
 use Rattle.std.specs.Prelude.{◌↔◌, Option, Some, None}
 use Rattle.std.specs.List.{list_any, position_from}
 use Rattle.std.specs.Option.{option_map}
@@ -14,7 +14,6 @@ use Rattle.tetri_space.specs.Sound.{IsSound, IsSoundBid}
 use Rattle.tetri_space.specs.Space.{Bid, Space, bid}
 use Rattle.tetri_space.specs.declared.instance.Offer.{Offer}
 use Rattle.tetri_space.proofs.BidLemmas.{next_bid, later_jobs}
-use Rattle.tetri_strl.specs.declared.expr.Leaf.{Leaf}
 use Rattle.tetri_strl.specs.declared.grants.Grant.{Grant}
 use Rattle.tetri_strl.specs.Thrifty.{IsThriftyFor}
 use Rattle.tetri_strl.specs.Tree.{Tree, tree}
@@ -60,7 +59,7 @@ module _ (a : List Grant) where
 pub none_wasted : (s : Space) → IsSound s → (a : List Grant) → (first_wasted s.bids a ≡ None) ↔ IsThriftyForAll s a
 none_wasted s sound a =
     let exact = All-weaker (IsSoundBid s) (λ (b : Bid). (first_waste a b.job b.expr ≡ None) ↔ IsThriftyForBid a b)
-        (λ b good. waste_is_exact a b.job b.expr good.well_made.sound) s.bids sound.sound_bids in
+    (λ b good. waste_is_exact a b.job b.expr good.well_made.sound) s.bids sound.sound_bids in
     (thrifty_of_none a s.bids exact, none_of_thrifty a s.bids exact)
 
 -- what is left of the jobs begins with the next offer's
@@ -134,7 +133,7 @@ pub waste_in_slice : (grants run rest : List Grant) (seen n job : ℕ) (t : Tree
     NamesNot job (take seen grants) → NamesNot job (drop n rest) → first_waste grants job t ≡ option_map (λ m. seen + m) (first_waste run job t)
 waste_in_slice grants run rest seen n job t within is_rest is_run before after =
     let whole : grants ≡ take seen grants ++ (take n rest ++ drop n rest) =
-        sym (take-append-drop seen grants) ∙ ap (λ gs. take seen grants ++ gs) (sym is_rest ∙ sym (take-append-drop n rest)) in
+    sym (take-append-drop seen grants) ∙ ap (λ gs. take seen grants ++ gs) (sym is_rest ∙ sym (take-append-drop n rest)) in
     ap (λ gs. first_waste gs job t) whole
     ∙ waste_in_run (take seen grants) (take n rest) (drop n rest) job t before after
     ∙ ap (λ k. option_map (λ m. k + m) (first_waste (take n rest) job t)) (length-take-le seen grants within)
@@ -145,8 +144,8 @@ pub waste_behind : (grants : List Grant) (n m job : ℕ) (t : Tree) → n ≤ le
 waste_behind grants n m job t within others found =
     let p = wastes job (idle (leaf_worth grants job) t) in
     let there : position_from p n (drop n grants) ≡ Some m =
-        sym (skip_front p 0 n (take n grants) (drop n grants) (omega (arith, length-take-le n grants within)) (others_never job (idle (leaf_worth grants job) t) (take n grants) others))
-        ∙ ap (position_from p 0) (take-append-drop n grants) ∙ found in
+    sym (skip_front p 0 n (take n grants) (drop n grants) (omega (arith, length-take-le n grants within)) (others_never job (idle (leaf_worth grants job) t) (take n grants) others))
+    ∙ ap (position_from p 0) (take-append-drop n grants) ∙ found in
     (position_within p n m (drop n grants) there).0
 
 pub waste_within : (a : List Grant) (job m : ℕ) (t : Tree) → first_waste a job t ≡ Some m → m < length a
@@ -211,8 +210,8 @@ module _ (os : List Offer) (i : ℕ) (o : Offer) (grants rest run : List Grant) 
   before_next = subst (λ gs. ComeBefore gs (drop (i + 1) (map bid os))) (sym front_next)
       (All-weaker (λ (b : Bid). o.job < b.job) (λ (b : Bid). All (λ (g : Grant). g.job < b.job) (take seen grants ++ take n rest))
       (λ b later. All-append (λ (g : Grant). g.job < b.job) (take seen grants) (take n rest)
-          (All-weaker (λ (g : Grant). g.job < o.job) (λ (g : Grant). g.job < b.job) (λ g lt. omega arith) (take seen grants) front_before)
-          (All-weaker (λ (g : Grant). g.job ≤ o.job) (λ (g : Grant). g.job < b.job) (λ g le. omega arith) (take n rest) at.own))
+      (All-weaker (λ (g : Grant). g.job < o.job) (λ (g : Grant). g.job < b.job) (λ g lt. omega arith) (take seen grants) front_before)
+      (All-weaker (λ (g : Grant). g.job ≤ o.job) (λ (g : Grant). g.job < b.job) (λ g le. omega arith) (take n rest) at.own))
       (drop (i + 1) (map bid os)) (later_jobs os i o at.ascending at.some_left at.is))
 
   pub rest_next : drop n rest ≡ drop (seen + length run) grants
@@ -232,8 +231,8 @@ module _ (os : List Offer) (i : ℕ) (o : Offer) (grants rest run : List Grant) 
       ∙ first_is (drop (i + 1) (map bid os)) grants (seen + place)
       (All-weaker (λ (b : Bid). All (λ (g : Grant). g.job < b.job) (take (seen + length run) grants)) (λ (b : Bid). (m : ℕ) → first_waste grants b.job b.expr ≡ Some m → seen + place ≤ m)
       (λ b earlier m e.
-          let behind : seen + length run ≤ m = waste_behind grants (seen + length run) m b.job b.expr seen_more
-              (All-weaker (λ (g : Grant). g.job < b.job) (λ (g : Grant). g.job ≢ b.job) (λ g lt same. absurd (omega arith)) (take (seen + length run) grants) earlier) e in
-          let inside : place < length run = waste_within run o.job place (tree o.expr) found in
-          omega arith)
+      let behind : seen + length run ≤ m = waste_behind grants (seen + length run) m b.job b.expr seen_more
+      (All-weaker (λ (g : Grant). g.job < b.job) (λ (g : Grant). g.job ≢ b.job) (λ g lt same. absurd (omega arith)) (take (seen + length run) grants) earlier) e in
+      let inside : place < length run = waste_within run o.job place (tree o.expr) found in
+      omega arith)
       (drop (i + 1) (map bid os)) before_next)

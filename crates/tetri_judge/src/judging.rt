@@ -50,20 +50,32 @@ pub fn judge(inst: &Instance, carry: u64, budget: u32, c: &Cycle) -> Result<(), 
     }
     let found = total(inst, &c.grants);
     if found != c.value {
-        return Err(Verdict::WrongValue { printed: c.value, found });
+        return Err(Verdict::WrongValue {
+            printed: c.value,
+            found,
+        });
     }
     if let Some(place) = first_wasted(inst, &c.grants) {
         return Err(Verdict::WasteGrant(place));
     }
     if c.value < carry {
-        return Err(Verdict::BelowCarry { printed: c.value, carry });
+        return Err(Verdict::BelowCarry {
+            printed: c.value,
+            carry,
+        });
     }
     if !is_of_tops(&c.certificate) {
-        return Err(Verdict::BadTree { node: 0, why: TreeWhy::Kind });
+        return Err(Verdict::BadTree {
+            node: 0,
+            why: TreeWhy::Kind,
+        });
     }
     let found = tops(inst);
     if found != c.bound {
-        return Err(Verdict::WrongBound { printed: c.bound, found });
+        return Err(Verdict::WrongBound {
+            printed: c.bound,
+            found,
+        });
     }
     if !is_rightly_marked(c) {
         return Err(Verdict::WrongMark);

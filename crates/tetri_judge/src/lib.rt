@@ -8,3 +8,5 @@ mod wasted;
 pub use judging::judge;
 pub use verdict::Verdict;
 
+#[cfg(test)]
+mod tests;

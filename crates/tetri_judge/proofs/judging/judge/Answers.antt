@@ -1,4 +1,3 @@
-use Rattle.std.proofs.Common.{refl}
 use Rattle.tetri_judge.specs.Verdict.{IsFirstFailed}
 use Rattle.tetri_judge.specs.declared.verdict.Verdict.TheVariants.{Unlawful}
 use Rattle.tetri_judge.proofs.VerdictLemmas.{good_is_not_refused}

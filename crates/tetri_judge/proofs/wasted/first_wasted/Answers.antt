@@ -1,9 +1,8 @@
-use Rattle.std.proofs.Common.{◌≡◌, List, None, ◌∙◌, ap, subst, sym}
+use Rattle.std.proofs.Common.{◌≡◌, None, ◌∙◌, ap, subst, sym}
 use Rattle.std.specs.Prelude.{◌↔◌}
 use Rattle.tetri_claims.specs.Good.{IsThriftyForAll}
 use Rattle.tetri_judge.specs.Wasted.{first_wasted}
 use Rattle.tetri_space.specs.Space.{space}
-use Rattle.tetri_strl.specs.declared.grants.Grant.{Grant}
 use Rattle.tetri_judge.proofs.WastedLemmas.{none_wasted}
 use Rattle.tetri_judge.proofs.wasted.first_wasted.Goals as goal
 

@@ -1,4 +1,4 @@
-use Rattle.std.proofs.Common.{◌<◌, ◌∙◌, length, map, drop, All, AllPairs, ap, subst, sym, arith}
+use Rattle.std.proofs.Common.{◌<◌, ◌∙◌, length, map, All, AllPairs, ap, subst, sym, arith}
 use Rattle.std.specs.List.Sorted.{IsNonDecreasingBy}
 use Rattle.std.proofs.lemmas.List.Sorted.{IsNonDecreasingBy-drop}
 use Rattle.std.proofs.lemmas.List.{length-drop}
