@@ -3,9 +3,11 @@
 
 mod certificate;
 mod mark;
+mod tree_why;
 
 pub use certificate::{Certificate, print_onto};
 pub use mark::PlanMark;
+pub use tree_why::TreeWhy;
 
 #[cfg(test)]
 mod tests;

@@ -1,4 +1,5 @@
 pub mod Block
+pub mod PlanOf
 pub mod Printable
 pub mod Text
 pub mod Line

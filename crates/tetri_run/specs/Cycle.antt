@@ -1,10 +1,10 @@
 -- What one cycle of a run says.
 use Rattle.std.specs.Prelude.{◌≡◌, ◌<◌, ◌≤◌, ◌⊎◌, List, AllPairs, map}
 use Rattle.tetri_strl.specs.declared.grants.Grant.{Grant}
-use Rattle.tetri_claims.specs.Planned.{Planned}
 use Rattle.tetri_claims.specs.Good.{IsGood}
 use Rattle.tetri_claims.specs.Certified.{IsBoundedByTops}
 use Rattle.tetri_report.specs.Block.{Block}
+use Rattle.tetri_report.specs.PlanOf.{planned}
 use Rattle.tetri_report.specs.Printable.{IsInRange}
 use Rattle.tetri_space.specs.Space.{Space}
 use Rattle.tetri_space.specs.Total.{total_in}
@@ -15,9 +15,6 @@ use Rattle.tetri_state.specs.Snapshot.{Snapshot}
 use Rattle.tetri_trace.specs.Scenario.{Scenario}
 use Rattle.tetri_run.specs.FirstFit.{first_fit}
 use Rattle.tetri_run.specs.Kept.{kept}
-
-abbrev pub planned : Block → Planned
-planned b = record { value = b.value; bound = b.bound; mark = b.mark; nodes = b.nodes; grants = b.grants; certificate = b.certificate }
 
 abbrev pub occurrences_in : Block → Occurrences
 occurrences_in b = record { ended = b.ended; cancelled = b.cancelled; over = b.over; expired = b.expired }

@@ -1,0 +1,12 @@
+//! The judge of one cycle: whether its plan is good and its bound is certified.
+#![tactic(auto)]
+
+mod judging;
+mod verdict;
+mod wasted;
+
+pub use judging::judge;
+pub use verdict::Verdict;
+
+#[cfg(test)]
+mod tests;

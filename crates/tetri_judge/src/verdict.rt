@@ -1,0 +1,22 @@
+// What is wrong with a cycle.
+use tetri_cert::TreeWhy;
+use tetri_space::Unlawful;
+
+/// The first test that a cycle fails, in the order in which the tests are made.
+#[derive(Clone, Copy, Debug, PartialEq, Eq)]
+pub enum Verdict {
+    /// The grants are not lawful.
+    Unlawful(Unlawful),
+    /// The grants are worth another value than the printed one.
+    WrongValue { printed: u64, found: u64 },
+    /// The grant at this place, the first such, earns its job nothing.
+    WasteGrant(u64),
+    /// The value is less than that of what is carried over.
+    BelowCarry { printed: u64, carry: u64 },
+    /// The certificate does not stand, at this node of its tree or as a whole at node 0.
+    BadTree { node: u64, why: TreeWhy },
+    /// The certificate gives another bound than the printed one.
+    WrongBound { printed: u64, found: u64 },
+    /// The mark does not go with value and bound, or nodes of a tree are counted where there is none.
+    WrongMark,
+}
