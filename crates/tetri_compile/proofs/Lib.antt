@@ -9,6 +9,7 @@ pub mod KidLemmas
 pub mod LawLemmas
 pub mod LawfulLemmas
 pub mod OutlineLemmas
+pub mod ProgramLemmas
 pub mod SizeLemmas
 pub mod TallyLemmas
 pub mod ThriftOfLeft

@@ -4,5 +4,6 @@ pub mod Flat
 pub mod Forms
 pub mod Marks
 pub mod Sizes
+pub mod Small
 pub mod Walk
 pub mod Walked

@@ -4,8 +4,10 @@
 #![tactic(auto)]
 
 mod compiling;
+mod flattening;
 mod outline;
 mod sizes;
+mod supply;
 mod walking;
 
 pub use compiling::{Compiled, Count};
