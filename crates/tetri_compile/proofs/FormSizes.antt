@@ -16,7 +16,7 @@ use Rattle.tetri_compile.specs.Forms.{share, Form, times, run, Limit, limit}
 use Rattle.tetri_compile.specs.Walk.{ones, best, own_uppers, uppers, uppers_of, width, form, forms, rows, rows_of, rows_under}
 use Rattle.tetri_space.proofs.ListLemmas.{Each-map, Each-append}
 
-run_small : {X : Type 0} (b m n : ℕ) (xs : List X) → b ≤ m → Each (λ s. s.by ≤ m) (run b n xs)
+pub run_small : {X : Type 0} (b m n : ℕ) (xs : List X) → b ≤ m → Each (λ s. s.by ≤ m) (run b n xs)
 run_small b m n [] le = tt
 run_small b m n (x ∷ xs) le = (le, run_small b m (n + 1) xs le)
 
@@ -72,7 +72,7 @@ module _ (inside : ℕ → List ℕ) (room : ℕ → ℕ → ℕ) where
         (forms_small ts sound.1 m h.1 (j + 1) (n + width inside room t))
 
   -- ---- columns
-  run_in : {X : Type 0} (b n top : ℕ) (xs : List X) → n + length xs ≤ top → Each (λ s. s.column < top) (run b n xs)
+  pub run_in : {X : Type 0} (b n top : ℕ) (xs : List X) → n + length xs ≤ top → Each (λ s. s.column < top) (run b n xs)
   run_in b n top [] le = tt
   run_in b n top (x ∷ xs) le = (omega arith, run_in b (n + 1) top xs (omega arith))
 

@@ -1,4 +1,5 @@
 pub mod BoxLemmas
+pub mod CompileLemmas
 pub mod Example
 pub mod FairLemmas
 pub mod FlatLemmas
@@ -11,6 +12,7 @@ pub mod LawfulLemmas
 pub mod OutlineLemmas
 pub mod ProgramLemmas
 pub mod SizeLemmas
+pub mod SmallLemmas
 pub mod TallyLemmas
 pub mod ThriftOfLeft
 pub mod WalkLemmas

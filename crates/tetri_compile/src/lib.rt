@@ -10,5 +10,5 @@ mod sizes;
 mod supply;
 mod walking;
 
-pub use compiling::{Compiled, Count};
+pub use compiling::{Compiled, Count, compile};
 pub use sizes::size;
