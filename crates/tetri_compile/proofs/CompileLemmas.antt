@@ -60,7 +60,7 @@ module _ (s : Space) (p : Parts) (are : ArePartitionsOf s p) (o walked full : Ou
       (supplied.tallies ∙ append-nil walked.tallies.items ∙ tallies_are)
 
 module _ (s : Space) (sound : IsSoundSpace s) (p : Parts) (are : ArePartitionsOf s p) where
-  sound_bids : Each (λ b. IsSound b.expr) (live_bids s)
+  pub sound_bids : Each (λ b. IsSound b.expr) (live_bids s)
   sound_bids =
       Each-map (λ b. IsSound b.expr × EachLeaf (IsReady s p) b.expr) (λ b. IsSound b.expr) (λ b h. h.0) (live_bids s)
       (subst (Each (λ b. IsSound b.expr × EachLeaf (IsReady s p) b.expr)) are.bids (bids_ready s sound p are))

@@ -1,10 +1,13 @@
 pub mod BoxLemmas
 pub mod CompileLemmas
+pub mod CountLemmas
 pub mod Example
 pub mod FairLemmas
+pub mod FitLemmas
 pub mod FlatLemmas
 pub mod FormLemmas
 pub mod FormSizes
+pub mod GainLemmas
 pub mod GrantLemmas
 pub mod KidLemmas
 pub mod LawLemmas

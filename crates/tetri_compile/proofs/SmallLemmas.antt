@@ -23,7 +23,7 @@ use Rattle.tetri_compile.specs.Walk.{best, form, forms, ones, own_uppers, rows, 
 use Rattle.tetri_compile.proofs.FormSizes.{form_in, form_small, run_in, run_small}
 
 -- no worth of a sound expression is above the greatest peak
-peak_small : (t : Tree) → IsSound t → peak t ≤ PEAK
+pub peak_small : (t : Tree) → IsSound t → peak t ≤ PEAK
 peak_small (one l) sound = sound.1
 peak_small (join op ts) sound = sound.2
 peak_small (scale t s) sound = sound.2
@@ -124,7 +124,7 @@ module _ (inside : ℕ → List ℕ) (room : ℕ → ℕ → ℕ) where
         (rows_small b.expr sound.0 n (n + 1) (omega arith) (omega (arith, le, w)))
         (bid_rows_small bs (n + 1 + width inside room b.expr) sound.1 (omega (arith, le, w)))
 
-    objective_few : (bs : List Bid) (n : ℕ) → length (objective inside room bs n) ≤ length (bid_uppers inside room bs)
+    pub objective_few : (bs : List Bid) (n : ℕ) → length (objective inside room bs n) ≤ length (bid_uppers inside room bs)
     objective_few [] n = omega arith
     objective_few (b ∷ bs) n =
         omega (arith, length-append (form inside room b.expr n (n + 1)) (objective inside room bs (n + 1 + width inside room b.expr)), length-append (uppers inside room b.expr) (bid_uppers inside room bs),

@@ -1,7 +1,9 @@
 pub mod Allotted
+pub mod Counting
 pub mod Draft
 pub mod Flat
 pub mod Forms
+pub mod Gain
 pub mod Marks
 pub mod Sizes
 pub mod Small

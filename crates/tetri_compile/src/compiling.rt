@@ -3,7 +3,7 @@ ghost use Rattle.std.specs.Prelude.{◌≡◌, ◌<◌, ◌≤◌, ◌+◌, ◌^
 ghost use Rattle.tetri_strl.specs.Aligned.{EachLeaf};
 ghost use Rattle.tetri_strl.specs.WellMade.{IsSound};
 ghost use Rattle.tetri_strl.specs.declared.grants.Grant.{Grant};
-ghost use Rattle.tetri_ip.specs.Points.{IsPoint, box_of, objective as worth_at};
+ghost use Rattle.tetri_ip.specs.Points.{IsFit, IsPoint, box_of, objective as worth_at};
 ghost use Rattle.tetri_space.specs.Lawful.{IsLawful};
 ghost use Rattle.tetri_space.specs.Lists.{Each};
 ghost use Rattle.tetri_space.specs.Partitions.{ArePartitionsOf, parts_of};
@@ -11,8 +11,10 @@ ghost use Rattle.tetri_space.specs.Sound.{IsSound as IsSoundSpace};
 ghost use Rattle.tetri_space.specs.Space.{space};
 ghost use Rattle.tetri_space.specs.Total.{total_in};
 ghost use Rattle.tetri_compile.specs.Allotted.{point_of};
+ghost use Rattle.tetri_compile.specs.Counting.{AreCountsOf};
 ghost use Rattle.tetri_compile.specs.Draft.{bid_rows, bid_tallies, bid_uppers, objective};
 ghost use Rattle.tetri_compile.specs.Flat.{IsCompiled, column_count, row_count};
+ghost use Rattle.tetri_compile.specs.Gain.{most_gain};
 ghost use Rattle.tetri_compile.specs.Walked.{Grows, IsReady, inside, next_column, room};
 
 use crate::flattening::{counts_from, flatten};
@@ -73,7 +75,8 @@ fn walk_bids(
 }
 
 /// The program of an instance, and its columns that count nodes. Every lawful allotment has a point of
-/// the program at which it earns no less than the allotment's total.
+/// the program at which the program earns no less than the allotment's total. The program is fit, its
+/// lower bounds are 0, and its columns can earn at most 2^64 - 1 together.
 pub fn compile(
     alloc: Global,
     inst: &Instance,
@@ -87,7 +90,10 @@ pub fn compile(
     ensures allotments { IfOk result (λ c. (a : List Grant) → IsLawful (space inst.entry.now) a →
         IsPoint c.program (box_of c.program) (point_of (space inst.entry.now) a)
         × (pos (total_in (space inst.entry.now) a) ≤ℤ worth_at c.program (point_of (space inst.entry.now) a))) }
+    ensures fit { IfOk result (λ c. IsFit c.program) }
     ensures lower { IfOk result (λ c. All (λ z. z ≡ pos 0) c.program.lower.items) }
+    ensures counts { IfOk result (λ c. AreCountsOf c.program c.counts.items) }
+    ensures bounded { IfOk result (λ c. most_gain c.program < 2 ^ 64) }
 {
     let mut out = Outline {
         uppers: Vec::new(alloc),
