@@ -213,11 +213,11 @@ module _ (i : Space) (os : List Bid) (parts : List (List ℕ)) (a : List Grant) 
     -- no two count the same
     bids_other : (bs : List Bid) (n : ℕ) → Each (λ b. IsSound b.expr × AreApart b.expr) bs → EachPair (λ b c. b.job ≡ c.job → ⊥) bs →
         EachPair (CountsOther inside room) (bid_tallies inside room bs n)
-    bids_other [] n good jobs = tt
-    bids_other (b ∷ bs) n good jobs =
+    bids_other [] n fine jobs = tt
+    bids_other (b ∷ bs) n fine jobs =
         EachPair-append (CountsOther inside room) _ _
-        (tallies_other inside room (λ s. filter-ascends (λ p. list_all (has (set_at i s)) (part_at parts p)) (range_with_len 0 (length parts)) (range-ascends 0 (length parts))) b.job b.expr (n + 1) good.0.1)
-        (bids_other bs (n + 1 + width inside room b.expr) good.1 jobs.1)
+        (tallies_other inside room (λ s. filter-ascends (λ p. list_all (has (set_at i s)) (part_at parts p)) (range_with_len 0 (length parts)) (range-ascends 0 (length parts))) b.job b.expr (n + 1) fine.0.1)
+        (bids_other bs (n + 1 + width inside room b.expr) fine.1 jobs.1)
         (Each-across (λ c. c.job ≡ b.job) (λ d. b.job ≡ d.job → ⊥) (CountsOther inside room) (λ c d p q e f g. q (sym p ∙ e)) _ _
           (Each-map (IsOf inside room b.job (leaves b.expr)) (λ c. c.job ≡ b.job) (λ c o. o.job) _ (tallies_leaf inside room b.job b.expr (n + 1)))
           (of_others bs (n + 1 + width inside room b.expr) jobs.0))

@@ -16,7 +16,7 @@ use Rattle.tetri_compile.specs.Forms.{share, Form, times, run, Limit, limit}
 use Rattle.tetri_compile.specs.Walk.{ones, best, own_uppers, uppers, uppers_of, width, form, forms, rows, rows_of, rows_under}
 use Rattle.tetri_space.proofs.ListLemmas.{Each-map, Each-append}
 
-run_small : {X : Type 0} (b m n : ℕ) (xs : List X) → b ≤ m → Each (λ s. s.by ≤ m) (run b n xs)
+pub run_small : {X : Type 0} (b m n : ℕ) (xs : List X) → b ≤ m → Each (λ s. s.by ≤ m) (run b n xs)
 run_small b m n [] le = tt
 run_small b m n (x ∷ xs) le = (le, run_small b m (n + 1) xs le)
 
@@ -24,7 +24,7 @@ times_small : (s m : ℕ) (f : Form) → Each (λ p. p.by ≤ m) f → Each (λ 
 times_small s m [] h = tt
 times_small s m (p ∷ ps) h = (mul-le-mul_left s h.0, times_small s m ps h.1)
 
-abbrev AllBelow : ℕ → List ℕ → Type 0
+abbrev pub AllBelow : ℕ → List ℕ → Type 0
 AllBelow m [] = Unit {0}
 AllBelow m (x ∷ xs) = (x ≤ m) × AllBelow m xs
 
@@ -32,11 +32,11 @@ below_up : (m n : ℕ) (xs : List ℕ) → m ≤ n → AllBelow m xs → AllBelo
 below_up m n [] le h = tt
 below_up m n (x ∷ xs) le h = (le_trans h.0 le, below_up m n xs le h.1)
 
-below_greatest : (xs : List ℕ) → AllBelow (greatest_of xs) xs
+pub below_greatest : (xs : List ℕ) → AllBelow (greatest_of xs) xs
 below_greatest [] = tt
 below_greatest (x ∷ xs) = (omega arith, below_up (greatest_of xs) (max x (greatest_of xs)) xs (omega arith) (below_greatest xs))
 
-below_added : (xs : List ℕ) → AllBelow (added_of xs) xs
+pub below_added : (xs : List ℕ) → AllBelow (added_of xs) xs
 below_added [] = tt
 below_added (x ∷ xs) = (omega arith, below_up (added_of xs) (x + added_of xs) xs (omega arith) (below_added xs))
 
@@ -72,7 +72,7 @@ module _ (inside : ℕ → List ℕ) (room : ℕ → ℕ → ℕ) where
         (forms_small ts sound.1 m h.1 (j + 1) (n + width inside room t))
 
   -- ---- columns
-  run_in : {X : Type 0} (b n top : ℕ) (xs : List X) → n + length xs ≤ top → Each (λ s. s.column < top) (run b n xs)
+  pub run_in : {X : Type 0} (b n top : ℕ) (xs : List X) → n + length xs ≤ top → Each (λ s. s.column < top) (run b n xs)
   run_in b n top [] le = tt
   run_in b n top (x ∷ xs) le = (omega arith, run_in b (n + 1) top xs (omega arith))
 

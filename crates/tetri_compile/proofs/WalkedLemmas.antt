@@ -3,12 +3,12 @@ use Rattle.std.proofs.Common.{◌≡◌, ℕ, ◌+◌, ◌==◌, ◌<◌, ◌^�
 use Rattle.std.specs.Prelude.{if◌then◌else◌}
 use Rattle.std.proofs.lemmas.List.{append_assoc, append-nil, length-append}
 use Rattle.tetri_strl.specs.Tree.{Tree, Trees, join, least, added, more}
-use Rattle.tetri_space.specs.Space.{Space}
+use Rattle.tetri_space.specs.Space.{Bid, Space}
 use Rattle.tetri_compile.specs.declared.outline.Inequality.{Inequality}
 use Rattle.tetri_compile.specs.declared.outline.Outline.{Outline}
 use Rattle.tetri_compile.specs.declared.outline.Share.{Share}
 use Rattle.tetri_compile.specs.declared.outline.Tally.{Tally}
-use Rattle.tetri_compile.specs.Draft.{tallies, tallies_of}
+use Rattle.tetri_compile.specs.Draft.{bid_rows, bid_tallies, bid_uppers, objective, tallies, tallies_of}
 use Rattle.tetri_compile.specs.Forms.{Form, Limit, limit, run, share, plain_limit}
 use Rattle.tetri_compile.specs.Walk.{best, ones, uppers, uppers_of, width, width_of, form, forms, rows, rows_of, rows_under}
 use Rattle.tetri_compile.specs.Walked.{Grows, IsWalked, AreWalked, inside, next_column, room}
@@ -82,3 +82,49 @@ place_next s job t rest here all first k start old new before after f cut walked
        ∙ rows_next ins rm job (first + k) t rest old new f walked.form walked.grows
        ∙ ap (λ (us : Trees). map plain_limit old.rows.items ++ rows_of ins rm us (first + k) (next_column old)) (sym cut) ∙ h_rows,
      tallies_next ins rm job (first + k) t rest old new f walked.form walked.grows ∙ ap (λ (us : Trees). old.tallies.items ++ tallies_of ins rm job us (next_column old)) (sym cut) ∙ h_tallies)
+
+-- one more bid, where the bids from a place on were still to be walked
+pub bid_next : (s : Space) (b : Bid) (rest here all : List Bid) (i : ℕ) (start old mid new : Outline) (before after f : Form) →
+    here ≡ b ∷ rest → i ≡ next_column old → mid.uppers.items ≡ old.uppers.items ++ 1 ∷ [] → mid.rows.items ≡ old.rows.items → mid.tallies.items ≡ old.tallies.items →
+    IsWalked s b.job b.expr i mid new f → after ≡ before ++ f →
+    next_column old + length (bid_uppers (inside s) (room s) here) < 2 ^ 31 →
+    before ++ objective (inside s) (room s) here (next_column old) ≡ objective (inside s) (room s) all (next_column start) →
+    old.uppers.items ++ bid_uppers (inside s) (room s) here ≡ start.uppers.items ++ bid_uppers (inside s) (room s) all →
+    map plain_limit old.rows.items ++ bid_rows (inside s) (room s) here (next_column old) ≡ map plain_limit start.rows.items ++ bid_rows (inside s) (room s) all (next_column start) →
+    old.tallies.items ++ bid_tallies (inside s) (room s) here (next_column old) ≡ start.tallies.items ++ bid_tallies (inside s) (room s) all (next_column start) →
+    (next_column new + length (bid_uppers (inside s) (room s) rest) < 2 ^ 31)
+    × (after ++ objective (inside s) (room s) rest (next_column new) ≡ objective (inside s) (room s) all (next_column start))
+    × (new.uppers.items ++ bid_uppers (inside s) (room s) rest ≡ start.uppers.items ++ bid_uppers (inside s) (room s) all)
+    × (map plain_limit new.rows.items ++ bid_rows (inside s) (room s) rest (next_column new) ≡ map plain_limit start.rows.items ++ bid_rows (inside s) (room s) all (next_column start))
+    × (new.tallies.items ++ bid_tallies (inside s) (room s) rest (next_column new) ≡ start.tallies.items ++ bid_tallies (inside s) (room s) all (next_column start))
+bid_next s b rest here all i start old mid new before after f cut is_i put same_rows same_tallies walked ext fits h_form h_uppers h_rows h_tallies =
+    let ins = inside s in
+    let rm = room s in
+    let n = next_column old in
+    let us = uppers ins rm b.expr in
+    let mid_is : next_column mid ≡ n + 1 = ap length put ∙ length-append old.uppers.items (1 ∷ []) in
+    let grown : next_column new ≡ next_column mid + length us = grows_length mid new us (rows ins rm b.expr i (next_column mid)) (tallies ins rm b.job b.expr (next_column mid)) walked.grows in
+    let next : next_column new ≡ n + 1 + width ins rm b.expr = omega (arith, grown, mid_is) in
+    let wide = length-append us (bid_uppers ins rm rest) in
+    let size : length (bid_uppers ins rm here) ≡ length (bid_uppers ins rm (b ∷ rest)) = ap (λ (bs : List Bid). length (bid_uppers ins rm bs)) cut in
+    let form_is : f ≡ form ins rm b.expr n (n + 1) = walked.form ∙ ap (λ (j : ℕ). form ins rm b.expr j (next_column mid)) is_i ∙ ap (λ (m : ℕ). form ins rm b.expr n m) mid_is in
+    let rows_are : rows ins rm b.expr i (next_column mid) ≡ rows ins rm b.expr n (n + 1) = ap (λ (j : ℕ). rows ins rm b.expr j (next_column mid)) is_i ∙ ap (λ (m : ℕ). rows ins rm b.expr n m) mid_is in
+    (omega (arith, fits, wide, size, next),
+     ap (λ (g : Form). g ++ objective ins rm rest (next_column new)) (ext ∙ ap (λ (g : Form). before ++ g) form_is)
+       ∙ append_assoc before (form ins rm b.expr n (n + 1)) (objective ins rm rest (next_column new))
+       ∙ ap (λ (m : ℕ). before ++ (form ins rm b.expr n (n + 1) ++ objective ins rm rest m)) next
+       ∙ ap (λ (bs : List Bid). before ++ objective ins rm bs n) (sym cut) ∙ h_form,
+     ap (λ (vs : List ℕ). vs ++ bid_uppers ins rm rest) (walked.grows.uppers ∙ ap (λ (vs : List ℕ). vs ++ us) put)
+       ∙ append_assoc (old.uppers.items ++ 1 ∷ []) us (bid_uppers ins rm rest)
+       ∙ append_assoc old.uppers.items (1 ∷ []) (us ++ bid_uppers ins rm rest)
+       ∙ ap (λ (bs : List Bid). old.uppers.items ++ bid_uppers ins rm bs) (sym cut) ∙ h_uppers,
+     ap (λ (rs : List Limit). rs ++ bid_rows ins rm rest (next_column new))
+         (walked.grows.rows ∙ ap (λ (qs : List Inequality). map plain_limit qs ++ rows ins rm b.expr i (next_column mid)) same_rows ∙ ap (λ (rs : List Limit). map plain_limit old.rows.items ++ rs) rows_are)
+       ∙ append_assoc (map plain_limit old.rows.items) (rows ins rm b.expr n (n + 1)) (bid_rows ins rm rest (next_column new))
+       ∙ ap (λ (m : ℕ). map plain_limit old.rows.items ++ (rows ins rm b.expr n (n + 1) ++ bid_rows ins rm rest m)) next
+       ∙ ap (λ (bs : List Bid). map plain_limit old.rows.items ++ bid_rows ins rm bs n) (sym cut) ∙ h_rows,
+     ap (λ (cs : List Tally). cs ++ bid_tallies ins rm rest (next_column new))
+         (walked.grows.tallies ∙ ap (λ (cs : List Tally). cs ++ tallies ins rm b.job b.expr (next_column mid)) same_tallies ∙ ap (λ (m : ℕ). old.tallies.items ++ tallies ins rm b.job b.expr m) mid_is)
+       ∙ append_assoc old.tallies.items (tallies ins rm b.job b.expr (n + 1)) (bid_tallies ins rm rest (next_column new))
+       ∙ ap (λ (m : ℕ). old.tallies.items ++ (tallies ins rm b.job b.expr (n + 1) ++ bid_tallies ins rm rest m)) next
+       ∙ ap (λ (bs : List Bid). old.tallies.items ++ bid_tallies ins rm bs n) (sym cut) ∙ h_tallies)

@@ -3,6 +3,8 @@ use Rattle.std.proofs.Common.{◌≡◌, ℕ, zero, suc, ◌+◌, ◌*◌, ◌^�
 use Rattle.std.specs.Prelude.{nat_le, nat_lt}
 use Rattle.std.specs.List.{list_any, list_all, filter, range_with_len}
 use Rattle.std.proofs.Math.Nat.{mul-le-mul_left}
+use Rattle.std.proofs.lemmas.Bool.{and_parts}
+use Rattle.std.proofs.lemmas.Bool.Decides.{nat_tests}
 use Rattle.std.proofs.lemmas.List.{length-append, length-map, get_or_default}
 use Rattle.std.proofs.lemmas.List.Elements.{All-contains, Contains-append_left, Contains-append_right, Contains-append_cases}
 use Rattle.std.proofs.lemmas.List.Folds.{list_any-append}
@@ -10,21 +12,23 @@ use Rattle.std.proofs.lemmas.List.FromFn.{length-range_with_len}
 use Rattle.tetri_strl.specs.declared.expr.Leaf.{Leaf}
 use Rattle.tetri_strl.specs.Aligned.{EachLeaf, EachLeafOf}
 use Rattle.tetri_strl.specs.Tree.{Operator, greatest, least, added, Tree, one, join, scale, barrier, Trees, none, more, leaves, leaves_of}
+use Rattle.tetri_strl.specs.Prune.{starts_in}
 use Rattle.tetri_strl.specs.WellMade.{IsSound, AreSound, IsGoodLeaf, HasChild, depth, depth_of, peak}
 use Rattle.tetri_strl.proofs.PartsApart.{the_one}
 use Rattle.tetri_strl.proofs.WorthLemmas.{EachLeaf-from, each_good}
 use Rattle.tetri_space.specs.Lists.{bit, count, has, sum_of, Each}
 use Rattle.tetri_space.specs.Partitions.{Parts, ArePartitionsOf, parts_found, parts_in, partitions, live_bids, sets_in, part_at, set_at, available, asked, alike, leads}
 use Rattle.tetri_space.specs.Sound.{IsSound as IsSoundSpace, IsSoundBid, HasKnownSet}
-use Rattle.tetri_space.specs.Space.{Bid, Space}
+use Rattle.tetri_space.specs.Space.{Bid, Space, IsLive}
 use Rattle.tetri_space.proofs.ListLemmas.{Each-get, Each-at, Each-from, Each-all, Each-filter, Each-map, sum_of-append, sum_of-eq, sum_of-le, sum_of-swap, range_from}
 use Rattle.tetri_space.proofs.PartsLemmas.{live_within, filter_shorter}
-use Rattle.tetri_space.proofs.PrunedLemmas.{OfLeft, IsLess, IsLeftOf, IsSmaller, each_left_of, left_smaller, left_sound, sets_in_has, bids_left-shorter}
+use Rattle.tetri_space.proofs.PrunedLemmas.{AreFrom, left_leaves, OfLeft, IsLess, IsLeftOf, IsSmaller, each_left_of, left_smaller, left_sound, sets_in_has, bids_left-shorter}
 use Rattle.tetri_compile.specs.declared.outline.Tally.{Tally}
 use Rattle.tetri_compile.specs.Draft.{leaf_tallies, is_held, supply_row, tallies, tallies_of, bid_uppers, bid_rows, bid_tallies, part_supply, supply}
 use Rattle.tetri_compile.specs.Flat.{column_count, row_count}
 use Rattle.tetri_compile.specs.Forms.{Limit, limit, share, run}
 use Rattle.tetri_compile.specs.Sizes.{width_by, widths_by, widths_marked, row_total, row_totals, row_totals_under, covers, leaves_in, is_used, IsUsable, HasUsableParts}
+use Rattle.tetri_compile.specs.Walked.{IsReady}
 use Rattle.tetri_compile.specs.Walk.{ones, own_uppers, uppers, uppers_of, width, form, rows, rows_of, rows_under, leaf_rows}
 use Rattle.tetri_compile.proofs.SizeLemmas.{any_test}
 
@@ -375,3 +379,22 @@ module _ (s : Space) (sound : IsSoundSpace s) (p : Parts) (are : ArePartitionsOf
   rows_small =
       let most = sum_most (λ b. row_total b.expr) 8320 (live_bids s) (Each-from (λ b. row_total b.expr ≤ 8320) (live_bids s) (λ b at. (bid_small b at).1)) in
       omega (arith, most, few_live, ap (sum_of (λ b. row_total b.expr)) are.bids)
+
+  -- ---- each live bid is ready for its walk
+  pub bids_ready : Each (λ b. IsSound b.expr × EachLeaf (IsReady s p) b.expr) p.bids
+  bids_ready = subst (Each (λ b. IsSound b.expr × EachLeaf (IsReady s p) b.expr)) (sym are.bids) (Each-from (λ b. IsSound b.expr × EachLeaf (IsReady s p) b.expr) (live_bids s) (λ b at.
+      from_left b at (Each-at (IsLeftOf s.now (s.now + s.window) s.bids) (live_bids s) b (each_left_of s.now (s.now + s.window) s.bids) at)))
+    where
+      live : (l : Leaf) → starts_in s.now (s.now + s.window) l ≡ true → IsLive s l
+      live l e = let both = and_parts (nat_le s.now l.start) (nat_lt l.start (s.now + s.window)) e in record { not_early = low s.now l.start both.0; not_late = high l.start (s.now + s.window) both.1 }
+        where
+          low : (m n : ℕ) → nat_le m n ≡ true → m ≤ n
+          low m n e = grind (arith, nat_tests)
+          high : (m n : ℕ) → nat_lt m n ≡ true → m < n
+          high m n e = grind (arith, nat_tests)
+      from_left : (b : Bid) → Contains (live_bids s) b → IsLeftOf s.now (s.now + s.window) s.bids b → IsSound b.expr × EachLeaf (IsReady s p) b.expr
+      from_left b at h =
+          let whole = All-contains (IsSoundBid s) s.bids h.whole sound.sound_bids h.among in
+          let left = subst (OfLeft (IsLess s.now (s.now + s.window) (peak h.whole.expr))) h.left (left_sound s.now (s.now + s.window) h.whole.expr whole.well_made.sound) in
+          let among = subst (OfLeft (λ u. AreFrom s.now (s.now + s.window) (leaves h.whole.expr) (leaves u))) h.left (left_leaves s.now (s.now + s.window) h.whole.expr) in
+          (left.0, EachLeaf-from (IsReady s p) b.expr (λ l below. let f = found b l at below in record { known = f.0; parts = f.1; live = live l (among l below).1 }))

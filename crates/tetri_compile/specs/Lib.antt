@@ -1,8 +1,11 @@
 pub mod Allotted
+pub mod Counting
 pub mod Draft
 pub mod Flat
 pub mod Forms
+pub mod Gain
 pub mod Marks
 pub mod Sizes
+pub mod Small
 pub mod Walk
 pub mod Walked

@@ -1,5 +1,29 @@
 // The program of an instance.
+ghost use Rattle.std.specs.Prelude.{◌≡◌, ◌<◌, ◌≤◌, ◌+◌, ◌^◌, All, List, length, pos, ◌≤ℤ◌, IfOk, OnOk};
+ghost use Rattle.tetri_strl.specs.Aligned.{EachLeaf};
+ghost use Rattle.tetri_strl.specs.WellMade.{IsSound};
+ghost use Rattle.tetri_strl.specs.declared.grants.Grant.{Grant};
+ghost use Rattle.tetri_ip.specs.Points.{IsFit, IsPoint, box_of, objective as worth_at};
+ghost use Rattle.tetri_space.specs.Lawful.{IsLawful};
+ghost use Rattle.tetri_space.specs.Lists.{Each};
+ghost use Rattle.tetri_space.specs.Partitions.{ArePartitionsOf, parts_of};
+ghost use Rattle.tetri_space.specs.Sound.{IsSound as IsSoundSpace};
+ghost use Rattle.tetri_space.specs.Space.{space};
+ghost use Rattle.tetri_space.specs.Total.{total_in};
+ghost use Rattle.tetri_compile.specs.Allotted.{point_of};
+ghost use Rattle.tetri_compile.specs.Counting.{AreCountsOf};
+ghost use Rattle.tetri_compile.specs.Draft.{bid_rows, bid_tallies, bid_uppers, objective};
+ghost use Rattle.tetri_compile.specs.Flat.{IsCompiled, column_count, row_count};
+ghost use Rattle.tetri_compile.specs.Gain.{most_gain};
+ghost use Rattle.tetri_compile.specs.Walked.{Grows, IsReady, inside, next_column, room};
+
+use crate::flattening::{counts_from, flatten};
+use crate::outline::{Outline, Share};
+use crate::supply::add_supply;
+use crate::walking::walk;
+use std::alloc::{AllocError, Global};
 use tetri_ip::Program;
+use tetri_space::{Instance, Partitions};
 
 /// A column that counts the nodes which a leaf gets of one partition.
 #[derive(Clone, Copy, Debug, PartialEq, Eq)]
@@ -21,4 +45,64 @@ pub struct Compiled {
     pub program: Program,
     /// What its count columns count, ascending by column.
     pub counts: Vec<Count>,
+}
+
+// The walk of each job's expression, each under an indicator of its own: what the columns earn.
+fn walk_bids(
+    alloc: Global,
+    inst: &Instance,
+    parts: &Partitions,
+    out: &mut Outline,
+) -> Result<Vec<Share>, AllocError>
+    requires sound { IsSoundSpace (space inst.now) }
+    requires partitions { ArePartitionsOf (space inst.now) (parts_of parts.now) }
+    requires ready { Each (λ b. IsSound b.expr × EachLeaf (IsReady (space inst.now) (parts_of parts.now)) b.expr) (parts_of parts.now).bids }
+    requires fits { next_column out.old + length (bid_uppers (inside (space inst.now)) (room (space inst.now)) (parts_of parts.now).bids) < 2 ^ 31 }
+    ensures form { IfOk result (λ f. f.items ≡ objective (inside (space inst.entry.now)) (room (space inst.entry.now)) (parts_of parts.now).bids (next_column out.old)) }
+    ensures grows { OnOk result (Grows out.old out.new
+        (bid_uppers (inside (space inst.entry.now)) (room (space inst.entry.now)) (parts_of parts.now).bids)
+        (bid_rows (inside (space inst.entry.now)) (room (space inst.entry.now)) (parts_of parts.now).bids (next_column out.old))
+        (bid_tallies (inside (space inst.entry.now)) (room (space inst.entry.now)) (parts_of parts.now).bids (next_column out.old))) }
+{
+    let mut form = Vec::new(alloc);
+    for offer in parts.offers() {
+        let indicator = out.uppers.len() as u32;
+        out.uppers.push(1)?;
+        let part = walk(alloc, inst, parts, offer.job, &offer.expr, indicator, out)?;
+        form.extend_from_slice(&part)?;
+    }
+    Ok(form)
+}
+
+/// The program of an instance, and its columns that count nodes. Every lawful allotment has a point of
+/// the program at which the program earns no less than the allotment's total. The program is fit, its
+/// lower bounds are 0, and its columns can earn at most 2^64 - 1 together.
+pub fn compile(
+    alloc: Global,
+    inst: &Instance,
+    parts: &Partitions,
+) -> Result<Compiled, AllocError>
+    requires sound { IsSoundSpace (space inst.now) }
+    requires partitions { ArePartitionsOf (space inst.now) (parts_of parts.now) }
+    requires columns { column_count (space inst.now) ≤ 2000 }
+    requires rows { row_count (space inst.now) ≤ 2000 }
+    ensures compiled { IfOk result (λ c. IsCompiled (space inst.entry.now) c) }
+    ensures allotments { IfOk result (λ c. (a : List Grant) → IsLawful (space inst.entry.now) a →
+        IsPoint c.program (box_of c.program) (point_of (space inst.entry.now) a)
+        × (pos (total_in (space inst.entry.now) a) ≤ℤ worth_at c.program (point_of (space inst.entry.now) a))) }
+    ensures fit { IfOk result (λ c. IsFit c.program) }
+    ensures lower { IfOk result (λ c. All (λ z. z ≡ pos 0) c.program.lower.items) }
+    ensures counts { IfOk result (λ c. AreCountsOf c.program c.counts.items) }
+    ensures bounded { IfOk result (λ c. most_gain c.program < 2 ^ 64) }
+{
+    let mut out = Outline {
+        uppers: Vec::new(alloc),
+        rows: Vec::new(alloc),
+        tallies: Vec::new(alloc),
+    };
+    let form = walk_bids(alloc, inst, parts, &mut out)?;
+    add_supply(alloc, inst, parts, &mut out)?;
+    let program = flatten(alloc, &form, &out)?;
+    let counts = counts_from(alloc, &out.tallies)?;
+    Ok(Compiled { program, counts })
 }

@@ -4,9 +4,13 @@
 #![tactic(auto)]
 
 mod compiling;
+mod flattening;
 mod outline;
 mod sizes;
+mod supply;
+mod taking;
 mod walking;
 
-pub use compiling::{Compiled, Count};
+pub use compiling::{Compiled, Count, compile};
 pub use sizes::size;
+pub use taking::{Taken, counts_of};

@@ -1,0 +1,82 @@
+-- The outline of a whole instance is its program's draft, and the draft's numbers are small.
+use Rattle.std.proofs.Common.{◌≡◌, ℕ, zero, suc, ◌+◌, ◌<◌, ◌≤◌, All, get_or, List, [], ◌∷◌, ◌++◌, length, map, refl, sym, ap, ◌∙◌, subst, arith}
+use Rattle.std.specs.List.{range_with_len}
+use Rattle.std.proofs.lemmas.List.{append-nil, append_assoc}
+use lib.IntN.{ℤ, pos}
+use Rattle.tetri_strl.specs.WellMade.{IsSound}
+use Rattle.tetri_strl.specs.Aligned.{EachLeaf}
+use Rattle.tetri_space.specs.Lists.{Each}
+use Rattle.tetri_space.specs.Partitions.{ArePartitionsOf, Parts, live_bids, partitions}
+use Rattle.tetri_space.specs.Sound.{IsSound as IsSoundSpace}
+use Rattle.tetri_space.specs.Space.{Bid, Space}
+use Rattle.tetri_space.proofs.ListLemmas.{Each-append, Each-map}
+use Rattle.tetri_compile.specs.declared.outline.Outline.{Outline}
+use Rattle.tetri_compile.specs.declared.outline.Tally.{Tally}
+use Rattle.tetri_compile.specs.Draft.{Draft, bid_rows, bid_tallies, bid_uppers, draft, objective, supply}
+use Rattle.tetri_compile.specs.Flat.{column_count}
+use Rattle.tetri_compile.specs.Forms.{Form, Limit, plain_limit}
+use Rattle.tetri_compile.specs.Small.{IsSmallForm, IsSmallLimit}
+use Rattle.tetri_compile.specs.Walked.{Grows, IsReady, inside, next_column, room}
+use Rattle.tetri_compile.proofs.SmallLemmas.{bid_rows_small, bid_tallies_few, bid_tallies_in, free_few, objective_small, supply_small}
+use Rattle.tetri_compile.proofs.WidthLemmas.{bids_ready}
+
+abbrev pub made : List ℕ → Form → List Limit → List Tally → Draft
+made us f rs cs = record { uppers = us; objective = f; rows = rs; tallies = cs }
+
+-- what an outline says, with an objective
+abbrev pub outline_draft : Outline → Form → Draft
+outline_draft o f = made o.uppers.items f (map plain_limit o.rows.items) o.tallies.items
+
+made_same : (us vs : List ℕ) (f g : Form) (rs qs : List Limit) (cs ds : List Tally) → us ≡ vs → f ≡ g → rs ≡ qs → cs ≡ ds → made us f rs cs ≡ made vs g qs ds
+made_same us vs f g rs qs cs ds a b c d = ap (λ x. made x f rs cs) a ∙ ap (λ x. made vs x rs cs) b ∙ ap (λ x. made vs g x cs) c ∙ ap (λ x. made vs g qs x) d
+
+module _ (s : Space) (p : Parts) (are : ArePartitionsOf s p) (o walked full : Outline) (f : Form)
+    (no_uppers : o.uppers.items ≡ []) (no_rows : o.rows.items ≡ []) (no_tallies : o.tallies.items ≡ [])
+    (is : f ≡ objective (inside s) (room s) p.bids (next_column o))
+    (bids : Grows o walked (bid_uppers (inside s) (room s) p.bids) (bid_rows (inside s) (room s) p.bids (next_column o)) (bid_tallies (inside s) (room s) p.bids (next_column o)))
+    (supplied : Grows walked full [] (supply (inside s) (room s) walked.tallies.items (range_with_len s.now s.window) (range_with_len 0 (length (partitions s)))) []) where
+  none_yet : next_column o ≡ 0
+  none_yet = ap (λ (us : List ℕ). length us) no_uppers
+
+  tallies_are : walked.tallies.items ≡ bid_tallies (inside s) (room s) (live_bids s) 0
+  tallies_are =
+      bids.tallies ∙ ap (λ (cs : List Tally). cs ++ bid_tallies (inside s) (room s) p.bids (next_column o)) no_tallies
+      ∙ ap (λ (n : ℕ). bid_tallies (inside s) (room s) p.bids n) none_yet ∙ ap (λ (bs : List Bid). bid_tallies (inside s) (room s) bs 0) are.bids
+
+  rows_are : map plain_limit walked.rows.items ≡ bid_rows (inside s) (room s) (live_bids s) 0
+  rows_are =
+      bids.rows ∙ ap (λ rs. map plain_limit rs ++ bid_rows (inside s) (room s) p.bids (next_column o)) no_rows
+      ∙ ap (λ (n : ℕ). bid_rows (inside s) (room s) p.bids n) none_yet ∙ ap (λ (bs : List Bid). bid_rows (inside s) (room s) bs 0) are.bids
+
+  pub draft_is : outline_draft full f ≡ draft s
+  draft_is =
+      made_same full.uppers.items (draft s).uppers f (draft s).objective (map plain_limit full.rows.items) (draft s).rows full.tallies.items (draft s).tallies
+      (supplied.uppers ∙ append-nil walked.uppers.items ∙ bids.uppers ∙ ap (λ (us : List ℕ). us ++ bid_uppers (inside s) (room s) p.bids) no_uppers
+        ∙ ap (λ (bs : List Bid). bid_uppers (inside s) (room s) bs) are.bids)
+      (is ∙ ap (λ (n : ℕ). objective (inside s) (room s) p.bids n) none_yet ∙ ap (λ (bs : List Bid). objective (inside s) (room s) bs 0) are.bids)
+      (supplied.rows
+        ∙ ap (λ (rs : List Limit). rs ++ supply (inside s) (room s) walked.tallies.items (range_with_len s.now s.window) (range_with_len 0 (length (partitions s)))) rows_are
+        ∙ ap (λ (cs : List Tally). bid_rows (inside s) (room s) (live_bids s) 0 ++ supply (inside s) (room s) cs (range_with_len s.now s.window) (range_with_len 0 (length (partitions s)))) tallies_are)
+      (supplied.tallies ∙ append-nil walked.tallies.items ∙ tallies_are)
+
+module _ (s : Space) (sound : IsSoundSpace s) (p : Parts) (are : ArePartitionsOf s p) where
+  pub sound_bids : Each (λ b. IsSound b.expr) (live_bids s)
+  sound_bids =
+      Each-map (λ b. IsSound b.expr × EachLeaf (IsReady s p) b.expr) (λ b. IsSound b.expr) (λ b h. h.0) (live_bids s)
+      (subst (Each (λ b. IsSound b.expr × EachLeaf (IsReady s p) b.expr)) are.bids (bids_ready s sound p are))
+
+  pub draft_small : column_count s ≤ 2000 → IsSmallForm (column_count s) (draft s).objective × Each (IsSmallLimit (column_count s)) (draft s).rows
+  draft_small few =
+      let bs = live_bids s in
+      let top = column_count s in
+      let cs = bid_tallies (inside s) (room s) bs 0 in
+      (objective_small (inside s) (room s) top few bs sound_bids (omega arith),
+       Each-append (IsSmallLimit top) (bid_rows (inside s) (room s) bs 0) (supply (inside s) (room s) cs (range_with_len s.now s.window) (range_with_len 0 (length (partitions s))))
+         (bid_rows_small (inside s) (room s) top few bs 0 sound_bids (omega arith))
+         (supply_small (inside s) (room s) top few (free_few s sound) cs (bid_tallies_in (inside s) (room s) top few bs 0 (omega arith)) (bid_tallies_few (inside s) (room s) top few bs 0)
+           (range_with_len s.now s.window) (range_with_len 0 (length (partitions s)))))
+
+pub zeros_all : (us : List ℕ) → All (λ z. z ≡ pos 0) (map (λ (u : ℕ). pos 0) us)
+zeros_all [] k d lt = absurd (omega (arith, lt))
+zeros_all (u ∷ us) zero d lt = refl
+zeros_all (u ∷ us) (suc k) d lt = zeros_all us k d (omega (arith, lt))

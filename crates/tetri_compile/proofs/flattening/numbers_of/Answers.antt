@@ -1,0 +1,10 @@
+use Rattle.std.proofs.Common.{◌≡◌, ◌+◌, ◌<◌, ◌^◌, ℕ, List, replicate, slice_index_or, sym, ap, ◌∙◌, arith}
+use Rattle.tetri_compile.specs.Flat.{coefficient}
+use Rattle.tetri_compile.proofs.ProgramLemmas.{coefficient_small, none_at}
+use Rattle.tetri_compile.proofs.flattening.numbers_of.Goals as goal
+
+pub add_form-requires-clause-fits : goal.add_form-requires-clause-fits
+add_form-requires-clause-fits c = λ j.
+    let small = coefficient_small c.args.count c.args.form.now j c.requires.few c.requires.small in
+    let none = ap (λ (xs : List ℕ). slice_index_or xs j 0) (c.in_ok-numbers.ensures.items_if_clones_equal (λ y e. e)) ∙ none_at c.args.count j 0 in
+    omega (arith, small, none)

@@ -1,0 +1,24 @@
+use Rattle.std.proofs.Common.{◌≡◌, ◌+◌, ◌-◌, ◌<◌, ◌==◌, ◌++◌, List, [], length, map, sym, ap, ◌∙◌, arith}
+use Rattle.std.specs.List.{filter, range_with_len}
+use Rattle.std.proofs.lemmas.List.{append-nil}
+use Rattle.tetri_space.specs.Partitions.{partitions}
+use Rattle.tetri_space.specs.Space.{space}
+use Rattle.tetri_compile.specs.declared.outline.Tally.{Tally}
+use Rattle.tetri_compile.specs.Walked.{Grows, inside, room}
+use Rattle.tetri_compile.proofs.ProgramLemmas.{supply_next}
+use Rattle.tetri_compile.proofs.supply.add_supply.Goals as goal
+
+pub loop-part-preserved : goal.loop-part-preserved
+loop-part-preserved c =
+    let s = space c.args.inst.now in
+    let h = c.loop-part.invariant in
+    let cs : List Tally = c.args.out.now.tallies.items in
+    let m = length (partitions s) in
+    let lt : c.loop-part.part < m = omega (arith, c.loop-part-test.true, c.count-part-end.ensures, ap length c.requires.partitions.groups) in
+    let mine = c.deref-in-loop-part.ensures.value ∙ c.in_ok-mine.ensures ∙ ap (λ (ds : List Tally). filter (λ (d : Tally). d.part == c.loop-part.part) ds) (c.deref.ensures.value ∙ h.tallies) in
+    let g = c.in_ok-add_part.ensures cs mine in
+    record {
+      uppers = g.uppers ∙ append-nil c.loop-part.out.uppers.items ∙ h.uppers;
+      rows = supply_next (inside s) (room s) cs (range_with_len s.now s.window) c.args.out.now c.loop-part.out c.add_part.new.out c.loop-part.part m _ lt g h.rows;
+      tallies = g.tallies ∙ append-nil c.loop-part.out.tallies.items ∙ h.tallies;
+    }
