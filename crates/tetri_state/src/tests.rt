@@ -17,8 +17,8 @@ ghost use Rattle.tetri_trace.specs.Scenario.{scenario, strl, submission};
 ghost use Rattle.tetri_trace.specs.Sound.{IsSound};
 
 use crate::{
-    Happened, PieceId, State, no_two_running_pieces_share_a_node, nodes_of_running_pieces_are_taken,
-    running_pieces_run_on_unless_told,
+    Happened, PieceId, State, no_two_running_pieces_share_a_node,
+    nodes_of_running_pieces_are_taken, running_pieces_run_on_unless_told,
 };
 use std::alloc::{AllocError, Global};
 use std::process::Abort;

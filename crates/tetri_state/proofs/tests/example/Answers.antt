@@ -1,5 +1,5 @@
 -- The example traces are sound.
-use Rattle.std.proofs.Common.{◌≡◌, ◌≢◌, ◌⊎◌, ℕ, ℤ, pos, negsuc, ◌+◌, ◌<◌, ◌≤◌, ◌≤ℤ◌, true, List, [], ◌∷◌, ◌++◌, length, get_or, map, All, AllPairs, Option, None, ⊎_elim, refl, sym, ap, ◌∙◌, subst, arith, zero, suc, w32}
+use Rattle.std.proofs.Common.{◌≡◌, ◌≢◌, ◌⊎◌, ℕ, ℤ, pos, negsuc, ◌<◌, ◌≤◌, ◌≤ℤ◌, true, List, [], ◌∷◌, ◌++◌, length, map, All, AllPairs, None, ⊎_elim, refl, sym, ap, ◌∙◌, subst, arith, zero, suc, w32}
 use Rattle.std.specs.List.{cons_option, range_with_len}
 use Rattle.std.specs.List.Sorted.{IsStrictlyIncreasing}
 use Rattle.std.proofs.lemmas.Int.{ints, to_z-of_z}
@@ -7,7 +7,6 @@ use Rattle.std.proofs.lemmas.List.{length-map}
 use Rattle.tetri_cluster.specs.declared.cluster.NodeText.{NodeText}
 use Rattle.tetri_cluster.specs.Cluster.{names_of}
 use Rattle.tetri_cluster.specs.Names.{differ, is_name}
-use Rattle.tetri_cluster.specs.Sets.{AreSets}
 use Rattle.tetri_strl.specs.Tree.{Tree, leaves, numbers, tree}
 use Rattle.tetri_strl.specs.WellMade.{IsWellMade}
 use Rattle.tetri_trace.specs.declared.trace.Event.{Event}
@@ -138,9 +137,10 @@ module _ (until : ℕ) (late : ℤ) (e f : Tree) (x y : Happening) (nodes : List
         jobs_differ = refl;
         jobs_ascend = pairs (λ i j. i.arrival ≤ j.arrival) example.submissions ((omega arith, tt), (tt, tt));
         jobs =
-            each (IsSoundSubmission example) example.submissions
-            (sound_job (106 ∷ 49 ∷ []) 0 late e refl (omega arith) (omega (arith, ints)) (omega (arith, ints)) made_e numbered_e sets_e,
-            (sound_job (106 ∷ 50 ∷ []) 1 (pos 0) f refl (omega arith) (omega (arith, ints)) (omega (arith, ints)) made_f numbered_f sets_f, tt));
+            each (IsSoundSubmission example) example.submissions (
+              sound_job (106 ∷ 49 ∷ []) 0 late e refl (omega arith) (omega (arith, ints)) (omega (arith, ints)) made_e numbered_e sets_e,
+              (sound_job (106 ∷ 50 ∷ []) 1 (pos 0) f refl (omega arith) (omega (arith, ints)) (omega (arith, ints)) made_f numbered_f sets_f, tt),
+            );
         events_ascend =
             pairs (λ a b. a.at ≤ b.at) example.events ((omega arith, (omega arith, (omega arith, tt))), ((omega arith, (omega arith, tt)), ((omega arith, tt), (tt, tt))));
         in_run = each (λ a. a.at < until) example.events (omega arith, (omega arith, (omega arith, (omega arith, tt))));
@@ -169,8 +169,8 @@ returns c =
     let e = tree c.args.first in
     let f = tree c.args.second in
     let jobs : map submission c.push-2.new.self.items ≡ job_at (106 ∷ 49 ∷ []) 0 c.args.late e ∷ job_at (106 ∷ 50 ∷ []) 1 (pos 0) f ∷ [] =
-        two_jobs c.push-2.new.self.items c.push.new.self.items c.new-jobs.result.items c.in_ok-job.field-0 c.in_ok-job-2.field-0 (job_at (106 ∷ 49 ∷ []) 0 c.args.late e) (job_at (106 ∷ 50 ∷ []) 1 (pos 0) f) c.new-jobs.ensures.items
-        c.in_ok-push.ensures.items c.in_ok-push-2.ensures.items (c.in_ok-job.ensures ∙ ap (λ z. job_at (106 ∷ 49 ∷ []) 0 z e) (to_z-of_z w32 c.args.late c.ranges.late)) c.in_ok-job-2.ensures in
+    two_jobs c.push-2.new.self.items c.push.new.self.items c.new-jobs.result.items c.in_ok-job.field-0 c.in_ok-job-2.field-0 (job_at (106 ∷ 49 ∷ []) 0 c.args.late e) (job_at (106 ∷ 50 ∷ []) 1 (pos 0) f) c.new-jobs.ensures.items
+    c.in_ok-push.ensures.items c.in_ok-push-2.ensures.items (c.in_ok-job.ensures ∙ ap (λ z. job_at (106 ∷ 49 ∷ []) 0 z e) (to_z-of_z w32 c.args.late c.ranges.late)) c.in_ok-job-2.ensures in
     subst IsSound (sym (same_scenario c.header.ensures (c.in_ok-new.ensures.ok ∙ c.in_ok-sets.ensures) jobs c.in_ok-events.ensures))
     (sound_example c.args.until c.args.late e f x y c.in_ok-cluster.field-0 c.requires.some c.requires.few c.requires.not_early c.requires.not_late c.in_ok-cluster.ensures
     c.happening.ensures c.happening-2.ensures c.requires.first_made c.requires.first_numbered c.requires.first_sets c.requires.second_made c.requires.second_numbered
