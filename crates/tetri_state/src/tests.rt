@@ -6,7 +6,7 @@ ghost use Rattle.tetri_cluster.specs.declared.sets.Sets.{Sets};
 ghost use Rattle.tetri_space.specs.Lawful.{IsLawful};
 ghost use Rattle.tetri_space.specs.Sound.{IsSound as IsSoundSpace};
 ghost use Rattle.tetri_space.specs.Space.{space};
-ghost use Rattle.tetri_state.specs.Planning.{AreThrifty};
+ghost use Rattle.tetri_state.specs.Planning.{AreThrifty, instance_of};
 ghost use Rattle.tetri_state.specs.Reached as moment;
 ghost use Rattle.tetri_state.specs.Reached.{IsReached};
 ghost use Rattle.std.specs.List.{range_with_len};
@@ -17,8 +17,8 @@ ghost use Rattle.tetri_trace.specs.Scenario.{scenario, strl, submission};
 ghost use Rattle.tetri_trace.specs.Sound.{IsSound};
 
 use crate::{
-    PieceId, State, no_two_running_pieces_share_a_node, nodes_of_running_pieces_are_taken,
-    running_pieces_run_on_unless_told,
+    Happened, PieceId, State, no_two_running_pieces_share_a_node,
+    nodes_of_running_pieces_are_taken, running_pieces_run_on_unless_told,
 };
 use std::alloc::{AllocError, Global};
 use std::process::Abort;
@@ -247,6 +247,43 @@ struct Seen<'a> {
     launched: &'a [u32],
 }
 
+fn expect_happened(rt: &impl Abort, happened: &Happened, seen: &Seen) {
+    assert_eq!(rt; happened.ended.as_slice(), seen.ended);
+    assert_eq!(rt; happened.cancelled.as_slice(), seen.cancelled);
+    assert_eq!(rt; happened.over.as_slice(), seen.over);
+    assert_eq!(rt; happened.expired.as_slice(), seen.expired);
+}
+
+fn expect_instance(rt: &impl Abort, inst: &Instance, seen: &Seen) {
+    assert_eq!(rt; inst.jobs.len(), seen.pending);
+    assert_eq!(rt; inst.busy_until.as_slice(), seen.busy.as_slice());
+    assert_eq!(rt; inst.drained.as_slice(), [seen.drained, false].as_slice());
+}
+
+fn launch(
+    rt: &impl Abort,
+    alloc: Global,
+    trace: &Trace,
+    state: &mut State,
+    inst: &Instance,
+    seen: &Seen,
+) -> Result<(), Fail>
+    requires sound { IsSound (scenario trace.now) }
+    requires reached { IsReached (scenario trace.now) moment.begun state.old }
+    requires instance { space inst.now ≡ instance_of (scenario trace.now) state.old }
+    requires instance_sound { IsSoundSpace (space inst.now) }
+    ensures { OnOk result (IsReached (scenario trace.entry.now) moment.between state.new) }
+{
+    let plan = grants(alloc, seen.planned)?;
+    assert!(rt; lawful(inst, &plan).is_ok());
+    assert!(rt; is_thrifty(inst, &plan));
+    let prepared = state.prepare(alloc, trace, inst, &plan)?;
+    assert_eq!(rt; prepared.launched(), seen.launched);
+    assert_eq!(rt; prepared.grants().as_slice().len(), seen.planned.len());
+    state.apply(prepared);
+    Ok(())
+}
+
 fn cycle(
     rt: &impl Abort,
     alloc: Global,
@@ -260,29 +297,12 @@ fn cycle(
 {
     assert!(rt; state.now() < trace.header.until);
     let happened = state.begin_cycle(alloc, trace)?;
-    assert_eq!(rt; happened.ended.as_slice(), seen.ended);
-    assert_eq!(rt; happened.cancelled.as_slice(), seen.cancelled);
-    assert_eq!(rt; happened.over.as_slice(), seen.over);
-    assert_eq!(rt; happened.expired.as_slice(), seen.expired);
+    expect_happened(rt, &happened, seen);
     let inst = state.instance(alloc, trace)?;
-    assert_eq!(rt; inst.jobs.len(), seen.pending);
-    assert_eq!(rt; inst.busy_until.as_slice(), seen.busy.as_slice());
-    assert_eq!(rt; inst.drained.as_slice(), [seen.drained, false].as_slice());
+    expect_instance(rt, &inst, seen);
     let carry = state.carry(alloc, trace, &inst)?;
     assert_eq!(rt; carry.as_slice().len(), seen.carried);
-    let planned = grants(alloc, seen.planned)?;
-    let Ok(()) = lawful(&inst, &planned) else {
-        return Err(Fail::new("not lawful"));
-    };
-    assert!(rt; is_thrifty(&inst, &planned));
-    let prepared = state.prepare(alloc, trace, &inst, &planned)?;
-    assert_eq!(rt; prepared.launched(), seen.launched);
-    assert_eq!(rt;
-        prepared.grants().as_slice().len(),
-        planned.as_slice().len()
-    );
-    state.apply(prepared);
-    Ok(())
+    launch(rt, alloc, trace, state, &inst, seen)
 }
 
 // Runs all cycles of the trace.
@@ -346,11 +366,9 @@ fn plan_ahead(alloc: Global, until: u32, late: i32) -> Result<Trace, Fail>
     )
 }
 
-#[test]
-fn a_planned_job_is_launched_when_it_starts(rt: HostRuntime) -> Result<(), Fail> {
-    let alloc = rt.alloc();
-    let trace = plan_ahead(alloc, 3, 0)?;
-    let cycles = [
+// The second job is planned in the second cycle, and launched in the third.
+fn planned_then_launched() -> [Seen<'static>; 3] {
+    [
         Seen {
             planned: &[(0, 0, &[0, 1])],
             launched: &[0],
@@ -367,8 +385,14 @@ fn a_planned_job_is_launched_when_it_starts(rt: HostRuntime) -> Result<(), Fail>
             launched: &[1],
             ..quiet([2, 2])
         },
-    ];
-    let state = run(&rt, alloc, &trace, &cycles)?;
+    ]
+}
+
+#[test]
+fn a_planned_job_is_launched_when_it_starts(rt: HostRuntime) -> Result<(), Fail> {
+    let alloc = rt.alloc();
+    let trace = plan_ahead(alloc, 3, 0)?;
+    let state = run(&rt, alloc, &trace, &planned_then_launched())?;
     assert_eq!(rt; state.now(), 3);
     assert_eq!(rt; counts(&state), [2, 1, 0, 0]);
     let Some(piece) = state.piece(0) else {
@@ -384,11 +408,9 @@ fn a_planned_job_is_launched_when_it_starts(rt: HostRuntime) -> Result<(), Fail>
     Ok(())
 }
 
-#[test]
-fn an_overrun_piece_keeps_its_nodes(rt: HostRuntime) -> Result<(), Fail> {
-    let alloc = rt.alloc();
-    let trace = plan_ahead(alloc, 4, 1)?;
-    let cycles = [
+// The first job runs over, and the second one expires.
+fn overrun_then_expired() -> [Seen<'static>; 4] {
+    [
         Seen {
             planned: &[(0, 0, &[0, 1])],
             launched: &[0],
@@ -408,8 +430,14 @@ fn an_overrun_piece_keeps_its_nodes(rt: HostRuntime) -> Result<(), Fail> {
             pending: 0,
             ..quiet([3, 3])
         },
-    ];
-    let state = run(&rt, alloc, &trace, &cycles)?;
+    ]
+}
+
+#[test]
+fn an_overrun_piece_keeps_its_nodes(rt: HostRuntime) -> Result<(), Fail> {
+    let alloc = rt.alloc();
+    let trace = plan_ahead(alloc, 4, 1)?;
+    let state = run(&rt, alloc, &trace, &overrun_then_expired())?;
     assert_eq!(rt; counts(&state), [1, 1, 0, 1]);
     assert!(rt; state.piece(0).is_none());
     Ok(())
@@ -434,11 +462,9 @@ fn with_twists(
     example(alloc, until, 0, first, second, early_twist, late_twist)
 }
 
-#[test]
-fn a_job_that_ended_is_not_cancelled(rt: HostRuntime) -> Result<(), Fail> {
-    let alloc = rt.alloc();
-    let trace = with_twists(alloc, 3, 1, Twist::UndrainSecondNode, Twist::CancelFirstJob)?;
-    let cycles = [
+// The first job has ended when it is cancelled.
+fn ended_then_quiet() -> [Seen<'static>; 3] {
+    [
         Seen {
             planned: &[(0, 0, &[0])],
             launched: &[0],
@@ -449,17 +475,21 @@ fn a_job_that_ended_is_not_cancelled(rt: HostRuntime) -> Result<(), Fail> {
             ..quiet([1, 1])
         },
         quiet([2, 2]),
-    ];
-    let state = run(&rt, alloc, &trace, &cycles)?;
+    ]
+}
+
+#[test]
+fn a_job_that_has_ended_is_not_cancelled(rt: HostRuntime) -> Result<(), Fail> {
+    let alloc = rt.alloc();
+    let trace = with_twists(alloc, 3, 1, Twist::UndrainSecondNode, Twist::CancelFirstJob)?;
+    let state = run(&rt, alloc, &trace, &ended_then_quiet())?;
     assert_eq!(rt; counts(&state), [1, 1, 0, 0]);
     Ok(())
 }
 
-#[test]
-fn running_and_pending_jobs_are_cancelled(rt: HostRuntime) -> Result<(), Fail> {
-    let alloc = rt.alloc();
-    let trace = with_twists(alloc, 3, 3, Twist::CancelFirstJob, Twist::UndrainSecondNode)?;
-    let launched = [
+// The first job is cancelled while it runs.
+fn cancelled_while_it_runs() -> [Seen<'static>; 3] {
+    [
         Seen {
             planned: &[(0, 0, &[0])],
             launched: &[0],
@@ -470,26 +500,34 @@ fn running_and_pending_jobs_are_cancelled(rt: HostRuntime) -> Result<(), Fail> {
             ..quiet([1, 1])
         },
         quiet([2, 2]),
-    ];
-    let state = run(&rt, alloc, &trace, &launched)?;
-    assert_eq!(rt; counts(&state), [1, 0, 1, 0]);
-    let waiting = [
+    ]
+}
+
+// It is cancelled before it is launched.
+fn cancelled_while_it_waits() -> [Seen<'static>; 2] {
+    [
         quiet([0, 0]),
         Seen {
             cancelled: &[0],
             ..quiet([1, 1])
         },
-    ];
-    let state = run(&rt, alloc, &trace, &waiting)?;
+    ]
+}
+
+#[test]
+fn running_and_pending_jobs_are_cancelled(rt: HostRuntime) -> Result<(), Fail> {
+    let alloc = rt.alloc();
+    let trace = with_twists(alloc, 3, 3, Twist::CancelFirstJob, Twist::UndrainSecondNode)?;
+    let state = run(&rt, alloc, &trace, &cancelled_while_it_runs())?;
+    assert_eq!(rt; counts(&state), [1, 0, 1, 0]);
+    let state = run(&rt, alloc, &trace, &cancelled_while_it_waits())?;
     assert_eq!(rt; counts(&state), [0, 0, 1, 0]);
     Ok(())
 }
 
-#[test]
-fn a_drained_node_keeps_its_piece(rt: HostRuntime) -> Result<(), Fail> {
-    let alloc = rt.alloc();
-    let trace = with_twists(alloc, 5, 3, Twist::DrainFirstNode, Twist::UndrainSecondNode)?;
-    let cycles = [
+// The first node is drained while the first job runs on it, and the second job wants it in vain.
+fn drained_under_a_piece() -> [Seen<'static>; 5] {
+    [
         Seen {
             planned: &[(0, 0, &[0])],
             launched: &[0],
@@ -514,8 +552,14 @@ fn a_drained_node_keeps_its_piece(rt: HostRuntime) -> Result<(), Fail> {
             drained: true,
             ..quiet([4, 4])
         },
-    ];
-    let state = run(&rt, alloc, &trace, &cycles)?;
+    ]
+}
+
+#[test]
+fn a_drained_node_keeps_its_piece(rt: HostRuntime) -> Result<(), Fail> {
+    let alloc = rt.alloc();
+    let trace = with_twists(alloc, 5, 3, Twist::DrainFirstNode, Twist::UndrainSecondNode)?;
+    let state = run(&rt, alloc, &trace, &drained_under_a_piece())?;
     assert_eq!(rt; counts(&state), [1, 1, 0, 1]);
     Ok(())
 }

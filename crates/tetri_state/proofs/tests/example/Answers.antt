@@ -1,5 +1,5 @@
 -- The example traces are sound.
-use Rattle.std.proofs.Common.{◌≡◌, ◌≢◌, ◌⊎◌, ℕ, ℤ, pos, negsuc, ◌+◌, ◌<◌, ◌≤◌, ◌≤ℤ◌, true, List, [], ◌∷◌, ◌++◌, length, get_or, map, All, AllPairs, Option, None, ⊎_elim, refl, sym, ap, ◌∙◌, subst, arith, zero, suc, w32}
+use Rattle.std.proofs.Common.{◌≡◌, ◌≢◌, ◌⊎◌, ℕ, ℤ, pos, negsuc, ◌<◌, ◌≤◌, ◌≤ℤ◌, true, List, [], ◌∷◌, ◌++◌, length, map, All, AllPairs, None, ⊎_elim, refl, sym, ap, ◌∙◌, subst, arith, zero, suc, w32}
 use Rattle.std.specs.List.{cons_option, range_with_len}
 use Rattle.std.specs.List.Sorted.{IsStrictlyIncreasing}
 use Rattle.std.proofs.lemmas.Int.{ints, to_z-of_z}
@@ -7,7 +7,6 @@ use Rattle.std.proofs.lemmas.List.{length-map}
 use Rattle.tetri_cluster.specs.declared.cluster.NodeText.{NodeText}
 use Rattle.tetri_cluster.specs.Cluster.{names_of}
 use Rattle.tetri_cluster.specs.Names.{differ, is_name}
-use Rattle.tetri_cluster.specs.Sets.{AreSets}
 use Rattle.tetri_strl.specs.Tree.{Tree, leaves, numbers, tree}
 use Rattle.tetri_strl.specs.WellMade.{IsWellMade}
 use Rattle.tetri_trace.specs.declared.trace.Event.{Event}

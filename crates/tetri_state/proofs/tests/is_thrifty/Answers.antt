@@ -1,8 +1,7 @@
-use Rattle.std.proofs.Common.{◌≡◌, ◌+◌, ◌∙◌, ℕ, List, All, Option, Some, None, get_or, length, map, take, is_some, true, false, sym, ap, subst, refl, arith, ◌<◌, ◌≤◌}
+use Rattle.std.proofs.Common.{◌≡◌, ◌∙◌, All, Option, Some, None, get_or, length, map, is_some, false, sym, ap, subst, refl, arith, ◌<◌, ◌≤◌}
 use Rattle.std.proofs.lemmas.List.{get_or-map, length-map, take_all}
 use Rattle.std.proofs.lemmas.List.Elements.{All-more}
 use Rattle.tetri_strl.specs.Thrifty.{IsThriftyFor}
-use Rattle.tetri_space.specs.declared.instance.Offer.{Offer}
 use Rattle.tetri_space.specs.Sound.{IsSoundBid}
 use Rattle.tetri_space.specs.Space.{Bid, bid, space}
 use Rattle.tetri_space.proofs.BidLemmas.{bid_has}

@@ -1,4 +1,4 @@
-use Rattle.std.proofs.Common.{ℕ, ◌<◌, length, get_or, map, take, All}
+use Rattle.std.proofs.Common.{map, take, All}
 use Rattle.tetri_space.specs.Space.{Bid, bid}
 use Rattle.tetri_strl.specs.Thrifty.{IsThriftyFor}
 use Rattle.tetri_state.proofs.tests.is_thrifty.Given as goal
