@@ -56,8 +56,7 @@ fn run_slots<K: Sink>(alloc: Global, trace: &Trace, sink: &mut K) -> Result<Summ
 
 fn number_is_large(number: u64)
     ensures { number < 2 ^ 64 }
-{
-}
+{}
 
 // The numbers of a summary, which have the types of their fields, are within the ranges of its line.
 fn summary_is_in_range(summary: &Summary)
