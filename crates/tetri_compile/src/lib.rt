@@ -14,3 +14,6 @@ mod walking;
 pub use compiling::{Compiled, Count, compile};
 pub use sizes::size;
 pub use taking::{Taken, counts_of};
+
+#[cfg(test)]
+mod tests;

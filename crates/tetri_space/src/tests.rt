@@ -6,7 +6,8 @@ ghost use Rattle.tetri_space.specs.Sound.{IsSound};
 ghost use Rattle.tetri_space.specs.Space.{space};
 
 use crate::{
-    Instance, Offer, Rule, Unlawful, free, lawful, tops, tops_bound_every_lawful_total, total,
+    Instance, Offer, Rule, Unlawful, available, find_partitions, free, lawful, tops,
+    tops_bound_every_lawful_total, total,
 };
 use std::alloc::{AllocError, Global};
 use std::rc::Rc;
@@ -337,5 +338,46 @@ fn first_broken_rules(rt: HostRuntime) -> Result<(), Fail> {
             "{rule:?}"
         );
     }
+    Ok(())
+}
+
+fn is_list(list: &NodeList, nodes: &[u32]) -> bool {
+    let items = list.as_slice();
+    if items.len() != nodes.len() {
+        return false;
+    }
+    for place in 0..nodes.len() {
+        if items[place] != nodes[place] {
+            return false;
+        }
+    }
+    true
+}
+
+// The nodes of both sets, and those of the second set alone; the leaf in slot 9 is not live.
+#[test]
+fn partitions_of_three_jobs(rt: HostRuntime) -> Result<(), Fail> {
+    let alloc = rt.alloc();
+    let inst = three_jobs(alloc)?;
+    let parts = find_partitions(alloc, &inst)?;
+    assert_eq!(rt; parts.offers().len(), 3);
+    assert_eq!(rt; parts.count(), 2);
+    assert!(rt; is_list(parts.nodes_of(0), &[0, 1, 2]));
+    assert!(rt; is_list(parts.nodes_of(1), &[3, 4]));
+    assert_eq!(rt; available(&inst, &parts, 0, 5), 2);
+    assert_eq!(rt; available(&inst, &parts, 0, 7), 3);
+    assert_eq!(rt; available(&inst, &parts, 1, 5), 1);
+    assert_eq!(rt; available(&inst, &parts, 1, 8), 1);
+    Ok(())
+}
+
+// The set that only a leaf past the window names has no partition.
+#[test]
+fn partitions_without_jobs(rt: HostRuntime) -> Result<(), Fail> {
+    let alloc = rt.alloc();
+    let inst = without_jobs(alloc)?;
+    let parts = find_partitions(alloc, &inst)?;
+    assert_eq!(rt; parts.count(), 0);
+    assert_eq!(rt; parts.offers().len(), 0);
     Ok(())
 }
