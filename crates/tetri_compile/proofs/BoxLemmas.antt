@@ -66,7 +66,7 @@ module _ (i : Space) (os : List Bid) (parts : List (List ℕ)) (a : List Grant) 
     few_given l p below =
         let ks = kept i os parts a keep fair b among in
         let f = sum_of-le (λ g. cond (suits b.job l.num g) (count (has (part_at parts p)) g.nodes) 0) (λ g. cond (suits b.job l.num g) (length g.nodes) 0) ks
-          (Each-all _ (λ g. by_test (suits b.job l.num g) g) ks) in
+        (Each-all _ (λ g. by_test (suits b.job l.num g) g) ks) in
         omega (arith, f, granted_total ks b.job l.num, granted_le i os parts a keep fair b among l.num, granted_few i os parts a keep fair b among l below)
       where
         by_test : (t : Bool) (g : Grant) → cond t (count (has (part_at parts p)) g.nodes) 0 ≤ cond t (length g.nodes) 0
@@ -77,26 +77,33 @@ module _ (i : Space) (os : List Bid) (parts : List (List ℕ)) (a : List Grant) 
     free_given l p below leaf_good within =
         let whole = granted_in a b.job l.num (part_at parts p) in
         let c : Tally = record { column = 0; job = b.job; leaf = l; part = p } in
-        let row = supply_le i os parts a keep fair (λ j. whole) p l.start (c ∷ [])
-          (record { told = record { bid = b; among = among; of_bid = record { job = refl; leaf = below; part = within }; reads = omega arith };
-            part = refl; early = omega arith; late = omega (arith, leaf_good.some_slots) }, tt) (tt, tt) in
+        let row = supply_le i os parts a keep fair (λ j. whole) p l.start (c ∷ []) (
+          record {
+            told = record { bid = b; among = among; of_bid = record { job = refl; leaf = below; part = within }; reads = omega arith };
+            part = refl;
+            early = omega arith;
+            late = omega (arith, leaf_good.some_slots);
+          },
+          tt,
+        ) (tt, tt) in
         omega (arith, row, kept-le i os parts a keep fair b among (λ g. cond (suits b.job l.num g) (count (has (part_at parts p)) g.nodes) 0))
 
     bid_below : AreBelow (values (inside i os parts a keep) (value i os parts a keep fair b among) gives b.expr) (uppers (inside i os parts a keep) (room i os parts a keep) b.expr)
     bid_below =
         values_below (inside i os parts a keep) (room i os parts a keep) (value i os parts a keep fair b among) gives (held i os parts a keep fair b among) b.expr (all_right i os parts a keep fair b among)
         (EachLeaf-both (λ l. IsGoodLeaf l → Each (λ p. gives l p ≤ min l.k (room i os parts a keep p l.start)) (inside i os parts a keep l.set)) IsGoodLeaf
-          (λ l. Each (λ p. gives l p ≤ min l.k (room i os parts a keep p l.start)) (inside i os parts a keep l.set)) (λ l f g. f g) b.expr
-          (EachLeaf-from (λ l. IsGoodLeaf l → Each (λ p. gives l p ≤ min l.k (room i os parts a keep p l.start)) (inside i os parts a keep l.set)) b.expr
-            (λ l below leaf_good. Each-from (λ p. gives l p ≤ min l.k (room i os parts a keep p l.start)) (inside i os parts a keep l.set)
-              (λ p within. omega (arith, few_given l p below, free_given l p below leaf_good within))))
-          (each_good b.expr (good i os parts a keep fair b among).0))
+        (λ l. Each (λ p. gives l p ≤ min l.k (room i os parts a keep p l.start)) (inside i os parts a keep l.set)) (λ l f g. f g) b.expr
+        (EachLeaf-from (λ l. IsGoodLeaf l → Each (λ p. gives l p ≤ min l.k (room i os parts a keep p l.start)) (inside i os parts a keep l.set)) b.expr
+        (λ l below leaf_good. Each-from (λ p. gives l p ≤ min l.k (room i os parts a keep p l.start)) (inside i os parts a keep l.set)
+        (λ p within. omega (arith, few_given l p below, free_given l p below leaf_good within))))
+        (each_good b.expr (good i os parts a keep fair b among).0))
 
   bids_below : (bs : List Bid) → Each (Contains os) bs → AreBelow (values_of_bids (inside i os parts a keep) parts keep bs) (bid_uppers (inside i os parts a keep) (room i os parts a keep) bs)
   bids_below [] h = tt
-  bids_below (b ∷ bs) h =
-      (mark-le (worth_of (kept i os parts a keep fair b h.0) b.job b.expr),
-       below-append _ (uppers (inside i os parts a keep) (room i os parts a keep) b.expr) (values_of_bids (inside i os parts a keep) parts keep bs) (bid_uppers (inside i os parts a keep) (room i os parts a keep) bs) (bid_below b h.0) (bids_below bs h.1))
+  bids_below (b ∷ bs) h = (
+    mark-le (worth_of (kept i os parts a keep fair b h.0) b.job b.expr),
+    below-append _ (uppers (inside i os parts a keep) (room i os parts a keep) b.expr) (values_of_bids (inside i os parts a keep) parts keep bs) (bid_uppers (inside i os parts a keep) (room i os parts a keep) bs) (bid_below b h.0) (bids_below bs h.1),
+  )
 
   pub point_below : AreBelow (values_of_bids (inside i os parts a keep) parts keep os) (bid_uppers (inside i os parts a keep) (room i os parts a keep) os)
   point_below = bids_below os (Each-from (Contains os) os (λ b at. at))

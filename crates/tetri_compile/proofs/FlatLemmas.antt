@@ -45,17 +45,17 @@ module _ (x : ℕ → ℕ) where
   single c v a (suc n) le out =
       elim (cases_eq c a) [
         | inl e ↦
-          let yes : cond (c == a) v 0 ≡ v = ap (λ b. cond b v 0) (test_from_eq c a e) in
-          let here : cond (c == a) v 0 * x a ≡ v * x c = rw yes (ap (λ j. v * x j) (sym e)) in
-          omega (arith, here, past c v (a + 1) n (omega (arith, e)))
+            let yes : cond (c == a) v 0 ≡ v = ap (λ b. cond b v 0) (test_from_eq c a e) in
+            let here : cond (c == a) v 0 * x a ≡ v * x c = rw yes (ap (λ j. v * x j) (sym e)) in
+            omega (arith, here, past c v (a + 1) n (omega (arith, e)))
         | inr ne ↦
-          let no : cond (c == a) v 0 ≡ 0 = ap (λ b. cond b v 0) (test_from_ne c a ne) in
-          let gone : cond (c == a) v 0 * x a ≡ 0 = rw no (omega arith) in
-          omega (arith, gone, single c v (a + 1) n (more c a le ne) (λ h. out (omega (arith, h))))
+            let no : cond (c == a) v 0 ≡ 0 = ap (λ b. cond b v 0) (test_from_ne c a ne) in
+            let gone : cond (c == a) v 0 * x a ≡ 0 = rw no (omega arith) in
+            omega (arith, gone, single c v (a + 1) n (more c a le ne) (λ h. out (omega (arith, h))))
       ]
     where
       more : (m k : ℕ) → k ≤ m → (m ≡ k → ⊥) → k + 1 ≤ m
-      more m k h ne = elim (cases_order m k) [ | inl e ↦ absurd (ne e) | inr (inl lt) ↦ absurd (omega arith) | inr (inr gt) ↦ omega arith ]
+      more m k h ne = elim (cases_order m k) [ inl e ↦ absurd (ne e) | inr (inl lt) ↦ absurd (omega arith) | inr (inr gt) ↦ omega arith ]
 
   spread_product : (a b c : ℕ) → (a + b) * c ≡ a * c + b * c
   spread_product a b c = omega arith
@@ -72,7 +72,7 @@ module _ (x : ℕ → ℕ) where
       let b = form_at n out f in
       let c = sum_of-plus (λ j. cond (s.column == j) s.by 0 * x j) (λ j. coefficient f j * x j) js in
       let d = sum_of-eq (λ j. coefficient (s ∷ f) j * x j) (λ j. cond (s.column == j) s.by 0 * x j + coefficient f j * x j) js
-        (Each-all (λ j. coefficient (s ∷ f) j * x j ≡ cond (s.column == j) s.by 0 * x j + coefficient f j * x j) (λ j. spread_product (cond (s.column == j) s.by 0) (coefficient f j) (x j)) js) in
+      (Each-all (λ j. coefficient (s ∷ f) j * x j ≡ cond (s.column == j) s.by 0 * x j + coefficient f j * x j) (λ j. spread_product (cond (s.column == j) s.by 0) (coefficient f j) (x j)) js) in
       omega (arith, a, b, c, d)
 
 -- ---- a row by columns

@@ -45,6 +45,7 @@ least_small n b m le = by_test (b == 0) (λ e. some b e)
   where
     some : (k : ℕ) → (k == 0) ≡ false → 1 ≤ k
     some k e = grind (arith, nat_tests)
+
     by_test : (t : Bool) → (t ≡ false → 1 ≤ b) → Each (λ s. s.by ≤ m) (cond t [] (share n 1 ∷ []))
     by_test true f = tt
     by_test false f = (omega (arith, f refl), tt)

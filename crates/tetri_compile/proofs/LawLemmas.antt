@@ -42,14 +42,16 @@ module _ (s : Space) (sound : IsSound s) (a : List Grant) (lawful : IsLawful s a
     allotment_has_point =
         let law = first_law s (live_bids s) (partitions s) a (earning s a) (fair s sound a lawful) (at_column (point_of s a)) (point_reads (allotted s a)) in
         let met = met_flat (draft s) (point_of s a) long (point_whole (allotted s a)) law.0 in
-        let worth = flat_objective (draft s) (point_of s a) long (point_whole (allotted s a)) in
-        (record {
-          count = long ∙ sym (ap length costs_are ∙ length-map-range_with_len (λ j. pos (coefficient (draft s).objective j)) 0 (length (draft s).uppers));
-          inside = λ k lt.
-              let both = point_between (allotted s a) (draft s).uppers k below in
-              (subst (λ zs. number_at zs k ≤ℤ number_at (point_of s a) k) (sym (ap (λ (q : FlatProgram). q.lower) is)) both.0,
-               subst (λ zs. number_at (point_of s a) k ≤ℤ number_at zs k) (sym (ap (λ (q : FlatProgram). q.upper) is)) both.1);
-          met = meets_from p.rows.items (point_of s a) (subst (λ rs. RowsMet rs (point_of s a)) (sym (ap (λ (q : FlatProgram). q.rows) is)) met);
-        },
-        subst (λ cs. pos (total_in s a) ≤ℤ dot ℤ_ring cs (point_of s a)) (sym costs_are)
-        (subst (λ z. pos (total_in s a) ≤ℤ z) (sym worth) (pos_le (total_in s a) _ (omega (arith, law.1, live_total s sound a lawful)))))
+        let worth = flat_objective (draft s) (point_of s a) long (point_whole (allotted s a)) in (
+          record {
+            count = long ∙ sym (ap length costs_are ∙ length-map-range_with_len (λ j. pos (coefficient (draft s).objective j)) 0 (length (draft s).uppers));
+            inside = λ k lt.
+                let both = point_between (allotted s a) (draft s).uppers k below in (
+                  subst (λ zs. number_at zs k ≤ℤ number_at (point_of s a) k) (sym (ap (λ (q : FlatProgram). q.lower) is)) both.0,
+                  subst (λ zs. number_at (point_of s a) k ≤ℤ number_at zs k) (sym (ap (λ (q : FlatProgram). q.upper) is)) both.1,
+                );
+            met = meets_from p.rows.items (point_of s a) (subst (λ rs. RowsMet rs (point_of s a)) (sym (ap (λ (q : FlatProgram). q.rows) is)) met);
+          },
+          subst (λ cs. pos (total_in s a) ≤ℤ dot ℤ_ring cs (point_of s a)) (sym costs_are)
+              (subst (λ z. pos (total_in s a) ≤ℤ z) (sym worth) (pos_le (total_in s a) _ (omega (arith, law.1, live_total s sound a lawful)))),
+        )

@@ -126,9 +126,14 @@ module _ (s : Space) (sound : IsSound s) where
     trimmed_only : (b : Bid) (at : Contains s.bids b) → GrantsOnlyIn s.now to (trimmed a b.job b.expr) b.job b.expr
     trimmed_only b at =
         EachLeaf-from (λ l. starts_in s.now to l ≡ false → granted (trimmed a b.job b.expr) b.job l.num ≡ 0) b.expr (λ l below out.
-          let ns = idle (leaf_worth a b.job) b.expr in
-          omega (arith, dead b at l below out, granted_total (trimmed a b.job b.expr) b.job l.num, granted_total a b.job l.num,
-            sum_of-filter-le (λ g. cond (suits b.job l.num g) (length g.nodes) 0) (earns b.job ns) a))
+        let ns = idle (leaf_worth a b.job) b.expr in
+        omega (
+          arith,
+          dead b at l below out,
+          granted_total (trimmed a b.job b.expr) b.job l.num,
+          granted_total a b.job l.num,
+          sum_of-filter-le (λ g. cond (suits b.job l.num g) (length g.nodes) 0) (earns b.job ns) a,
+        ))
 
     -- a live bid is worth what the whole bid is worth
     left_worth : (ks : List Grant) (w : Bid) (u : Tree) → Contains s.bids w → pruned s.now to w.expr ≡ Some u → GrantsOnlyIn s.now to ks w.job w.expr →
@@ -146,12 +151,12 @@ module _ (s : Space) (sound : IsSound s) where
             let ks = trimmed a w.job w.expr in
             let is : earning s a b.job ≡ ks = kept_is b h ∙ ap (λ j. trimmed a j w.expr) (sym h.job) in
             let thrifty : IsThriftyFor ks w.job b.expr =
-                subst (OfLeft (IsThrifty (leaf_worth ks w.job) (held_leaves ks w.job))) h.left
-                (left_thrifty (leaf_worth ks w.job) (held_leaves ks w.job) s.now to w.expr
-                  (each_nothing s.now to ks w.job w.expr good.0 (trimmed_only w h.among)) (trimmed_thrifty a w.job w.expr good.0 good.1)) in
+            subst (OfLeft (IsThrifty (leaf_worth ks w.job) (held_leaves ks w.job))) h.left
+            (left_thrifty (leaf_worth ks w.job) (held_leaves ks w.job) s.now to w.expr
+            (each_nothing s.now to ks w.job w.expr good.0 (trimmed_only w h.among)) (trimmed_thrifty a w.job w.expr good.0 good.1)) in
             let same : worth_of a w.job b.expr ≡ worth_of ks w.job b.expr =
-                left_worth a w b.expr h.among h.left (only_live w h.among) ∙ sym (trimmed_worth a w.job w.expr good.0 good.1)
-                ∙ sym (left_worth ks w b.expr h.among h.left (trimmed_only w h.among)) in
+            left_worth a w b.expr h.among h.left (only_live w h.among) ∙ sym (trimmed_worth a w.job w.expr good.0 good.1)
+            ∙ sym (left_worth ks w b.expr h.among h.left (trimmed_only w h.among)) in
             record {
               test = earns w.job (idle (leaf_worth a w.job) w.expr);
               filtered = is;
@@ -169,14 +174,14 @@ module _ (s : Space) (sound : IsSound s) where
       kept = Each-from (IsKept s (live_bids s) (partitions s) a (earning s a)) (live_bids s) kept_for;
       single = EachPair-with (λ g. Unit {0}) (GrantsApart s) (λ g h. (job leaf : ℕ) → suits job leaf g ≡ true → suits job leaf h ≡ true → ⊥)
           (λ g h u v apart job leaf t r.
-            let p = and_parts (g.job == job) (g.leaf == leaf) t in
-            let q = and_parts (h.job == job) (h.leaf == leaf) r in
-            apart.other_leaf (eq_from_test g.job job p.0 ∙ sym (eq_from_test h.job job q.0)) (eq_from_test g.leaf leaf p.1 ∙ sym (eq_from_test h.leaf leaf q.1)))
+          let p = and_parts (g.job == job) (g.leaf == leaf) t in
+          let q = and_parts (h.job == job) (h.leaf == leaf) r in
+          apart.other_leaf (eq_from_test g.job job p.0 ∙ sym (eq_from_test h.job job q.0)) (eq_from_test g.leaf leaf p.1 ∙ sym (eq_from_test h.leaf leaf q.1)))
           a (Each-all (λ g. Unit {0}) (λ g. tt) a) (EachPair-from (GrantsApart s) a lawful.apart);
       apart = EachPair-with (λ g. Unit {0}) (GrantsApart s) (HoldsApart s (live_bids s) (partitions s) a (earning s a))
           (λ g h u v apart b c l m bt ct lt mt t r n slot p q e f e2 f2.
-            apart.other_slots n (contains_from g.nodes n p) (contains_from h.nodes n q) l (names b l g bt lt t) m (names c m h ct mt r) slot
-            (record { begun = e; not_over = f }) (record { begun = e2; not_over = f2 }))
+          apart.other_slots n (contains_from g.nodes n p) (contains_from h.nodes n q) l (names b l g bt lt t) m (names c m h ct mt r) slot
+          (record { begun = e; not_over = f }) (record { begun = e2; not_over = f2 }))
           a (Each-all (λ g. Unit {0}) (λ g. tt) a) (EachPair-from (GrantsApart s) a lawful.apart);
       covers = λ b l at below m there small. covered s (asked s (live_bids s)) l.set m (asked_has s (live_bids s) b l at below) small there;
     }

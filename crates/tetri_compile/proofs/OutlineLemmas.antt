@@ -80,7 +80,7 @@ pub inside_below : (s : Space) (parts : List (List ℕ)) (k j : ℕ) → j < len
 inside_below s parts k j lt =
     Each-get (λ q. q < length parts) (parts_in s parts k) j 0
     (Each-filter (λ q. q < length parts) (λ q. list_all (has (set_at s k)) (part_at parts q)) (range_with_len 0 (length parts))
-      (range_from (λ q. q < length parts) 0 (length parts) (λ q low high. omega arith))) lt
+    (range_from (λ q. q < length parts) 0 (length parts) (λ q low high. omega arith))) lt
 
 -- rows, one further
 pub rows_pushed : (old mid new : List Inequality) (rs : List Limit) (r : Inequality) (q : Limit) → map plain_limit mid ≡ map plain_limit old ++ rs → new ≡ mid ++ r ∷ [] →

@@ -99,7 +99,7 @@ coefficient_here f i d lt =
     let e = drop_more f i d lt in
     let s = get_or f i d in
     subst (λ g. s.by ≤ coefficient g s.column) (sym e)
-      (subst (λ b. s.by ≤ cond b s.by 0 + coefficient (drop (i + 1) f) s.column) (sym (same_column s.column)) (omega arith))
+    (subst (λ b. s.by ≤ cond b s.by 0 + coefficient (drop (i + 1) f) s.column) (sym (same_column s.column)) (omega arith))
   where
     same_column : (k : ℕ) → (k == k) ≡ true
     same_column k = grind (arith, nat_tests)
@@ -155,5 +155,5 @@ pub term_made : (j a b : ℕ) (y z : ℤ) → y ≡ pos a → z ≡ pos b → a 
     to_z w128 (of_z w128 (to_z w128 (of_z w128 y) -ℤ to_z w128 (of_z w128 z))) ≡ pos a -ℤ pos b
 term_made j a b y z e f p q =
     read_back (to_z w128 (of_z w128 y) -ℤ to_z w128 (of_z w128 z)) (pos a -ℤ pos b)
-      (ap (λ x. x -ℤ to_z w128 (of_z w128 z)) (read_back y (pos a) e (omega (arith, p))) ∙ ap (λ x. pos a -ℤ x) (read_back z (pos b) f (omega (arith, q))))
-      (less_of a b p q)
+    (ap (λ x. x -ℤ to_z w128 (of_z w128 z)) (read_back y (pos a) e (omega (arith, p))) ∙ ap (λ x. pos a -ℤ x) (read_back z (pos b) f (omega (arith, q))))
+    (less_of a b p q)

@@ -84,19 +84,20 @@ module _ (inside : ℕ → List ℕ) (ls : List Leaf) (t p most : ℕ) (small : 
 
   pub used_is : list_any (λ k. list_any (λ l. covers l t && l.set == k) ls && has (inside k) p) (range_with_len 0 most) ≡ is_used inside ls p t
   used_is =
-      one_answer {P = is_used inside ls p t ≡ true} (list_any (λ k. list_any (λ l. covers l t && l.set == k) ls && has (inside k) p) (range_with_len 0 most)) (is_used inside ls p t)
-      ((λ e. from_any (λ k. list_any (λ l. covers l t && l.set == k) ls && has (inside k) p) (range_with_len 0 most) (is_used inside ls p t ≡ true) (λ k at f.
-          let both = and_parts (list_any (λ l. covers l t && l.set == k) ls) (has (inside k) p) f in
-          from_any (λ l. covers l t && l.set == k) ls (is_used inside ls p t ≡ true) (λ l there g.
+      one_answer {P = is_used inside ls p t ≡ true} (list_any (λ k. list_any (λ l. covers l t && l.set == k) ls && has (inside k) p) (range_with_len 0 most)) (is_used inside ls p t) (
+        (λ e. from_any (λ k. list_any (λ l. covers l t && l.set == k) ls && has (inside k) p) (range_with_len 0 most) (is_used inside ls p t ≡ true) (λ k at f.
+            let both = and_parts (list_any (λ l. covers l t && l.set == k) ls) (has (inside k) p) f in
+            from_any (λ l. covers l t && l.set == k) ls (is_used inside ls p t ≡ true) (λ l there g.
             let here = and_parts (covers l t) (l.set == k) g in
             any_from (λ m. covers m t && has (inside m.set) p) ls l there
-              (and_from (covers l t) (has (inside l.set) p) here.0 (ap (λ j. has (inside j) p) (eq_from_test l.set k here.1) ∙ both.1))) both.0) e),
-       (λ e. from_any (λ l. covers l t && has (inside l.set) p) ls _ (λ l there g.
-          let here = and_parts (covers l t) (has (inside l.set) p) g in
-          any_from (λ k. list_any (λ m. covers m t && m.set == k) ls && has (inside k) p) (range_with_len 0 most) l.set
+            (and_from (covers l t) (has (inside l.set) p) here.0 (ap (λ j. has (inside j) p) (eq_from_test l.set k here.1) ∙ both.1))) both.0) e),
+        (λ e. from_any (λ l. covers l t && has (inside l.set) p) ls _ (λ l there g.
+            let here = and_parts (covers l t) (has (inside l.set) p) g in
+            any_from (λ k. list_any (λ m. covers m t && m.set == k) ls && has (inside k) p) (range_with_len 0 most) l.set
             (range_contains 0 most l.set (omega arith) (omega (arith, All-contains (λ (m : Leaf). m.set < most) ls l small there)))
             (and_from (list_any (λ m. covers m t && m.set == l.set) ls) (has (inside l.set) p)
-              (any_from (λ m. covers m t && m.set == l.set) ls l there (and_from (covers l t) (l.set == l.set) here.0 (test_from_eq l.set l.set refl))) here.1)) e))
+            (any_from (λ m. covers m t && m.set == l.set) ls l there (and_from (covers l t) (l.set == l.set) here.0 (test_from_eq l.set l.set refl))) here.1)) e),
+      )
       ((λ e. e), (λ e. e))
 
 -- a set that is named is some leaf's

@@ -107,9 +107,10 @@ module _ (inside : ℕ → List ℕ) (room : ℕ → ℕ → ℕ) where
 
   leaf_other : (job : ℕ) (l : Leaf) (ps : List ℕ) (n : ℕ) → Ascends ps → EachPair CountsOther (leaf_tallies job l ps n)
   leaf_other job l [] n up = tt
-  leaf_other job l (p ∷ ps) n up =
-      (Each-map (AboveParts p) (CountsOther (record { column = n; job = job; leaf = l; part = p })) (λ c above a b e. omega (arith, above, e)) _ (leaf_above job p l ps (n + 1) up.0),
-       leaf_other job l ps (n + 1) up.1)
+  leaf_other job l (p ∷ ps) n up = (
+    Each-map (AboveParts p) (CountsOther (record { column = n; job = job; leaf = l; part = p })) (λ c above a b e. omega (arith, above, e)) _ (leaf_above job p l ps (n + 1) up.0),
+    leaf_other job l ps (n + 1) up.1,
+  )
 
   module _ (sorted : (s : ℕ) → Ascends (inside s)) where
     mutual
@@ -124,5 +125,5 @@ module _ (inside : ℕ → List ℕ) (room : ℕ → ℕ → ℕ) where
       tallies_other_of job (more t ts) n apart =
           EachPair-append CountsOther _ _ (tallies_other job t n apart.0) (tallies_other_of job ts (n + width inside room t) apart.1)
           (Each-across (IsOf job (leaves t)) (IsOf job (leaves_of ts)) CountsOther
-            (λ c d p q a b e. apart.2 c.leaf.num (number_of t c.leaf p.leaf) (subst (Contains (numbers_of ts)) (sym b) (number_of_all ts d.leaf q.leaf)))
-            _ _ (tallies_leaf job t n) (tallies_leaf_of job ts (n + width inside room t)))
+          (λ c d p q a b e. apart.2 c.leaf.num (number_of t c.leaf p.leaf) (subst (Contains (numbers_of ts)) (sym b) (number_of_all ts d.leaf q.leaf)))
+          _ _ (tallies_leaf job t n) (tallies_leaf_of job ts (n + width inside room t)))

@@ -55,6 +55,7 @@ module _ (value : Leaf → ℕ) (held : List ℕ) (from to : ℕ) where
     where
       bare : IsBare value held (numbers_of (row (kept (pruned_of from to ts))))
       bare n at = p n (left_numbers_of from to ts n at)
+
       by_left : (o : Option Tree) → AtMostOne value held (row (kept (o ∷ pruned_of from to ts)))
       by_left None = most_of_bare (row (kept (pruned_of from to ts))) bare
       by_left (Some u) = inr bare

@@ -180,6 +180,9 @@ fn counts_of_a_point(rt: HostRuntime) -> Result<(), Fail> {
     assert!(rt; holds_point(&c.program, &whole, &point));
     let taken = counts_of(alloc, &c, &point)?;
     assert_eq!(rt; taken.len(), 1);
-    assert_eq!(rt; (taken[0].job, taken[0].leaf, taken[0].part, taken[0].nodes), (0, 0, 0, 2));
+    assert_eq!(rt;
+        (taken[0].job, taken[0].leaf, taken[0].part, taken[0].nodes),
+        (0, 0, 0, 2)
+    );
     Ok(())
 }

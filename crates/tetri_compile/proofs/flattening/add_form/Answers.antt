@@ -14,5 +14,5 @@ overflow_add-index_mut c =
     let sums = c.loop-share.invariant.sums column in
     let fits = c.requires.fits column in
     let lt : column < length c.loop-share.numbers.items =
-        omega (arith, Each-get (λ (s : Share). s.column < length c.args.numbers.now.items) c.args.form.now c.loop-share.share-index d c.requires.columns c.loop-share-test.true, c.loop-share.invariant.count) in
+    omega (arith, Each-get (λ (s : Share). s.column < length c.args.numbers.now.items) c.args.form.now c.loop-share.share-index d c.requires.columns c.loop-share-test.true, c.loop-share.invariant.count) in
     omega (arith, here, sums, fits, c.index_mut.ensures.value ∙ get_or_default c.loop-share.numbers.items column c.index_mut.result.now 0 lt)
