@@ -1,21 +1,21 @@
 -- The marks and counts of fair grants lie in the program's box.
-use Rattle.std.proofs.Common.{◌≡◌, ℕ, ◌+◌, ◌<◌, ◌≤◌, min, Bool, true, false, cond, List, [], ◌∷◌, ◌++◌, length, map, Contains, refl, arith}
+use Rattle.std.proofs.Common.{ℕ, ◌≤◌, min, Bool, true, false, cond, List, [], ◌∷◌, ◌++◌, length, map, Contains, refl, arith}
 use Rattle.tetri_strl.specs.declared.expr.Leaf.{Leaf}
 use Rattle.tetri_strl.specs.declared.grants.Grant.{Grant}
 use Rattle.tetri_strl.specs.Aligned.{EachLeaf, EachLeafOf}
 use Rattle.tetri_strl.specs.Tree.{Operator, greatest, least, added, Tree, one, join, scale, barrier, Trees, none, more, leaves}
 use Rattle.tetri_strl.specs.WellMade.{IsGoodLeaf}
-use Rattle.tetri_strl.specs.Worth.{granted, worth_of, worth_by, worths_by}
+use Rattle.tetri_strl.specs.Worth.{worth_of, worth_by, worths_by}
 use Rattle.tetri_strl.proofs.WorthLemmas.{AreBelow, EachLeaf-from, EachLeaf-both, each_good}
-use Rattle.tetri_space.specs.Lists.{sum_of, count, has, Each, EachPair}
+use Rattle.tetri_space.specs.Lists.{count, has, Each}
 use Rattle.tetri_space.specs.Partitions.{part_at}
 use Rattle.tetri_space.specs.Space.{Bid, Space}
-use Rattle.tetri_space.proofs.ListLemmas.{sum_of-le, bit-le, Each-from, Each-map, Each-all}
-use Rattle.tetri_compile.specs.Allotted.{suits, granted_in, bid_values, values_of_bids}
+use Rattle.tetri_space.proofs.ListLemmas.{sum_of-le, bit-le, Each-from, Each-all}
+use Rattle.tetri_compile.specs.Allotted.{suits, granted_in, values_of_bids}
 use Rattle.tetri_compile.specs.declared.outline.Tally.{Tally}
 use Rattle.tetri_compile.specs.Draft.{bid_uppers}
 use Rattle.tetri_compile.specs.Marks.{mark, own_values, values, values_of}
-use Rattle.tetri_compile.specs.Walk.{ones, own_uppers, uppers, uppers_of, best}
+use Rattle.tetri_compile.specs.Walk.{ones, own_uppers, uppers, uppers_of}
 use Rattle.tetri_compile.proofs.FairLemmas.{inside, room, IsFair, kept, taken, value, held, all_right, granted_le, granted_few, granted_total, kept-le, supply_le, good}
 use Rattle.tetri_compile.proofs.WalkLemmas.{IsRight, mark-le, worth_le_best}
 
@@ -66,7 +66,7 @@ module _ (i : Space) (os : List Bid) (parts : List (List ℕ)) (a : List Grant) 
     few_given l p below =
         let ks = kept i os parts a keep fair b among in
         let f = sum_of-le (λ g. cond (suits b.job l.num g) (count (has (part_at parts p)) g.nodes) 0) (λ g. cond (suits b.job l.num g) (length g.nodes) 0) ks
-          (Each-all _ (λ g. by_test (suits b.job l.num g) g) ks) in
+        (Each-all _ (λ g. by_test (suits b.job l.num g) g) ks) in
         omega (arith, f, granted_total ks b.job l.num, granted_le i os parts a keep fair b among l.num, granted_few i os parts a keep fair b among l below)
       where
         by_test : (t : Bool) (g : Grant) → cond t (count (has (part_at parts p)) g.nodes) 0 ≤ cond t (length g.nodes) 0
@@ -77,26 +77,33 @@ module _ (i : Space) (os : List Bid) (parts : List (List ℕ)) (a : List Grant) 
     free_given l p below leaf_good within =
         let whole = granted_in a b.job l.num (part_at parts p) in
         let c : Tally = record { column = 0; job = b.job; leaf = l; part = p } in
-        let row = supply_le i os parts a keep fair (λ j. whole) p l.start (c ∷ [])
-          (record { told = record { bid = b; among = among; of_bid = record { job = refl; leaf = below; part = within }; reads = omega arith };
-            part = refl; early = omega arith; late = omega (arith, leaf_good.some_slots) }, tt) (tt, tt) in
+        let row = supply_le i os parts a keep fair (λ j. whole) p l.start (c ∷ []) (
+          record {
+            told = record { bid = b; among = among; of_bid = record { job = refl; leaf = below; part = within }; reads = omega arith };
+            part = refl;
+            early = omega arith;
+            late = omega (arith, leaf_good.some_slots);
+          },
+          tt,
+        ) (tt, tt) in
         omega (arith, row, kept-le i os parts a keep fair b among (λ g. cond (suits b.job l.num g) (count (has (part_at parts p)) g.nodes) 0))
 
     bid_below : AreBelow (values (inside i os parts a keep) (value i os parts a keep fair b among) gives b.expr) (uppers (inside i os parts a keep) (room i os parts a keep) b.expr)
     bid_below =
         values_below (inside i os parts a keep) (room i os parts a keep) (value i os parts a keep fair b among) gives (held i os parts a keep fair b among) b.expr (all_right i os parts a keep fair b among)
         (EachLeaf-both (λ l. IsGoodLeaf l → Each (λ p. gives l p ≤ min l.k (room i os parts a keep p l.start)) (inside i os parts a keep l.set)) IsGoodLeaf
-          (λ l. Each (λ p. gives l p ≤ min l.k (room i os parts a keep p l.start)) (inside i os parts a keep l.set)) (λ l f g. f g) b.expr
-          (EachLeaf-from (λ l. IsGoodLeaf l → Each (λ p. gives l p ≤ min l.k (room i os parts a keep p l.start)) (inside i os parts a keep l.set)) b.expr
-            (λ l below leaf_good. Each-from (λ p. gives l p ≤ min l.k (room i os parts a keep p l.start)) (inside i os parts a keep l.set)
-              (λ p within. omega (arith, few_given l p below, free_given l p below leaf_good within))))
-          (each_good b.expr (good i os parts a keep fair b among).0))
+        (λ l. Each (λ p. gives l p ≤ min l.k (room i os parts a keep p l.start)) (inside i os parts a keep l.set)) (λ l f g. f g) b.expr
+        (EachLeaf-from (λ l. IsGoodLeaf l → Each (λ p. gives l p ≤ min l.k (room i os parts a keep p l.start)) (inside i os parts a keep l.set)) b.expr
+        (λ l below leaf_good. Each-from (λ p. gives l p ≤ min l.k (room i os parts a keep p l.start)) (inside i os parts a keep l.set)
+        (λ p within. omega (arith, few_given l p below, free_given l p below leaf_good within))))
+        (each_good b.expr (good i os parts a keep fair b among).0))
 
   bids_below : (bs : List Bid) → Each (Contains os) bs → AreBelow (values_of_bids (inside i os parts a keep) parts keep bs) (bid_uppers (inside i os parts a keep) (room i os parts a keep) bs)
   bids_below [] h = tt
-  bids_below (b ∷ bs) h =
-      (mark-le (worth_of (kept i os parts a keep fair b h.0) b.job b.expr),
-       below-append _ (uppers (inside i os parts a keep) (room i os parts a keep) b.expr) (values_of_bids (inside i os parts a keep) parts keep bs) (bid_uppers (inside i os parts a keep) (room i os parts a keep) bs) (bid_below b h.0) (bids_below bs h.1))
+  bids_below (b ∷ bs) h = (
+    mark-le (worth_of (kept i os parts a keep fair b h.0) b.job b.expr),
+    below-append _ (uppers (inside i os parts a keep) (room i os parts a keep) b.expr) (values_of_bids (inside i os parts a keep) parts keep bs) (bid_uppers (inside i os parts a keep) (room i os parts a keep) bs) (bid_below b h.0) (bids_below bs h.1),
+  )
 
   pub point_below : AreBelow (values_of_bids (inside i os parts a keep) parts keep os) (bid_uppers (inside i os parts a keep) (room i os parts a keep) os)
   point_below = bids_below os (Each-from (Contains os) os (λ b at. at))

@@ -1,8 +1,8 @@
 -- The outline of a whole instance is its program's draft, and the draft's numbers are small.
-use Rattle.std.proofs.Common.{◌≡◌, ℕ, zero, suc, ◌+◌, ◌<◌, ◌≤◌, All, get_or, List, [], ◌∷◌, ◌++◌, length, map, refl, sym, ap, ◌∙◌, subst, arith}
+use Rattle.std.proofs.Common.{◌≡◌, ℕ, zero, suc, ◌≤◌, All, List, [], ◌∷◌, ◌++◌, length, map, refl, ap, ◌∙◌, subst, arith}
 use Rattle.std.specs.List.{range_with_len}
-use Rattle.std.proofs.lemmas.List.{append-nil, append_assoc}
-use lib.IntN.{ℤ, pos}
+use Rattle.std.proofs.lemmas.List.{append-nil}
+use lib.IntN.{pos}
 use Rattle.tetri_strl.specs.WellMade.{IsSound}
 use Rattle.tetri_strl.specs.Aligned.{EachLeaf}
 use Rattle.tetri_space.specs.Lists.{Each}
@@ -52,11 +52,11 @@ module _ (s : Space) (p : Parts) (are : ArePartitionsOf s p) (o walked full : Ou
   draft_is =
       made_same full.uppers.items (draft s).uppers f (draft s).objective (map plain_limit full.rows.items) (draft s).rows full.tallies.items (draft s).tallies
       (supplied.uppers ∙ append-nil walked.uppers.items ∙ bids.uppers ∙ ap (λ (us : List ℕ). us ++ bid_uppers (inside s) (room s) p.bids) no_uppers
-        ∙ ap (λ (bs : List Bid). bid_uppers (inside s) (room s) bs) are.bids)
+      ∙ ap (λ (bs : List Bid). bid_uppers (inside s) (room s) bs) are.bids)
       (is ∙ ap (λ (n : ℕ). objective (inside s) (room s) p.bids n) none_yet ∙ ap (λ (bs : List Bid). objective (inside s) (room s) bs 0) are.bids)
       (supplied.rows
-        ∙ ap (λ (rs : List Limit). rs ++ supply (inside s) (room s) walked.tallies.items (range_with_len s.now s.window) (range_with_len 0 (length (partitions s)))) rows_are
-        ∙ ap (λ (cs : List Tally). bid_rows (inside s) (room s) (live_bids s) 0 ++ supply (inside s) (room s) cs (range_with_len s.now s.window) (range_with_len 0 (length (partitions s)))) tallies_are)
+      ∙ ap (λ (rs : List Limit). rs ++ supply (inside s) (room s) walked.tallies.items (range_with_len s.now s.window) (range_with_len 0 (length (partitions s)))) rows_are
+      ∙ ap (λ (cs : List Tally). bid_rows (inside s) (room s) (live_bids s) 0 ++ supply (inside s) (room s) cs (range_with_len s.now s.window) (range_with_len 0 (length (partitions s)))) tallies_are)
       (supplied.tallies ∙ append-nil walked.tallies.items ∙ tallies_are)
 
 module _ (s : Space) (sound : IsSoundSpace s) (p : Parts) (are : ArePartitionsOf s p) where
@@ -69,12 +69,13 @@ module _ (s : Space) (sound : IsSoundSpace s) (p : Parts) (are : ArePartitionsOf
   draft_small few =
       let bs = live_bids s in
       let top = column_count s in
-      let cs = bid_tallies (inside s) (room s) bs 0 in
-      (objective_small (inside s) (room s) top few bs sound_bids (omega arith),
-       Each-append (IsSmallLimit top) (bid_rows (inside s) (room s) bs 0) (supply (inside s) (room s) cs (range_with_len s.now s.window) (range_with_len 0 (length (partitions s))))
-         (bid_rows_small (inside s) (room s) top few bs 0 sound_bids (omega arith))
-         (supply_small (inside s) (room s) top few (free_few s sound) cs (bid_tallies_in (inside s) (room s) top few bs 0 (omega arith)) (bid_tallies_few (inside s) (room s) top few bs 0)
-           (range_with_len s.now s.window) (range_with_len 0 (length (partitions s)))))
+      let cs = bid_tallies (inside s) (room s) bs 0 in (
+        objective_small (inside s) (room s) top few bs sound_bids (omega arith),
+        Each-append (IsSmallLimit top) (bid_rows (inside s) (room s) bs 0) (supply (inside s) (room s) cs (range_with_len s.now s.window) (range_with_len 0 (length (partitions s))))
+            (bid_rows_small (inside s) (room s) top few bs 0 sound_bids (omega arith))
+            (supply_small (inside s) (room s) top few (free_few s sound) cs (bid_tallies_in (inside s) (room s) top few bs 0 (omega arith)) (bid_tallies_few (inside s) (room s) top few bs 0)
+            (range_with_len s.now s.window) (range_with_len 0 (length (partitions s)))),
+      )
 
 pub zeros_all : (us : List ℕ) → All (λ z. z ≡ pos 0) (map (λ (u : ℕ). pos 0) us)
 zeros_all [] k d lt = absurd (omega (arith, lt))

@@ -1,6 +1,6 @@
 -- The columns that count nodes ascend, are in the program, and are from 0 to 4096.
 use Rattle.std.proofs.Common.{◌≡◌, ℕ, zero, suc, ◌+◌, ◌<◌, ◌≤◌, min, List, [], ◌∷◌, ◌++◌, length, map, refl, sym, ap, ◌∙◌, subst, arith, le_trans}
-use Rattle.std.specs.Prelude.{◌≤ℤ◌, unsigned_abs}
+use Rattle.std.specs.Prelude.{◌≤ℤ◌}
 use Rattle.std.proofs.lemmas.Int.{ints}
 use Rattle.std.proofs.lemmas.List.{length-append, length-map}
 use Rattle.std.proofs.lemmas.List.FromFn.{length-map-range_with_len}
@@ -8,10 +8,10 @@ use lib.IntN.{ℤ, pos}
 use Rattle.tetri_ip.specs.declared.programs.Program.{Program}
 use Rattle.tetri_ip.specs.Points.{number_at}
 use Rattle.tetri_strl.specs.declared.expr.Leaf.{Leaf}
-use Rattle.tetri_strl.specs.Tree.{Operator, greatest, least, added, Tree, one, join, scale, barrier, Trees, none, more}
+use Rattle.tetri_strl.specs.Tree.{Tree, one, join, scale, barrier, Trees, none, more}
 use Rattle.tetri_strl.specs.WellMade.{IsSound, AreSound}
 use Rattle.tetri_space.specs.Lists.{Each, EachPair, Ascends}
-use Rattle.tetri_space.specs.Space.{Bid, Space}
+use Rattle.tetri_space.specs.Space.{Bid}
 use Rattle.tetri_space.proofs.ListLemmas.{Each-across, Each-append, Each-map, EachPair-append}
 use Rattle.tetri_compile.specs.declared.compiling.Count.{Count}
 use Rattle.tetri_compile.specs.declared.outline.Tally.{Tally}
@@ -32,17 +32,19 @@ span_wide a b d e cs low high h =
     (Each-map (λ c. (a ≤ c.column) × (c.column < b)) (λ c. (d ≤ c.column) × (c.column < e)) (λ c p. (le_trans low p.0, omega (arith, p.1, high))) cs h.0, h.1)
 
 span_append : (a b e : ℕ) (cs ds : List Tally) → a ≤ b → b ≤ e → IsSpan a b cs → IsSpan b e ds → IsSpan a e (cs ++ ds)
-span_append a b e cs ds low high h k =
-    (Each-append (λ c. (a ≤ c.column) × (c.column < e)) cs ds (span_wide a b a e cs (omega arith) high h).0 (span_wide b e a e ds low (omega arith) k).0,
-     EachPair-append (λ c d. c.column < d.column) cs ds h.1 k.1
-       (Each-across (λ c. (a ≤ c.column) × (c.column < b)) (λ d. (b ≤ d.column) × (d.column < e)) (λ c d. c.column < d.column) (λ c d p q. omega (arith, p.1, q.0)) cs ds h.0 k.0))
+span_append a b e cs ds low high h k = (
+  Each-append (λ c. (a ≤ c.column) × (c.column < e)) cs ds (span_wide a b a e cs (omega arith) high h).0 (span_wide b e a e ds low (omega arith) k).0,
+  EachPair-append (λ c d. c.column < d.column) cs ds h.1 k.1
+      (Each-across (λ c. (a ≤ c.column) × (c.column < b)) (λ d. (b ≤ d.column) × (d.column < e)) (λ c d. c.column < d.column) (λ c d p q. omega (arith, p.1, q.0)) cs ds h.0 k.0),
+)
 
 leaf_span : (job : ℕ) (l : Leaf) (ps : List ℕ) (n e : ℕ) → n + length ps ≤ e → IsSpan n e (leaf_tallies job l ps n)
 leaf_span job l [] n e le = (tt, tt)
 leaf_span job l (p ∷ ps) n e le =
-    let rest = leaf_span job l ps (n + 1) e (omega (arith, le)) in
-    (((omega arith, omega (arith, le)), (span_wide (n + 1) e n e (leaf_tallies job l ps (n + 1)) (omega arith) (omega arith) rest).0),
-     (Each-map (λ c. (n + 1 ≤ c.column) × (c.column < e)) (λ c. n < c.column) (λ c q. omega (arith, q.0)) (leaf_tallies job l ps (n + 1)) rest.0, rest.1))
+    let rest = leaf_span job l ps (n + 1) e (omega (arith, le)) in (
+      ((omega arith, omega (arith, le)), (span_wide (n + 1) e n e (leaf_tallies job l ps (n + 1)) (omega arith) (omega arith) rest).0),
+      (Each-map (λ c. (n + 1 ≤ c.column) × (c.column < e)) (λ c. n < c.column) (λ c q. omega (arith, q.0)) (leaf_tallies job l ps (n + 1)) rest.0, rest.1),
+    )
 
 module _ (inside : ℕ → List ℕ) (room : ℕ → ℕ → ℕ) where
   mutual
@@ -62,7 +64,7 @@ module _ (inside : ℕ → List ℕ) (room : ℕ → ℕ → ℕ) where
         span_append n (n + width inside room t) (n + length (uppers_of inside room (more t ts))) (tallies inside room job t n) (tallies_of inside room job ts (n + width inside room t))
         (omega arith) (omega (arith, w)) (tallies_span job t n)
         (span_wide (n + width inside room t) (n + width inside room t + length (uppers_of inside room ts)) (n + width inside room t) (n + length (uppers_of inside room (more t ts)))
-          (tallies_of inside room job ts (n + width inside room t)) (omega arith) (omega (arith, w)) (tallies_of_span job ts (n + width inside room t)))
+        (tallies_of inside room job ts (n + width inside room t)) (omega arith) (omega (arith, w)) (tallies_of_span job ts (n + width inside room t)))
 
   bids_span : (bs : List Bid) (n : ℕ) → IsSpan n (n + length (bid_uppers inside room bs)) (bid_tallies inside room bs n)
   bids_span [] n = (tt, tt)
@@ -134,7 +136,7 @@ module _ (inside : ℕ → List ℕ) (room : ℕ → ℕ → ℕ) (bs : List Bid
       let span = bids_span inside room bs 0 in
       let same : cs ≡ map count_of ts = are ∙ ap (map count_of) tallies_are in
       let n : length p.costs.items ≡ length us =
-          ap (λ (q : FlatProgram). length q.costs) is ∙ length-map-range_with_len (λ j. pos (coefficient d.objective j)) 0 (length d.uppers) ∙ ap (λ (vs : List ℕ). length vs) uppers_are in
+      ap (λ (q : FlatProgram). length q.costs) is ∙ length-map-range_with_len (λ j. pos (coefficient d.objective j)) 0 (length d.uppers) ∙ ap (λ (vs : List ℕ). length vs) uppers_are in
       let lower : p.lower.items ≡ map (λ (u : ℕ). pos 0) us = ap (λ (q : FlatProgram). q.lower) is ∙ ap (λ (vs : List ℕ). map (λ (u : ℕ). pos 0) vs) uppers_are in
       let upper : p.upper.items ≡ map pos us = ap (λ (q : FlatProgram). q.upper) is ∙ ap (λ (vs : List ℕ). map pos vs) uppers_are in
       record {
@@ -143,11 +145,11 @@ module _ (inside : ℕ → List ℕ) (room : ℕ → ℕ → ℕ) (bs : List Bid
             (each_count (λ k. k < length p.costs.items) ts (Each-map (λ c. (0 ≤ c.column) × (c.column < 0 + length us)) (λ c. c.column < length p.costs.items) (λ c h. omega (arith, h.1, n)) ts span.0));
         lower = subst (λ (xs : List Count). Each (λ (c : Count). pos 0 ≤ℤ number_at p.lower.items c.column) xs) (sym same)
             (each_count (λ k. pos 0 ≤ℤ number_at p.lower.items k) ts
-              (Each-map (λ c. (0 ≤ c.column) × (c.column < 0 + length us)) (λ c. pos 0 ≤ℤ number_at p.lower.items c.column)
-                (λ c h. subst (λ (zs : List ℤ). pos 0 ≤ℤ number_at zs c.column) (sym lower) (zero_below us c.column)) ts span.0));
+            (Each-map (λ c. (0 ≤ c.column) × (c.column < 0 + length us)) (λ c. pos 0 ≤ℤ number_at p.lower.items c.column)
+            (λ c h. subst (λ (zs : List ℤ). pos 0 ≤ℤ number_at zs c.column) (sym lower) (zero_below us c.column)) ts span.0));
         upper = subst (λ (xs : List Count). Each (λ (c : Count). number_at p.upper.items c.column ≤ℤ pos 4096) xs) (sym same)
             (each_count (λ k. number_at p.upper.items k ≤ℤ pos 4096) ts
-              (Each-map (λ c. at_column (map pos us) c.column ≤ 4096) (λ c. number_at p.upper.items c.column ≤ℤ pos 4096)
-                (λ c h. subst (λ (zs : List ℤ). number_at zs c.column ≤ℤ pos 4096) (sym upper) (upper_below us c.column 4096 h)) ts
-                (bid_boxes inside room (at_column (map pos us)) bs 0 sound (point_reads us))));
+            (Each-map (λ c. at_column (map pos us) c.column ≤ 4096) (λ c. number_at p.upper.items c.column ≤ℤ pos 4096)
+            (λ c h. subst (λ (zs : List ℤ). number_at zs c.column ≤ℤ pos 4096) (sym upper) (upper_below us c.column 4096 h)) ts
+            (bid_boxes inside room (at_column (map pos us)) bs 0 sound (point_reads us))));
       }

@@ -1,29 +1,29 @@
 -- The marks and counts of fair grants meet every row, and their objective is at least what the grants are worth.
-use Rattle.std.proofs.Common.{◌≡◌, ◌≢◌, ◌⊎◌, ℕ, zero, suc, ◌+◌, ◌*◌, ◌<◌, ◌≤◌, ◌==◌, ◌&&◌, not, min, Bool, true, false, cond, List, [], ◌∷◌, ◌++◌, length, get_or, map, Contains, refl, sym, ap, ◌∙◌, subst, arith, true≢false, inl, inr, ⊎_elim, le_trans}
+use Rattle.std.proofs.Common.{◌≡◌, ℕ, ◌+◌, ◌<◌, ◌≤◌, ◌==◌, ◌&&◌, not, Bool, true, false, cond, List, [], ◌∷◌, length, Contains, refl, sym, ap, ◌∙◌, subst, arith, le_trans}
 use Rattle.std.specs.Prelude.{nat_lt, nat_le, slice_index_or}
 use Rattle.std.specs.List.{list_any, list_all, filter, range_with_len}
-use Rattle.std.proofs.lemmas.Bool.{cond_both, and_parts}
+use Rattle.std.proofs.lemmas.Bool.{and_parts}
 use Rattle.std.proofs.lemmas.Bool.Decides.{nat_tests}
 use Rattle.tetri_strl.specs.declared.expr.Leaf.{Leaf}
 use Rattle.tetri_strl.specs.declared.grants.Grant.{Grant}
 use Rattle.tetri_strl.specs.Aligned.{EachLeaf}
-use Rattle.tetri_strl.specs.Thrifty.{IsBare, IsThriftyFor, held_leaves}
-use Rattle.tetri_strl.specs.Tree.{Tree, leaves}
+use Rattle.tetri_strl.specs.Thrifty.{IsThriftyFor, held_leaves}
+use Rattle.tetri_strl.specs.Tree.{leaves}
 use Rattle.tetri_strl.specs.WellMade.{IsGoodLeaf, IsSound}
 use Rattle.tetri_strl.specs.Worth.{granted, worth_at, leaf_worth, worth_of}
 use Rattle.tetri_strl.proofs.PartsApart.{AreApart}
 use Rattle.tetri_strl.proofs.TrimThrift.{ungranted}
 use Rattle.tetri_strl.proofs.WorthLemmas.{EachLeaf-from, EachLeaf-both, each_good}
-use Rattle.tetri_space.specs.Lists.{sum_of, bit, count, has, Each, EachPair, Ascends}
+use Rattle.tetri_space.specs.Lists.{sum_of, count, has, Each, EachPair, Ascends}
 use Rattle.tetri_space.specs.Partitions.{set_at, part_at, parts_in, is_free, available}
 use Rattle.tetri_space.specs.Space.{Bid, Space}
-use Rattle.tetri_space.proofs.ListLemmas.{eq_from_test, Each-at, Each-from, Each-map, Each-all, Each-append, Each-filter, Each-passed, Each-across, Each-both, EachPair-append, EachPair-filter, EachPair-with, sum_of-le, sum_of-eq, sum_of-filter-le, filter-ascends, range-ascends}
-use Rattle.tetri_compile.specs.Allotted.{suits, granted_in, bid_values, values_of_bids}
+use Rattle.tetri_space.proofs.ListLemmas.{eq_from_test, Each-at, Each-from, Each-map, Each-all, Each-append, Each-filter, Each-passed, Each-across, Each-both, EachPair-append, EachPair-filter, EachPair-with, sum_of-le, sum_of-filter-le, filter-ascends, range-ascends}
+use Rattle.tetri_compile.specs.Allotted.{suits, granted_in, values_of_bids}
 use Rattle.tetri_compile.specs.declared.outline.Tally.{Tally}
-use Rattle.tetri_compile.specs.Draft.{is_held, tally_form, supply_row, tallies, bid_uppers, objective, bid_rows, bid_tallies, part_supply, supply, draft_of}
+use Rattle.tetri_compile.specs.Draft.{is_held, tally_form, supply_row, objective, bid_rows, bid_tallies, part_supply, supply, draft_of}
 use Rattle.tetri_compile.specs.Marks.{mark, values}
-use Rattle.tetri_compile.specs.Forms.{share, at_point, Limit, IsMet, AreMet, Reads}
-use Rattle.tetri_compile.specs.Walk.{uppers, width, form, rows}
+use Rattle.tetri_compile.specs.Forms.{at_point, AreMet, Reads}
+use Rattle.tetri_compile.specs.Walk.{width, form, rows}
 use Rattle.tetri_compile.proofs.WalkLemmas.{IsRight, hold, length-values}
 use Rattle.tetri_compile.proofs.FormLemmas.{at_point-append, Reads-split, AreMet-append}
 use Rattle.tetri_compile.proofs.GrantLemmas.{spread, IsSpread, at_most_one, any_which, held_le_free, IsOnRight, ShareNone, suits_some, shares_le}
@@ -120,14 +120,15 @@ module _ (i : Space) (os : List Bid) (parts : List (List ℕ)) (a : List Grant) 
       granted_few l below =
           subst (λ n. n ≤ l.k) (sym (granted_total a b.job l.num))
           (le_trans
-            (sum_of-le (λ g. cond (suits b.job l.num g) (length g.nodes) 0) (λ g. cond (suits b.job l.num g) l.k 0) a
-              (Each-map (λ g. suits b.job l.num g ≡ true → IsRightFor i l g.nodes) (λ g. cond (suits b.job l.num g) (length g.nodes) 0 ≤ cond (suits b.job l.num g) l.k 0)
-                (λ g r. by_test (suits b.job l.num g) (length g.nodes) (λ e. (r e).few)) a (fair.right b l among below)))
-            (le_trans (at_most_one (suits b.job l.num) l.k a (single_for b.job l.num)) (within (list_any (suits b.job l.num) a))))
+          (sum_of-le (λ g. cond (suits b.job l.num g) (length g.nodes) 0) (λ g. cond (suits b.job l.num g) l.k 0) a
+          (Each-map (λ g. suits b.job l.num g ≡ true → IsRightFor i l g.nodes) (λ g. cond (suits b.job l.num g) (length g.nodes) 0 ≤ cond (suits b.job l.num g) l.k 0)
+          (λ g r. by_test (suits b.job l.num g) (length g.nodes) (λ e. (r e).few)) a (fair.right b l among below)))
+          (le_trans (at_most_one (suits b.job l.num) l.k a (single_for b.job l.num)) (within (list_any (suits b.job l.num) a))))
         where
           by_test : (t : Bool) (n : ℕ) → (t ≡ true → n ≤ l.k) → cond t n 0 ≤ cond t l.k 0
           by_test true n f = f refl
           by_test false n f = omega arith
+
           within : (t : Bool) → cond t l.k 0 ≤ l.k
           within true = omega arith
           within false = omega arith
@@ -143,8 +144,8 @@ module _ (i : Space) (os : List Bid) (parts : List (List ℕ)) (a : List Grant) 
       counted l below leaf_good =
           spread b.job l.num (part_at parts) (inside l.set) kept
           (subst (Each (IsSpread b.job l.num (part_at parts) (inside l.set))) (sym keeping.filtered) (Each-filter (IsSpread b.job l.num (part_at parts) (inside l.set)) keeping.test a
-            (Each-map (λ g. suits b.job l.num g ≡ true → IsRightFor i l g.nodes) (IsSpread b.job l.num (part_at parts) (inside l.set))
-              (λ g r e. in_parts g (r e)) a (fair.right b l among below))))
+          (Each-map (λ g. suits b.job l.num g ≡ true → IsRightFor i l g.nodes) (IsSpread b.job l.num (part_at parts) (inside l.set))
+          (λ g r e. in_parts g (r e)) a (fair.right b l among below))))
         where
           in_parts : (g : Grant) → IsRightFor i l g.nodes → Each (λ m. count (λ p. has (part_at parts p) m) (inside l.set) ≡ 1) g.nodes
           in_parts g r =
@@ -176,11 +177,12 @@ module _ (i : Space) (os : List Bid) (parts : List (List ℕ)) (a : List Grant) 
     bids_hold x [] n among reads = (tt, omega arith)
     bids_hold x (b ∷ bs) n among reads =
         let split = Reads-split x (n + 1) (width inside room b.expr) (values inside (value b among.0) (taken b among.0) b.expr) (values_of_bids inside parts keep bs)
-          (length-values inside room (value b among.0) (taken b among.0) [] b.expr) reads.1 in
+        (length-values inside room (value b among.0) (taken b among.0) [] b.expr) reads.1 in
         let here = bid_holds b among.0 x n reads.0 split.0 in
-        let rest = bids_hold x bs (n + 1 + width inside room b.expr) among.1 split.1 in
-        (AreMet-append x _ _ here.0 rest.0,
-         omega (arith, here.1, rest.1, at_point-append x (form inside room b.expr n (n + 1)) (objective inside room bs (n + 1 + width inside room b.expr))))
+        let rest = bids_hold x bs (n + 1 + width inside room b.expr) among.1 split.1 in (
+          AreMet-append x _ _ here.0 rest.0,
+          omega (arith, here.1, rest.1, at_point-append x (form inside room b.expr n (n + 1)) (objective inside room bs (n + 1 + width inside room b.expr))),
+        )
 
     -- what a count column has at the point
     pub record IsTold (x : ℕ → ℕ) (c : Tally) : Type 0 where
@@ -193,10 +195,10 @@ module _ (i : Space) (os : List Bid) (parts : List (List ℕ)) (a : List Grant) 
     bids_told x [] n among reads = tt
     bids_told x (b ∷ bs) n among reads =
         let split = Reads-split x (n + 1) (width inside room b.expr) (values inside (value b among.0) (taken b among.0) b.expr) (values_of_bids inside parts keep bs)
-          (length-values inside room (value b among.0) (taken b among.0) [] b.expr) reads.1 in
+        (length-values inside room (value b among.0) (taken b among.0) [] b.expr) reads.1 in
         Each-append (IsTold x) _ _
         (Each-both (IsOf inside room b.job (leaves b.expr)) (IsRead inside room x (value b among.0) (taken b among.0)) (IsTold x) (λ c o r. told c o r) _
-          (tallies_leaf inside room b.job b.expr (n + 1)) (tallies_read inside room x (value b among.0) (taken b among.0) b.job b.expr (n + 1) split.0))
+        (tallies_leaf inside room b.job b.expr (n + 1)) (tallies_read inside room x (value b among.0) (taken b among.0) b.job b.expr (n + 1) split.0))
         (bids_told x bs (n + 1 + width inside room b.expr) among.1 split.1)
       where
         told : (c : Tally) → IsOf inside room b.job (leaves b.expr) c → x c.column ≡ granted_in (kept b among.0) b.job c.leaf.num (part_at parts c.part) → IsTold x c
@@ -219,8 +221,8 @@ module _ (i : Space) (os : List Bid) (parts : List (List ℕ)) (a : List Grant) 
         (tallies_other inside room (λ s. filter-ascends (λ p. list_all (has (set_at i s)) (part_at parts p)) (range_with_len 0 (length parts)) (range-ascends 0 (length parts))) b.job b.expr (n + 1) fine.0.1)
         (bids_other bs (n + 1 + width inside room b.expr) fine.1 jobs.1)
         (Each-across (λ c. c.job ≡ b.job) (λ d. b.job ≡ d.job → ⊥) (CountsOther inside room) (λ c d p q e f g. q (sym p ∙ e)) _ _
-          (Each-map (IsOf inside room b.job (leaves b.expr)) (λ c. c.job ≡ b.job) (λ c o. o.job) _ (tallies_leaf inside room b.job b.expr (n + 1)))
-          (of_others bs (n + 1 + width inside room b.expr) jobs.0))
+        (Each-map (IsOf inside room b.job (leaves b.expr)) (λ c. c.job ≡ b.job) (λ c o. o.job) _ (tallies_leaf inside room b.job b.expr (n + 1)))
+        (of_others bs (n + 1 + width inside room b.expr) jobs.0))
       where
         of_others : (cs : List Bid) (m : ℕ) → Each (λ c. b.job ≡ c.job → ⊥) cs → Each (λ d. b.job ≡ d.job → ⊥) (bid_tallies inside room cs m)
         of_others [] m h = tt
@@ -270,30 +272,30 @@ module _ (i : Space) (os : List Bid) (parts : List (List ℕ)) (a : List Grant) 
       on_apart cs h =
           EachPair-with (λ g. Unit {0}) HoldsApart (ShareNone (on cs) (λ n. is_free i n t))
           (λ g k u v apart e f n p q.
-            which cs g ⊥ h (λ c j s. which cs k ⊥ h (λ d l r.
-              apart j.told.bid l.told.bid c.leaf d.leaf j.told.among l.told.among j.told.of_bid.leaf l.told.of_bid.leaf s r n t p q j.early j.late l.early l.late) f) e)
+          which cs g ⊥ h (λ c j s. which cs k ⊥ h (λ d l r.
+          apart j.told.bid l.told.bid c.leaf d.leaf j.told.among l.told.among j.told.of_bid.leaf l.told.of_bid.leaf s r n t p q j.early j.late l.early l.late) f) e)
           a (Each-all (λ g. Unit {0}) (λ g. tt) a) fair.apart
 
       pub supply_le : (cs : List Tally) → Each IsHeldTally cs → EachPair (CountsOther inside room) cs → at_point x (tally_form cs) ≤ room p t
       supply_le cs h other =
           subst (λ n. n ≤ room p t) (sym (tally_sum cs))
           (le_trans
-            (sum_of-le (λ c. x c.column) (λ c. granted_in a c.job c.leaf.num (part_at parts p)) cs
-              (Each-map IsHeldTally (λ c. x c.column ≤ granted_in a c.job c.leaf.num (part_at parts p))
-                (λ c k. subst (λ q. x c.column ≤ granted_in a c.job c.leaf.num (part_at parts q)) k.part k.told.reads) cs h))
-            (le_trans
-              (shares_le (λ c. c.job) (λ c. c.leaf.num) (part_at parts p) cs a (λ g. each_other g))
-              (held_le_free (on cs) (λ n. is_free i n t) (part_at parts p) a (on_right cs h) (on_apart cs h))))
+          (sum_of-le (λ c. x c.column) (λ c. granted_in a c.job c.leaf.num (part_at parts p)) cs
+          (Each-map IsHeldTally (λ c. x c.column ≤ granted_in a c.job c.leaf.num (part_at parts p))
+          (λ c k. subst (λ q. x c.column ≤ granted_in a c.job c.leaf.num (part_at parts q)) k.part k.told.reads) cs h))
+          (le_trans
+          (shares_le (λ c. c.job) (λ c. c.leaf.num) (part_at parts p) cs a (λ g. each_other g))
+          (held_le_free (on cs) (λ n. is_free i n t) (part_at parts p) a (on_right cs h) (on_apart cs h))))
         where
           each_other : (g : Grant) → EachPair (λ c d. suits c.job c.leaf.num g ≡ true → suits d.job d.leaf.num g ≡ true → ⊥) cs
           each_other g =
               EachPair-with IsHeldTally (CountsOther inside room) (λ c d. suits c.job c.leaf.num g ≡ true → suits d.job d.leaf.num g ≡ true → ⊥)
               (λ c d j k o s r.
-                let one = and_parts (g.job == c.job) (g.leaf == c.leaf.num) s in
-                let two = and_parts (g.job == d.job) (g.leaf == d.leaf.num) r in
-                o (sym (eq_from_test g.job c.job one.0) ∙ eq_from_test g.job d.job two.0)
-                (sym (eq_from_test g.leaf c.leaf.num one.1) ∙ eq_from_test g.leaf d.leaf.num two.1)
-                (j.part ∙ sym k.part)) cs h other
+              let one = and_parts (g.job == c.job) (g.leaf == c.leaf.num) s in
+              let two = and_parts (g.job == d.job) (g.leaf == d.leaf.num) r in
+              o (sym (eq_from_test g.job c.job one.0) ∙ eq_from_test g.job d.job two.0)
+              (sym (eq_from_test g.leaf c.leaf.num one.1) ∙ eq_from_test g.leaf d.leaf.num two.1)
+              (j.part ∙ sym k.part)) cs h other
 
     supply_met : (x : ℕ → ℕ) (cs : List Tally) (slots ps : List ℕ) → Each (IsTold x) cs → EachPair (CountsOther inside room) cs → AreMet x (supply inside room cs slots ps)
     supply_met x cs slots [] told other = tt
@@ -302,10 +304,12 @@ module _ (i : Space) (os : List Bid) (parts : List (List ℕ)) (a : List Grant) 
         one_met : (t : ℕ) (ds : List Tally) → at_point x (tally_form ds) ≤ room p t → AreMet x (supply_row ds (room p t))
         one_met t [] le = tt
         one_met t (d ∷ ds) le = (omega arith, tt)
+
         all_held : (t : ℕ) → Each (IsHeldTally x p t) (filter (is_held p t) cs)
         all_held t =
             Each-both (IsTold x) (λ c. is_held p t c ≡ true) (IsHeldTally x p t) (λ c k e. held_tally x p t c k e) (filter (is_held p t) cs)
             (Each-filter (IsTold x) (is_held p t) cs told) (Each-passed (λ c. is_held p t c ≡ true) (is_held p t) (λ c e. e) cs)
+
         part_met : (ts : List ℕ) → AreMet x (part_supply inside room cs p ts)
         part_met [] = tt
         part_met (t ∷ ts) = AreMet-append x _ _ (one_met t (filter (is_held p t) cs)
@@ -316,7 +320,8 @@ module _ (i : Space) (os : List Bid) (parts : List (List ℕ)) (a : List Grant) 
         AreMet x (draft_of i os parts).rows × (worth_of_bids a os ≤ at_point x (draft_of i os parts).objective)
     first_law x reads =
         let all = Each-from (Contains os) os (λ b at. at) in
-        let here = bids_hold x os 0 all reads in
-        (AreMet-append x _ _ here.0
-          (supply_met x (bid_tallies inside room os 0) (range_with_len i.now i.window) (range_with_len 0 (length parts)) (bids_told x os 0 all reads) (bids_other os 0 fair.sound fair.jobs)),
-         here.1)
+        let here = bids_hold x os 0 all reads in (
+          AreMet-append x _ _ here.0
+              (supply_met x (bid_tallies inside room os 0) (range_with_len i.now i.window) (range_with_len 0 (length parts)) (bids_told x os 0 all reads) (bids_other os 0 fair.sound fair.jobs)),
+          here.1,
+        )

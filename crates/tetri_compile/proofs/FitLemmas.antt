@@ -1,6 +1,6 @@
 -- A program with few and small numbers is fit.
-use Rattle.std.proofs.Common.{◌≡◌, ℕ, zero, suc, ◌+◌, ◌*◌, ◌^◌, ◌<◌, ◌≤◌, ◌==◌, max, Bool, true, false, cond, List, [], ◌∷◌, length, map, slice_index_or, refl, sym, ap, ◌∙◌, subst, arith, le_trans}
-use Rattle.std.specs.Prelude.{unsigned_abs, ◌≤ℤ◌, ◌-ℤ◌, sum_by}
+use Rattle.std.proofs.Common.{◌≡◌, ℕ, zero, suc, ◌+◌, ◌*◌, ◌^◌, ◌<◌, ◌≤◌, ◌==◌, max, List, [], ◌∷◌, length, map, refl, sym, ap, ◌∙◌, subst, arith, le_trans}
+use Rattle.std.specs.Prelude.{unsigned_abs, ◌≤ℤ◌, ◌-ℤ◌}
 use Rattle.std.specs.List.{range_with_len}
 use Rattle.std.proofs.Math.Nat.{mul-le-mul_left, mul-le-mul_right}
 use Rattle.std.proofs.lemmas.Bool.{cond_both}
@@ -12,14 +12,14 @@ use lib.IntN.{ℤ, pos}
 use Rattle.tetri_ip.specs.declared.programs.Program.{Program}
 use Rattle.tetri_ip.specs.declared.programs.Row.{Row}
 use Rattle.tetri_ip.specs.declared.programs.Term.{Term}
-use Rattle.tetri_ip.specs.Points.{IsBelow, IsFit, IsFitRow, IsWithin, column_at, cost_reach, number_at, reach, right_of, size_at, term_at, terms_of}
+use Rattle.tetri_ip.specs.Points.{IsFit, IsFitRow, IsWithin, column_at, cost_reach, number_at, reach, right_of, size_at, term_at, terms_of}
 use Rattle.tetri_strl.specs.WellMade.{PEAK}
 use Rattle.tetri_space.specs.Lists.{Each}
 use Rattle.tetri_compile.specs.Draft.{Draft}
 use Rattle.tetri_compile.specs.Flat.{FlatProgram, FlatRow, coefficient, flat, flat_row, plain, plain_row, terms_at}
 use Rattle.tetri_compile.specs.Forms.{Form, Limit}
 use Rattle.tetri_compile.specs.Small.{IsSmallForm, IsSmallLimit}
-use Rattle.tetri_compile.proofs.GainLemmas.{from_zero, number_of}
+use Rattle.tetri_compile.proofs.GainLemmas.{number_of}
 use Rattle.tetri_compile.proofs.ProgramLemmas.{coefficient_small, less_of}
 
 -- ---- the terms of a row
@@ -56,13 +56,16 @@ module _ (most under : Form) where
       low : (k : ℕ) → k < suc (length ts) → a ≤ column_at (t ∷ ts) k
       low zero le = omega (arith, is)
       low (suc k) le = omega (arith, h.from k (omega (arith, le)))
+
       high : (k : ℕ) → k < suc (length ts) → column_at (t ∷ ts) k < e
       high zero le = omega (arith, is, lt)
       high (suc k) le = h.before k (omega (arith, le))
+
       up : (k m : ℕ) → k < m → m < suc (length ts) → column_at (t ∷ ts) k < column_at (t ∷ ts) m
       up k zero less le = absurd (omega (arith, less))
       up zero (suc m) less le = omega (arith, is, h.from m (omega (arith, le)))
       up (suc k) (suc m) less le = h.ascending k m (omega (arith, less)) (omega (arith, le))
+
       size : (k : ℕ) → k < suc (length ts) → unsigned_abs (term_at (t ∷ ts) k).by < 2 ^ 62
       size zero le = small
       size (suc k) le = h.numbers k (omega (arith, le))
@@ -73,12 +76,12 @@ module _ (most under : Form) where
     terms_are a (suc n) =
         let e : a + 1 + n ≡ a + suc n = omega arith in
         let rest : AreTerms (a + 1) (a + suc n) (terms_at most under (range_with_len (a + 1) n)) =
-            subst (λ (k : ℕ). AreTerms (a + 1) k (terms_at most under (range_with_len (a + 1) n))) e (terms_are (a + 1) n) in
+        subst (λ (k : ℕ). AreTerms (a + 1) k (terms_at most under (range_with_len (a + 1) n))) e (terms_are (a + 1) n) in
         cond_both (coefficient most a == coefficient under a) (terms_at most under (range_with_len (a + 1) n))
-          (record { column = a; by = pos (coefficient most a) -ℤ pos (coefficient under a) } ∷ terms_at most under (range_with_len (a + 1) n)) (AreTerms a (a + suc n))
-          (λ same. later a (a + suc n) (terms_at most under (range_with_len (a + 1) n)) rest)
-          (λ differ. one_more a (a + suc n) (record { column = a; by = pos (coefficient most a) -ℤ pos (coefficient under a) }) (terms_at most under (range_with_len (a + 1) n)) refl (omega arith)
-            (less_of (coefficient most a) (coefficient under a) (small_most a) (small_under a)) rest)
+        (record { column = a; by = pos (coefficient most a) -ℤ pos (coefficient under a) } ∷ terms_at most under (range_with_len (a + 1) n)) (AreTerms a (a + suc n))
+        (λ same. later a (a + suc n) (terms_at most under (range_with_len (a + 1) n)) rest)
+        (λ differ. one_more a (a + suc n) (record { column = a; by = pos (coefficient most a) -ℤ pos (coefficient under a) }) (terms_at most under (range_with_len (a + 1) n)) refl (omega arith)
+        (less_of (coefficient most a) (coefficient under a) (small_most a) (small_under a)) rest)
 
 -- ---- reaches
 small_product : (a b : ℕ) → a < 2 ^ 62 → b ≤ PEAK → a * b ≤ 2 ^ 62 * PEAK
@@ -114,6 +117,7 @@ module _ (p : Program) (sizes : (j : ℕ) → size_at p j ≤ PEAK) where
       where
         wide : (k : ℕ) → k < 2 ^ 62 → k < 2 ^ 127
         wide k h = omega (arith, h)
+
         total : (m a b : ℕ) → m ≤ 2000 → a ≤ m * (2 ^ 62 * PEAK) → b ≤ PEAK → a + b < 2 ^ 127
         total m a b h k l = omega (arith, h, k, l)
 

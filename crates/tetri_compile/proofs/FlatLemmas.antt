@@ -1,26 +1,22 @@
 -- The program by columns says what the forms say.
-use Rattle.std.proofs.Common.{◌≡◌, ◌⊎◌, ℕ, zero, suc, ◌+◌, ◌*◌, ◌<◌, ◌≤◌, ◌==◌, Bool, true, false, cond, List, [], ◌∷◌, ◌++◌, length, map, refl, sym, ap, ◌∙◌, subst, arith, ⊎_elim, inl, inr, le_trans}
+use Rattle.std.proofs.Common.{◌≡◌, ℕ, zero, suc, ◌+◌, ◌*◌, ◌<◌, ◌≤◌, ◌==◌, cond, List, [], ◌∷◌, length, map, refl, sym, ap, ◌∙◌, subst, arith, inl, inr}
 use Rattle.std.specs.Prelude.{unsigned_abs, ◌≤ℤ◌}
 use Rattle.std.specs.List.{range_with_len}
 use Rattle.std.proofs.Math.Nat.{mul-zero}
 use Rattle.std.proofs.lemmas.Bool.{cond_both, cases_order, cases_eq}
-use Rattle.std.proofs.lemmas.List.{length-map}
 use Rattle.std.proofs.lemmas.Int.{ints}
 use borrow.Author.Differences.{up, down}
 use lib.IntN.{ℤ, pos, negsuc, ◌+ℤ◌, ◌-ℤ◌, ◌*ℤ◌}
 use Rattle.tetri_algebra.specs.IntegerRing.{ℤ_ring}
 use Rattle.tetri_algebra.specs.Sums.{dot}
-use Rattle.tetri_ip.specs.declared.programs.Program.{Program}
 use Rattle.tetri_ip.specs.declared.programs.Row.{Row}
-use Rattle.tetri_ip.specs.declared.programs.Term.{Term}
-use Rattle.tetri_ip.specs.Points.{number_at, terms_of, right_of, left_side, IsBetween, MeetsRows}
+use Rattle.tetri_ip.specs.Points.{number_at, left_side, MeetsRows}
 use Rattle.tetri_strl.proofs.WorthLemmas.{AreBelow}
 use Rattle.tetri_space.specs.Lists.{sum_of}
 use Rattle.tetri_space.proofs.ListLemmas.{test_from_eq, test_from_ne, eq_from_test, sum_of-plus, sum_of-eq, sum_of-zero, Each-all}
 use Rattle.tetri_compile.specs.Draft.{Draft}
 use Rattle.tetri_compile.specs.Flat.{FlatRow, plain_row, coefficient, terms_at, flat_row, flat}
-use Rattle.tetri_compile.specs.declared.outline.Share.{Share}
-use Rattle.tetri_compile.specs.Forms.{Form, at_point, Limit, IsMet, AreMet, Reads, Within}
+use Rattle.tetri_compile.specs.Forms.{Form, at_point, Limit, AreMet, Reads}
 
 -- a point's number of a column
 abbrev pub at_column : List ℤ → ℕ → ℕ
@@ -45,17 +41,17 @@ module _ (x : ℕ → ℕ) where
   single c v a (suc n) le out =
       elim (cases_eq c a) [
         | inl e ↦
-          let yes : cond (c == a) v 0 ≡ v = ap (λ b. cond b v 0) (test_from_eq c a e) in
-          let here : cond (c == a) v 0 * x a ≡ v * x c = rw yes (ap (λ j. v * x j) (sym e)) in
-          omega (arith, here, past c v (a + 1) n (omega (arith, e)))
+            let yes : cond (c == a) v 0 ≡ v = ap (λ b. cond b v 0) (test_from_eq c a e) in
+            let here : cond (c == a) v 0 * x a ≡ v * x c = rw yes (ap (λ j. v * x j) (sym e)) in
+            omega (arith, here, past c v (a + 1) n (omega (arith, e)))
         | inr ne ↦
-          let no : cond (c == a) v 0 ≡ 0 = ap (λ b. cond b v 0) (test_from_ne c a ne) in
-          let gone : cond (c == a) v 0 * x a ≡ 0 = rw no (omega arith) in
-          omega (arith, gone, single c v (a + 1) n (more c a le ne) (λ h. out (omega (arith, h))))
+            let no : cond (c == a) v 0 ≡ 0 = ap (λ b. cond b v 0) (test_from_ne c a ne) in
+            let gone : cond (c == a) v 0 * x a ≡ 0 = rw no (omega arith) in
+            omega (arith, gone, single c v (a + 1) n (more c a le ne) (λ h. out (omega (arith, h))))
       ]
     where
       more : (m k : ℕ) → k ≤ m → (m ≡ k → ⊥) → k + 1 ≤ m
-      more m k h ne = elim (cases_order m k) [ | inl e ↦ absurd (ne e) | inr (inl lt) ↦ absurd (omega arith) | inr (inr gt) ↦ omega arith ]
+      more m k h ne = elim (cases_order m k) [ inl e ↦ absurd (ne e) | inr (inl lt) ↦ absurd (omega arith) | inr (inr gt) ↦ omega arith ]
 
   spread_product : (a b c : ℕ) → (a + b) * c ≡ a * c + b * c
   spread_product a b c = omega arith
@@ -72,7 +68,7 @@ module _ (x : ℕ → ℕ) where
       let b = form_at n out f in
       let c = sum_of-plus (λ j. cond (s.column == j) s.by 0 * x j) (λ j. coefficient f j * x j) js in
       let d = sum_of-eq (λ j. coefficient (s ∷ f) j * x j) (λ j. cond (s.column == j) s.by 0 * x j + coefficient f j * x j) js
-        (Each-all (λ j. coefficient (s ∷ f) j * x j ≡ cond (s.column == j) s.by 0 * x j + coefficient f j * x j) (λ j. spread_product (cond (s.column == j) s.by 0) (coefficient f j) (x j)) js) in
+      (Each-all (λ j. coefficient (s ∷ f) j * x j ≡ cond (s.column == j) s.by 0 * x j + coefficient f j * x j) (λ j. spread_product (cond (s.column == j) s.by 0) (coefficient f j) (x j)) js) in
       omega (arith, a, b, c, d)
 
 -- ---- a row by columns

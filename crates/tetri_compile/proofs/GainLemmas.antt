@@ -1,29 +1,26 @@
 -- The upper bounds are small, and so is the most that the columns can earn.
-use Rattle.std.proofs.Common.{◌≡◌, ℕ, zero, suc, ◌+◌, ◌*◌, ◌/◌, ◌^◌, ◌<◌, ◌≤◌, ◌==◌, max, min, Bool, true, false, cond, List, [], ◌∷◌, ◌++◌, length, map, refl, sym, ap, ◌∙◌, subst, arith, le_trans}
-use Rattle.std.specs.Prelude.{if◌then◌else◌, unsigned_abs}
+use Rattle.std.proofs.Common.{◌≡◌, ℕ, zero, suc, ◌+◌, ◌*◌, ◌/◌, ◌^◌, ◌<◌, ◌≤◌, ◌==◌, min, List, [], ◌∷◌, length, map, refl, sym, ap, ◌∙◌, subst, arith, le_trans}
+use Rattle.std.specs.Prelude.{unsigned_abs}
 use Rattle.std.specs.List.{range_with_len}
 use Rattle.std.proofs.Math.Nat.{mul-le-mul_left, mul-le-mul_right, div-mul-le_self}
 use Rattle.std.proofs.lemmas.Bool.{cond_both}
-use Rattle.std.proofs.lemmas.List.{length-append}
 use Rattle.std.proofs.lemmas.List.FromFn.{length-map-range_with_len}
 use lib.IntN.{ℤ, pos}
 use lib.Signed.{lt_z}
 use Rattle.tetri_ip.specs.declared.programs.Program.{Program}
 use Rattle.tetri_ip.specs.Points.{number_at}
-use Rattle.tetri_strl.specs.declared.expr.Leaf.{Leaf}
-use Rattle.tetri_strl.specs.Tree.{Operator, greatest, least, added, Tree, one, join, scale, barrier, Trees, none, more}
-use Rattle.tetri_strl.specs.WellMade.{peak, peaks, PEAK, IsGoodLeaf, IsSound, AreSound}
+use Rattle.tetri_strl.specs.Tree.{greatest, least, added, Tree, one, join, scale, barrier, Trees, none, more}
+use Rattle.tetri_strl.specs.WellMade.{peak, peaks, PEAK, IsSound, AreSound}
 use Rattle.tetri_strl.specs.Worth.{greatest_of, added_of}
 use Rattle.tetri_strl.proofs.WorthLemmas.{worth_le_peak}
 use Rattle.tetri_space.specs.Lists.{Each, sum_of}
 use Rattle.tetri_space.specs.Space.{Bid}
 use Rattle.tetri_space.proofs.ListLemmas.{Each-all, Each-append, Each-map, sum_of-le}
-use Rattle.tetri_compile.specs.declared.outline.Share.{Share}
 use Rattle.tetri_compile.specs.Draft.{Draft, bid_uppers, objective}
 use Rattle.tetri_compile.specs.Flat.{FlatProgram, coefficient, flat, plain}
 use Rattle.tetri_compile.specs.Forms.{Form, Reads, at_point, run, share, times}
 use Rattle.tetri_compile.specs.Gain.{gain_at, most_gain}
-use Rattle.tetri_compile.specs.Walk.{best, form, forms, ones, own_uppers, uppers, uppers_of, width}
+use Rattle.tetri_compile.specs.Walk.{best, form, forms, ones, uppers, uppers_of, width}
 use Rattle.tetri_compile.proofs.FlatLemmas.{at_column, form_at, point_reads}
 use Rattle.tetri_compile.proofs.FormLemmas.{Reads-split}
 use Rattle.tetri_compile.proofs.FormSizes.{AllBelow, below_added, below_greatest}
@@ -109,7 +106,7 @@ module _ (inside : ℕ → List ℕ) (room : ℕ → ℕ → ℕ) where
         let both = Reads-split x (n + 1) (width inside room b.expr) (uppers inside room b.expr) (bid_uppers inside room bs) refl h.1 in
         Each-append (λ s. s.by * x s.column ≤ PEAK) (form inside room b.expr n (n + 1)) (objective inside room bs (n + 1 + width inside room b.expr))
         (Each-map (λ s. s.by * x s.column ≤ peak b.expr) (λ s. s.by * x s.column ≤ PEAK) (λ s le. le_trans le (peak_small b.expr sound.0)) (form inside room b.expr n (n + 1))
-          (form_gain b.expr sound.0 n (n + 1) (omega (arith, h.0)) both.0))
+        (form_gain b.expr sound.0 n (n + 1) (omega (arith, h.0)) both.0))
         (bids_gain bs (n + 1 + width inside room b.expr) sound.1 both.1)
 
 gain_most : (x : ℕ → ℕ) (f : Form) → Each (λ h. h.by * x h.column ≤ PEAK) f → at_point x f ≤ length f * PEAK
@@ -138,17 +135,17 @@ module _ (inside : ℕ → List ℕ) (room : ℕ → ℕ → ℕ) (bs : List Bid
       let f = objective inside room bs 0 in
       let n = length us in
       let costs : p.costs.items ≡ map (λ j. pos (coefficient f j)) (range_with_len 0 n) =
-          ap (λ (q : FlatProgram). q.costs) is ∙ ap (λ (g : Form). map (λ j. pos (coefficient g j)) (range_with_len 0 (length d.uppers))) earns
-          ∙ ap (λ (vs : List ℕ). map (λ j. pos (coefficient f j)) (range_with_len 0 (length vs))) uppers_are in
+      ap (λ (q : FlatProgram). q.costs) is ∙ ap (λ (g : Form). map (λ j. pos (coefficient g j)) (range_with_len 0 (length d.uppers))) earns
+      ∙ ap (λ (vs : List ℕ). map (λ j. pos (coefficient f j)) (range_with_len 0 (length vs))) uppers_are in
       let upper : p.upper.items ≡ map pos us = ap (λ (q : FlatProgram). q.upper) is ∙ ap (λ (vs : List ℕ). map pos vs) uppers_are in
       let count : length p.costs.items ≡ n = ap (λ (zs : List ℤ). length zs) costs ∙ length-map-range_with_len (λ j. pos (coefficient f j)) 0 n in
       let each = gain_most x f (bids_gain inside room x bs 0 sound (point_reads us)) in
       let whole = form_at x n (past_end us) f in
       let below = sum_of-le (gain_at p) (λ j. coefficient f j * x j) (range_with_len 0 n) (Each-all (λ j. gain_at p j ≤ coefficient f j * x j) (λ j.
-          cond_both (lt_z (pos 0) (number_at p.costs.items j)) (unsigned_abs (number_at p.costs.items j) * unsigned_abs (number_at p.upper.items j)) 0 (λ g. g ≤ coefficient f j * x j)
-          (λ e. le_trans
-            (mul-le-mul_right (unsigned_abs (number_at p.upper.items j)) (subst (λ (zs : List ℤ). unsigned_abs (number_at zs j) ≤ coefficient f j) (sym costs) (subst (λ (k : ℕ). unsigned_abs (number_at (map (λ i. pos (coefficient f i)) (range_with_len 0 n)) j) ≤ coefficient f k) (from_zero j) (number_of (coefficient f) 0 n j))))
-            (subst (λ (zs : List ℤ). coefficient f j * unsigned_abs (number_at zs j) ≤ coefficient f j * x j) (sym upper) (omega arith)))
-          (λ e. omega arith)) (range_with_len 0 n)) in
+      cond_both (lt_z (pos 0) (number_at p.costs.items j)) (unsigned_abs (number_at p.costs.items j) * unsigned_abs (number_at p.upper.items j)) 0 (λ g. g ≤ coefficient f j * x j)
+      (λ e. le_trans
+      (mul-le-mul_right (unsigned_abs (number_at p.upper.items j)) (subst (λ (zs : List ℤ). unsigned_abs (number_at zs j) ≤ coefficient f j) (sym costs) (subst (λ (k : ℕ). unsigned_abs (number_at (map (λ i. pos (coefficient f i)) (range_with_len 0 n)) j) ≤ coefficient f k) (from_zero j) (number_of (coefficient f) 0 n j))))
+      (subst (λ (zs : List ℤ). coefficient f j * unsigned_abs (number_at zs j) ≤ coefficient f j * x j) (sym upper) (omega arith)))
+      (λ e. omega arith)) (range_with_len 0 n)) in
       let total : most_gain p ≡ sum_of (gain_at p) (range_with_len 0 n) = ap (λ m. sum_of (gain_at p) (range_with_len 0 m)) count in
       omega (arith, each, whole, below, total, objective_few inside room 2000 (omega arith) bs 0, few)

@@ -1,12 +1,12 @@
 -- How many nodes of each partition the grants give.
-use Rattle.std.proofs.Common.{◌≡◌, ◌≢◌, ◌⊎◌, ℕ, zero, suc, ◌+◌, ◌*◌, ◌<◌, ◌≤◌, ◌==◌, ◌&&◌, ◌||◌, not, Bool, true, false, cond, List, [], ◌∷◌, ◌++◌, length, get_or, map, Contains, refl, sym, ap, ◌∙◌, subst, arith, true≢false, inl, inr, ⊎_elim, le_trans}
-use Rattle.std.specs.List.{list_any, list_all, filter, range_with_len}
-use Rattle.std.proofs.lemmas.Bool.{cond_both, cases_Bool, and_parts, or_cases}
+use Rattle.std.proofs.Common.{◌≡◌, ℕ, ◌+◌, ◌≤◌, ◌&&◌, ◌||◌, Bool, true, false, cond, List, [], ◌∷◌, length, refl, sym, ap, ◌∙◌, subst, arith, true≢false, ⊎_elim, le_trans}
+use Rattle.std.specs.List.{list_any}
+use Rattle.std.proofs.lemmas.Bool.{and_parts, or_cases}
 use Rattle.tetri_strl.specs.declared.grants.Grant.{Grant}
 use Rattle.tetri_strl.specs.Worth.{granted}
 use Rattle.tetri_compile.specs.Allotted.{suits, granted_in}
 use Rattle.tetri_space.specs.Lists.{sum_of, bit, count, has, Each, EachPair, Ascends}
-use Rattle.tetri_space.proofs.ListLemmas.{bit-le, common-le, sum_of-swap, sum_of-eq, sum_of-le, sum_of-plus, sum_of-zero, sum_of-one, sum_of-filter, Each-map, Each-all}
+use Rattle.tetri_space.proofs.ListLemmas.{common-le, sum_of-swap, sum_of-eq, sum_of-le, sum_of-plus, sum_of-zero, sum_of-one, Each-map, Each-all}
 
 -- ---- over partitions that cover
 module _ (job leaf : ℕ) (part : ℕ → List ℕ) (ps : List ℕ) where
@@ -69,10 +69,11 @@ module _ (on : Grant → Bool) (free : ℕ → Bool) where
   EachPair-at : (n : ℕ) (a : List Grant) → EachPair ShareNone a →
       EachPair (λ g h. (on g && has g.nodes n) ≡ true → (on h && has h.nodes n) ≡ true → ⊥) a
   EachPair-at n [] h = tt
-  EachPair-at n (g ∷ gs) h =
-      (Each-map (ShareNone g) (λ k. (on g && has g.nodes n) ≡ true → (on k && has k.nodes n) ≡ true → ⊥)
+  EachPair-at n (g ∷ gs) h = (
+    Each-map (ShareNone g) (λ k. (on g && has g.nodes n) ≡ true → (on k && has k.nodes n) ≡ true → ⊥)
         (λ k apart p q. let b = and_parts (on g) (has g.nodes n) p in let c = and_parts (on k) (has k.nodes n) q in apart b.0 c.0 n b.1 c.1) gs h.0,
-       EachPair-at n gs h.1)
+    EachPair-at n gs h.1,
+  )
 
   cond_and : (b c : Bool) → cond b (bit c) 0 ≡ cond (b && c) 1 0
   cond_and true true = refl
@@ -84,8 +85,8 @@ module _ (on : Grant → Bool) (free : ℕ → Bool) where
       subst (λ k. k ≤ bit (free n))
       (sym (sum_of-eq (λ g. cond (on g) (bit (has g.nodes n)) 0) (λ g. cond (on g && has g.nodes n) 1 0) a (Each-all _ (λ g. cond_and (on g) (has g.nodes n)) a)))
       (le_trans (at_most_one (λ g. on g && has g.nodes n) 1 a (EachPair-at n a apart))
-        (by_test (list_any (λ g. on g && has g.nodes n) a)
-          (any_which (λ g. on g && has g.nodes n) IsOnRight (free n ≡ true) a right (λ g r t. let b = and_parts (on g) (has g.nodes n) t in (r b.0).1 n b.1))))
+      (by_test (list_any (λ g. on g && has g.nodes n) a)
+      (any_which (λ g. on g && has g.nodes n) IsOnRight (free n ≡ true) a right (λ g r t. let b = and_parts (on g) (has g.nodes n) t in (r b.0).1 n b.1))))
     where
       by_test : (b : Bool) → (b ≡ true → free n ≡ true) → cond b 1 0 ≤ bit (free n)
       by_test true f = omega (arith, ap bit (f refl))
@@ -96,9 +97,9 @@ module _ (on : Grant → Bool) (free : ℕ → Bool) where
   held_le_free part a right apart =
       le_trans
       (sum_of-le (λ g. cond (on g) (count (has part) g.nodes) 0) (λ g. sum_of (λ n. cond (on g) (bit (has g.nodes n)) 0) part) a
-        (Each-map IsOnRight (λ g. cond (on g) (count (has part) g.nodes) 0 ≤ sum_of (λ n. cond (on g) (bit (has g.nodes n)) 0) part) (λ g r. turned g (on g) (λ e. (r e).0)) a right))
+      (Each-map IsOnRight (λ g. cond (on g) (count (has part) g.nodes) 0 ≤ sum_of (λ n. cond (on g) (bit (has g.nodes n)) 0) part) (λ g r. turned g (on g) (λ e. (r e).0)) a right))
       (subst (λ k. k ≤ count free part) (sym (sum_of-swap (λ g n. cond (on g) (bit (has g.nodes n)) 0) a part))
-        (sum_of-le (λ n. sum_of (λ g. cond (on g) (bit (has g.nodes n)) 0) a) (λ n. bit (free n)) part (Each-all _ (λ n. one_holder n a right apart) part)))
+      (sum_of-le (λ n. sum_of (λ g. cond (on g) (bit (has g.nodes n)) 0) a) (λ n. bit (free n)) part (Each-all _ (λ n. one_holder n a right apart) part)))
     where
       turned : (g : Grant) (b : Bool) → (b ≡ true → Ascends g.nodes) → cond b (count (has part) g.nodes) 0 ≤ sum_of (λ n. cond b (bit (has g.nodes n)) 0) part
       turned g true up = common-le g.nodes part (up refl)
@@ -118,4 +119,4 @@ module _ {X : Type 0} (job leaf : X → ℕ) where
       subst (λ k. k ≤ sum_of (λ g. cond (suits_some cs g) (count (has part) g.nodes) 0) a)
       (sym (sum_of-swap (λ c g. cond (suits (job c) (leaf c) g) (count (has part) g.nodes) 0) cs a))
       (sum_of-le (λ g. sum_of (λ c. cond (suits (job c) (leaf c) g) (count (has part) g.nodes) 0) cs) (λ g. cond (suits_some cs g) (count (has part) g.nodes) 0) a
-        (Each-all _ (λ g. at_most_one (λ c. suits (job c) (leaf c) g) (count (has part) g.nodes) cs (other g)) a))
+      (Each-all _ (λ g. at_most_one (λ c. suits (job c) (leaf c) g) (count (has part) g.nodes) cs (other g)) a))

@@ -1,16 +1,16 @@
 -- Every lawful allotment has a point of the program that is worth no less.
-use Rattle.std.proofs.Common.{◌≡◌, ℕ, ◌≤◌, List, length, map, refl, sym, ap, ◌∙◌, subst, arith}
+use Rattle.std.proofs.Common.{◌≡◌, ℕ, ◌≤◌, List, length, sym, ap, ◌∙◌, subst, arith}
 use Rattle.std.specs.Prelude.{◌≤ℤ◌}
 use Rattle.std.proofs.lemmas.Int.{ints}
 use Rattle.std.proofs.lemmas.List.{length-map}
 use Rattle.std.proofs.lemmas.List.FromFn.{length-map-range_with_len}
-use lib.IntN.{ℤ, pos}
+use lib.IntN.{pos}
 use Rattle.tetri_algebra.specs.IntegerRing.{ℤ_ring}
 use Rattle.tetri_algebra.specs.Sums.{dot}
 use Rattle.tetri_strl.specs.declared.grants.Grant.{Grant}
 use Rattle.tetri_strl.proofs.WorthLemmas.{AreBelow}
 use Rattle.tetri_ip.specs.declared.programs.Program.{Program}
-use Rattle.tetri_ip.specs.Points.{number_at, objective, box_of, IsPoint, MeetsRows}
+use Rattle.tetri_ip.specs.Points.{number_at, objective, box_of, IsPoint}
 use Rattle.tetri_space.specs.Lawful.{IsLawful}
 use Rattle.tetri_space.specs.Partitions.{live_bids, partitions}
 use Rattle.tetri_space.specs.Sound.{IsSound}
@@ -42,14 +42,16 @@ module _ (s : Space) (sound : IsSound s) (a : List Grant) (lawful : IsLawful s a
     allotment_has_point =
         let law = first_law s (live_bids s) (partitions s) a (earning s a) (fair s sound a lawful) (at_column (point_of s a)) (point_reads (allotted s a)) in
         let met = met_flat (draft s) (point_of s a) long (point_whole (allotted s a)) law.0 in
-        let worth = flat_objective (draft s) (point_of s a) long (point_whole (allotted s a)) in
-        (record {
-          count = long ∙ sym (ap length costs_are ∙ length-map-range_with_len (λ j. pos (coefficient (draft s).objective j)) 0 (length (draft s).uppers));
-          inside = λ k lt.
-              let both = point_between (allotted s a) (draft s).uppers k below in
-              (subst (λ zs. number_at zs k ≤ℤ number_at (point_of s a) k) (sym (ap (λ (q : FlatProgram). q.lower) is)) both.0,
-               subst (λ zs. number_at (point_of s a) k ≤ℤ number_at zs k) (sym (ap (λ (q : FlatProgram). q.upper) is)) both.1);
-          met = meets_from p.rows.items (point_of s a) (subst (λ rs. RowsMet rs (point_of s a)) (sym (ap (λ (q : FlatProgram). q.rows) is)) met);
-        },
-        subst (λ cs. pos (total_in s a) ≤ℤ dot ℤ_ring cs (point_of s a)) (sym costs_are)
-        (subst (λ z. pos (total_in s a) ≤ℤ z) (sym worth) (pos_le (total_in s a) _ (omega (arith, law.1, live_total s sound a lawful)))))
+        let worth = flat_objective (draft s) (point_of s a) long (point_whole (allotted s a)) in (
+          record {
+            count = long ∙ sym (ap length costs_are ∙ length-map-range_with_len (λ j. pos (coefficient (draft s).objective j)) 0 (length (draft s).uppers));
+            inside = λ k lt.
+                let both = point_between (allotted s a) (draft s).uppers k below in (
+                  subst (λ zs. number_at zs k ≤ℤ number_at (point_of s a) k) (sym (ap (λ (q : FlatProgram). q.lower) is)) both.0,
+                  subst (λ zs. number_at (point_of s a) k ≤ℤ number_at zs k) (sym (ap (λ (q : FlatProgram). q.upper) is)) both.1,
+                );
+            met = meets_from p.rows.items (point_of s a) (subst (λ rs. RowsMet rs (point_of s a)) (sym (ap (λ (q : FlatProgram). q.rows) is)) met);
+          },
+          subst (λ cs. pos (total_in s a) ≤ℤ dot ℤ_ring cs (point_of s a)) (sym costs_are)
+              (subst (λ z. pos (total_in s a) ≤ℤ z) (sym worth) (pos_le (total_in s a) _ (omega (arith, law.1, live_total s sound a lawful)))),
+        )

@@ -1,44 +1,41 @@
 -- A lawful allotment's grants are fair to the live bids.
-use Rattle.std.proofs.Common.{◌≡◌, ◌≢◌, ℕ, zero, suc, ◌+◌, ◌<◌, ◌≤◌, ◌==◌, ◌&&◌, ◌||◌, not, Bool, true, false, cond, List, [], ◌∷◌, length, get_or, map, All, AllPairs, Contains, Option, Some, None, refl, sym, ap, ◌∙◌, subst, arith, true≢false}
-use Rattle.std.specs.Prelude.{nat_lt, nat_le, slice_get, slice_index_or}
-use Rattle.std.specs.List.{filter, find, list_any, sum_by}
+use Rattle.std.proofs.Common.{◌≡◌, ◌≢◌, ℕ, suc, ◌+◌, ◌<◌, ◌≤◌, ◌==◌, ◌||◌, Bool, true, false, cond, List, [], ◌∷◌, length, All, AllPairs, Contains, Option, Some, None, refl, sym, ap, ◌∙◌, subst, arith, true≢false}
+use Rattle.std.specs.List.{sum_by}
 use Rattle.std.specs.List.Sorted.{IsStrictlyIncreasing}
 use Rattle.std.specs.Option.{IsSomeAnd}
-use Rattle.std.proofs.lemmas.Bool.{and_parts, and_from}
+use Rattle.std.proofs.lemmas.Bool.{and_parts}
 use Rattle.std.proofs.lemmas.Bool.Decides.{nat_tests}
 use Rattle.std.proofs.lemmas.List.Elements.{All-contains}
 use Rattle.std.proofs.lemmas.List.Kept.{AllPairs-from_increasing}
 use Rattle.std.proofs.lemmas.List.Sums.{sum_by-cons}
 use Rattle.tetri_strl.specs.declared.expr.Leaf.{Leaf}
 use Rattle.tetri_strl.specs.declared.grants.Grant.{Grant}
-use Rattle.tetri_strl.specs.Aligned.{EachLeaf}
 use Rattle.tetri_strl.specs.Prune.{GrantsOnlyIn, starts_in, pruned, worth_kept}
 use Rattle.tetri_strl.specs.Thrifty.{IsThrifty, IsThriftyFor, held_leaves}
 use Rattle.tetri_strl.specs.Tree.{Tree, leaves}
 use Rattle.tetri_strl.specs.Trim.{earns, idle, trimmed}
-use Rattle.tetri_strl.specs.WellMade.{IsGoodLeaf}
 use Rattle.tetri_strl.specs.Worth.{granted, leaf_worth, worth_of}
-use Rattle.tetri_strl.proofs.PartsApart.{AreApart, apart_of_pairs}
+use Rattle.tetri_strl.proofs.PartsApart.{apart_of_pairs}
 use Rattle.tetri_strl.proofs.PruneLemmas.{each_nothing, pruned_keeps_worth}
 use Rattle.tetri_strl.proofs.TrimThrift.{trimmed_thrifty}
 use Rattle.tetri_strl.proofs.TrimWorth.{trimmed_worth}
 use Rattle.tetri_strl.proofs.WorthLemmas.{EachLeaf-from}
 use Rattle.tetri_space.specs.Free.{IsFree}
-use Rattle.tetri_space.specs.Lawful.{HasRightNodes, MayBeGranted, IsLawfulGrant, IsLawful, NoCommonSlot}
+use Rattle.tetri_space.specs.Lawful.{HasRightNodes, MayBeGranted, IsLawfulGrant, IsLawful}
 use Rattle.tetri_space.specs.Lawful.{AreApart as GrantsApart}
-use Rattle.tetri_space.specs.Lists.{sum_of, has, Each, EachPair, Ascends}
+use Rattle.tetri_space.specs.Lists.{has, Each, EachPair, Ascends}
 use Rattle.tetri_space.specs.Partitions.{with_left, bids_left, live_bids, asked, partitions, set_at, is_free}
 use Rattle.tetri_space.specs.Sound.{IsSoundBid, IsSound}
-use Rattle.tetri_space.specs.Space.{Bid, Space, leaf_in, IsLive, Covers}
+use Rattle.tetri_space.specs.Space.{Bid, Space, leaf_in, Covers}
 use Rattle.tetri_space.specs.Total.{bid_worth, total_in}
 use Rattle.tetri_space.proofs.FreeLemmas.{free_decides}
-use Rattle.tetri_space.proofs.LawLemmas.{granted_right, dead_granted}
+use Rattle.tetri_space.proofs.LawLemmas.{dead_granted}
 use Rattle.tetri_space.proofs.LeafLemmas.{find-by_key, leaf_in-found}
-use Rattle.tetri_space.proofs.ListLemmas.{eq_from_test, test_from_eq, Each-map, Each-all, Each-at, Each-from, EachPair-from, EachPair-with, any_from, sum_of-filter-le}
+use Rattle.tetri_space.proofs.ListLemmas.{eq_from_test, test_from_eq, Each-all, Each-at, Each-from, EachPair-from, EachPair-with, any_from, sum_of-filter-le}
 use Rattle.tetri_space.proofs.PartitionLemmas.{covered}
 use Rattle.tetri_space.proofs.PrunedLemmas.{IsLeftOf, each_left_of, OfLeft, AreFrom, IsGood, OtherJob, asked_has, left_leaves, lefts_good, lefts_jobs}
 use Rattle.tetri_compile.specs.Allotted.{suits, earning, trimmed_for}
-use Rattle.tetri_compile.proofs.FairLemmas.{IsRightFor, IsKept, IsFair, HoldsApart, worth_of_bids, granted_total, lt_from_test, le_from_test}
+use Rattle.tetri_compile.proofs.FairLemmas.{IsRightFor, IsKept, IsFair, HoldsApart, worth_of_bids, granted_total}
 use Rattle.tetri_compile.proofs.ThriftOfLeft.{left_thrifty}
 
 -- ---- tests of what is known
@@ -126,9 +123,14 @@ module _ (s : Space) (sound : IsSound s) where
     trimmed_only : (b : Bid) (at : Contains s.bids b) → GrantsOnlyIn s.now to (trimmed a b.job b.expr) b.job b.expr
     trimmed_only b at =
         EachLeaf-from (λ l. starts_in s.now to l ≡ false → granted (trimmed a b.job b.expr) b.job l.num ≡ 0) b.expr (λ l below out.
-          let ns = idle (leaf_worth a b.job) b.expr in
-          omega (arith, dead b at l below out, granted_total (trimmed a b.job b.expr) b.job l.num, granted_total a b.job l.num,
-            sum_of-filter-le (λ g. cond (suits b.job l.num g) (length g.nodes) 0) (earns b.job ns) a))
+        let ns = idle (leaf_worth a b.job) b.expr in
+        omega (
+          arith,
+          dead b at l below out,
+          granted_total (trimmed a b.job b.expr) b.job l.num,
+          granted_total a b.job l.num,
+          sum_of-filter-le (λ g. cond (suits b.job l.num g) (length g.nodes) 0) (earns b.job ns) a,
+        ))
 
     -- a live bid is worth what the whole bid is worth
     left_worth : (ks : List Grant) (w : Bid) (u : Tree) → Contains s.bids w → pruned s.now to w.expr ≡ Some u → GrantsOnlyIn s.now to ks w.job w.expr →
@@ -146,12 +148,12 @@ module _ (s : Space) (sound : IsSound s) where
             let ks = trimmed a w.job w.expr in
             let is : earning s a b.job ≡ ks = kept_is b h ∙ ap (λ j. trimmed a j w.expr) (sym h.job) in
             let thrifty : IsThriftyFor ks w.job b.expr =
-                subst (OfLeft (IsThrifty (leaf_worth ks w.job) (held_leaves ks w.job))) h.left
-                (left_thrifty (leaf_worth ks w.job) (held_leaves ks w.job) s.now to w.expr
-                  (each_nothing s.now to ks w.job w.expr good.0 (trimmed_only w h.among)) (trimmed_thrifty a w.job w.expr good.0 good.1)) in
+            subst (OfLeft (IsThrifty (leaf_worth ks w.job) (held_leaves ks w.job))) h.left
+            (left_thrifty (leaf_worth ks w.job) (held_leaves ks w.job) s.now to w.expr
+            (each_nothing s.now to ks w.job w.expr good.0 (trimmed_only w h.among)) (trimmed_thrifty a w.job w.expr good.0 good.1)) in
             let same : worth_of a w.job b.expr ≡ worth_of ks w.job b.expr =
-                left_worth a w b.expr h.among h.left (only_live w h.among) ∙ sym (trimmed_worth a w.job w.expr good.0 good.1)
-                ∙ sym (left_worth ks w b.expr h.among h.left (trimmed_only w h.among)) in
+            left_worth a w b.expr h.among h.left (only_live w h.among) ∙ sym (trimmed_worth a w.job w.expr good.0 good.1)
+            ∙ sym (left_worth ks w b.expr h.among h.left (trimmed_only w h.among)) in
             record {
               test = earns w.job (idle (leaf_worth a w.job) w.expr);
               filtered = is;
@@ -169,14 +171,14 @@ module _ (s : Space) (sound : IsSound s) where
       kept = Each-from (IsKept s (live_bids s) (partitions s) a (earning s a)) (live_bids s) kept_for;
       single = EachPair-with (λ g. Unit {0}) (GrantsApart s) (λ g h. (job leaf : ℕ) → suits job leaf g ≡ true → suits job leaf h ≡ true → ⊥)
           (λ g h u v apart job leaf t r.
-            let p = and_parts (g.job == job) (g.leaf == leaf) t in
-            let q = and_parts (h.job == job) (h.leaf == leaf) r in
-            apart.other_leaf (eq_from_test g.job job p.0 ∙ sym (eq_from_test h.job job q.0)) (eq_from_test g.leaf leaf p.1 ∙ sym (eq_from_test h.leaf leaf q.1)))
+          let p = and_parts (g.job == job) (g.leaf == leaf) t in
+          let q = and_parts (h.job == job) (h.leaf == leaf) r in
+          apart.other_leaf (eq_from_test g.job job p.0 ∙ sym (eq_from_test h.job job q.0)) (eq_from_test g.leaf leaf p.1 ∙ sym (eq_from_test h.leaf leaf q.1)))
           a (Each-all (λ g. Unit {0}) (λ g. tt) a) (EachPair-from (GrantsApart s) a lawful.apart);
       apart = EachPair-with (λ g. Unit {0}) (GrantsApart s) (HoldsApart s (live_bids s) (partitions s) a (earning s a))
           (λ g h u v apart b c l m bt ct lt mt t r n slot p q e f e2 f2.
-            apart.other_slots n (contains_from g.nodes n p) (contains_from h.nodes n q) l (names b l g bt lt t) m (names c m h ct mt r) slot
-            (record { begun = e; not_over = f }) (record { begun = e2; not_over = f2 }))
+          apart.other_slots n (contains_from g.nodes n p) (contains_from h.nodes n q) l (names b l g bt lt t) m (names c m h ct mt r) slot
+          (record { begun = e; not_over = f }) (record { begun = e2; not_over = f2 }))
           a (Each-all (λ g. Unit {0}) (λ g. tt) a) (EachPair-from (GrantsApart s) a lawful.apart);
       covers = λ b l at below m there small. covered s (asked s (live_bids s)) l.set m (asked_has s (live_bids s) b l at below) small there;
     }

@@ -1,23 +1,21 @@
 -- The forms and limits of a program have few and small numbers.
-use Rattle.std.proofs.Common.{◌≡◌, ℕ, zero, suc, ◌+◌, ◌*◌, ◌/◌, ◌<◌, ◌≤◌, ◌==◌, max, min, Bool, true, false, cond, List, [], ◌∷◌, ◌++◌, length, get_or, map, refl, sym, ap, ◌∙◌, subst, arith, le_trans}
-use Rattle.std.specs.Prelude.{if◌then◌else◌}
+use Rattle.std.proofs.Common.{◌≡◌, ℕ, zero, suc, ◌+◌, ◌/◌, ◌<◌, ◌≤◌, ◌==◌, min, Bool, List, [], ◌∷◌, length, get_or, map, refl, ap, arith, le_trans}
 use Rattle.std.specs.List.{filter, range_with_len}
 use Rattle.std.proofs.lemmas.Bool.{cond_both}
 use Rattle.std.proofs.lemmas.List.{length-append, length-map}
 use Rattle.std.proofs.lemmas.List.FromFn.{length-range_with_len}
 use Rattle.tetri_strl.specs.declared.expr.Leaf.{Leaf}
-use Rattle.tetri_strl.specs.Tree.{Operator, greatest, least, added, Tree, one, join, scale, barrier, Trees, none, more}
-use Rattle.tetri_strl.specs.WellMade.{peak, PEAK, IsGoodLeaf, IsSound, AreSound}
-use Rattle.tetri_space.specs.Lists.{Each, bit, count, sum_of}
+use Rattle.tetri_strl.specs.Tree.{greatest, least, added, Tree, one, join, scale, barrier, Trees, none, more}
+use Rattle.tetri_strl.specs.WellMade.{peak, PEAK, IsSound, AreSound}
+use Rattle.tetri_space.specs.Lists.{Each, count}
 use Rattle.tetri_space.specs.Partitions.{alike, asked, available, is_free, leads, live_bids, part_at, partitions}
 use Rattle.tetri_space.specs.Sound.{IsSound as IsSoundSpace}
 use Rattle.tetri_space.specs.Space.{Bid, Space}
 use Rattle.tetri_space.proofs.ListLemmas.{Each-append, Each-filter, Each-map, bit-le}
 use Rattle.tetri_space.proofs.PartsLemmas.{filter_shorter}
-use Rattle.tetri_compile.specs.declared.outline.Share.{Share}
 use Rattle.tetri_compile.specs.declared.outline.Tally.{Tally}
 use Rattle.tetri_compile.specs.Draft.{bid_rows, bid_tallies, bid_uppers, is_held, leaf_tallies, objective, part_supply, supply, supply_row, tallies, tallies_of, tally_form}
-use Rattle.tetri_compile.specs.Forms.{Form, Limit, limit, run, share, times}
+use Rattle.tetri_compile.specs.Forms.{Form, limit, run, share, times}
 use Rattle.tetri_compile.specs.Small.{IsSmallForm, IsSmallLimit}
 use Rattle.tetri_compile.specs.Walk.{best, form, forms, ones, own_uppers, rows, rows_of, rows_under, uppers, uppers_of, width}
 use Rattle.tetri_compile.proofs.FormSizes.{form_in, form_small, run_in, run_small}
@@ -65,8 +63,13 @@ module _ (inside : ℕ → List ℕ) (room : ℕ → ℕ → ℕ) where
     forms_length : (ts : Trees) (j n : ℕ) → length (forms inside room ts j n) ≤ length (ones ts) + length (uppers_of inside room ts)
     forms_length none j n = omega arith
     forms_length (more t ts) j n =
-        omega (arith, length-append (form inside room t j n) (forms inside room ts (j + 1) (n + width inside room t)), length-append (uppers inside room t) (uppers_of inside room ts),
-          form_length t j n, forms_length ts (j + 1) (n + width inside room t))
+        omega (
+          arith,
+          length-append (form inside room t j n) (forms inside room ts (j + 1) (n + width inside room t)),
+          length-append (uppers inside room t) (uppers_of inside room ts),
+          form_length t j n,
+          forms_length ts (j + 1) (n + width inside room t),
+        )
 
   pub form_is_small : (t : Tree) → IsSound t → (i n top : ℕ) → i < n → n + width inside room t ≤ top → IsSmallForm top (form inside room t i n)
   form_is_small t sound i n top lt le = record {
@@ -80,20 +83,23 @@ module _ (inside : ℕ → List ℕ) (room : ℕ → ℕ → ℕ) where
       rows_small : (t : Tree) → IsSound t → (i n : ℕ) → i < n → n + width inside room t ≤ top → Each (IsSmallLimit top) (rows inside room t i n)
       rows_small (one l) sound i n lt le =
           let counts : IsSmallForm top (run 1 n (inside l.set)) = run_form inside room top 1 n (inside l.set) (omega arith) (omega (arith, le, length-map (inside l.set) (λ p. min l.k (room p l.start)))) in
-          let wanted : IsSmallForm top (share i l.k ∷ []) = share_small top i l.k (omega (arith, lt, le)) (omega (arith, sound.0.few_nodes)) in
-          (limit_small top (run 1 n (inside l.set)) (share i l.k ∷ []) counts wanted,
-           cond_both l.linear [] (limit (share i l.k ∷ []) (run 1 n (inside l.set)) ∷ []) (Each (IsSmallLimit top)) (λ e. tt)
-             (λ e. (limit_small top (share i l.k ∷ []) (run 1 n (inside l.set)) wanted counts, tt)))
+          let wanted : IsSmallForm top (share i l.k ∷ []) = share_small top i l.k (omega (arith, lt, le)) (omega (arith, sound.0.few_nodes)) in (
+            limit_small top (run 1 n (inside l.set)) (share i l.k ∷ []) counts wanted,
+            cond_both l.linear [] (limit (share i l.k ∷ []) (run 1 n (inside l.set)) ∷ []) (Each (IsSmallLimit top)) (λ e. tt)
+                (λ e. (limit_small top (share i l.k ∷ []) (run 1 n (inside l.set)) wanted counts, tt)),
+          )
       rows_small (join greatest ts) sound i n lt le =
-          let w = length-append (ones ts) (uppers_of inside room ts) in
-          (limit_small top (run 1 n (ones ts)) (share i 1 ∷ []) (run_form inside room top 1 n (ones ts) (omega arith) (omega (arith, le, w))) (share_small top i 1 (omega (arith, lt, le)) (omega arith)),
-           rows_of_small ts sound.1 n (n + length (ones ts)) (omega arith) (omega (arith, le, w)))
+          let w = length-append (ones ts) (uppers_of inside room ts) in (
+            limit_small top (run 1 n (ones ts)) (share i 1 ∷ []) (run_form inside room top 1 n (ones ts) (omega arith) (omega (arith, le, w))) (share_small top i 1 (omega (arith, lt, le)) (omega arith)),
+            rows_of_small ts sound.1 n (n + length (ones ts)) (omega arith) (omega (arith, le, w)),
+          )
       rows_small (join least ts) sound i n lt le = rows_under_small ts sound.1 i n (n + 1) (omega (arith, lt)) (omega arith) (omega (arith, le))
       rows_small (join added ts) sound i n lt le =
-          let w = length-append (ones ts) (uppers_of inside room ts) in
-          (limit_small top (run 1 n (ones ts)) (share i (length (ones ts)) ∷ []) (run_form inside room top 1 n (ones ts) (omega arith) (omega (arith, le, w)))
-             (share_small top i (length (ones ts)) (omega (arith, lt, le)) (omega (arith, few, le, w))),
-           rows_of_small ts sound.1 n (n + length (ones ts)) (omega arith) (omega (arith, le, w)))
+          let w = length-append (ones ts) (uppers_of inside room ts) in (
+            limit_small top (run 1 n (ones ts)) (share i (length (ones ts)) ∷ []) (run_form inside room top 1 n (ones ts) (omega arith) (omega (arith, le, w)))
+                (share_small top i (length (ones ts)) (omega (arith, lt, le)) (omega (arith, few, le, w))),
+            rows_of_small ts sound.1 n (n + length (ones ts)) (omega arith) (omega (arith, le, w)),
+          )
       rows_small (scale t s) sound i n lt le = rows_small t sound.0 i n lt le
       rows_small (barrier t v) sound i n lt le =
           Each-append (IsSmallLimit top) (rows inside room t i n) (limit (share i v ∷ []) (form inside room t i n) ∷ []) (rows_small t sound.0 i n lt le)
@@ -112,9 +118,10 @@ module _ (inside : ℕ → List ℕ) (room : ℕ → ℕ → ℕ) where
       rows_under_small (more t ts) sound i c n lt lc le =
           let w = length-append (uppers inside room t) (uppers_of inside room ts) in
           Each-append (IsSmallLimit top) (rows inside room t i n) (limit (share c 1 ∷ []) (form inside room t i n) ∷ rows_under inside room ts i c (n + width inside room t))
-          (rows_small t sound.0 i n lt (omega (arith, le, w)))
-          (limit_small top (share c 1 ∷ []) (form inside room t i n) (share_small top c 1 (omega (arith, lc, le)) (omega arith)) (form_is_small t sound.0 i n top lt (omega (arith, le, w))),
-           rows_under_small ts sound.1 i c (n + width inside room t) (omega (arith, lt)) (omega (arith, lc)) (omega (arith, le, w)))
+          (rows_small t sound.0 i n lt (omega (arith, le, w))) (
+            limit_small top (share c 1 ∷ []) (form inside room t i n) (share_small top c 1 (omega (arith, lc, le)) (omega arith)) (form_is_small t sound.0 i n top lt (omega (arith, le, w))),
+            rows_under_small ts sound.1 i c (n + width inside room t) (omega (arith, lt)) (omega (arith, lc)) (omega (arith, le, w)),
+          )
 
     pub bid_rows_small : (bs : List Bid) (n : ℕ) → Each (λ b. IsSound b.expr) bs → n + length (bid_uppers inside room bs) ≤ top → Each (IsSmallLimit top) (bid_rows inside room bs n)
     bid_rows_small [] n sound le = tt
@@ -127,8 +134,13 @@ module _ (inside : ℕ → List ℕ) (room : ℕ → ℕ → ℕ) where
     pub objective_few : (bs : List Bid) (n : ℕ) → length (objective inside room bs n) ≤ length (bid_uppers inside room bs)
     objective_few [] n = omega arith
     objective_few (b ∷ bs) n =
-        omega (arith, length-append (form inside room b.expr n (n + 1)) (objective inside room bs (n + 1 + width inside room b.expr)), length-append (uppers inside room b.expr) (bid_uppers inside room bs),
-          form_length b.expr n (n + 1), objective_few bs (n + 1 + width inside room b.expr))
+        omega (
+          arith,
+          length-append (form inside room b.expr n (n + 1)) (objective inside room bs (n + 1 + width inside room b.expr)),
+          length-append (uppers inside room b.expr) (bid_uppers inside room bs),
+          form_length b.expr n (n + 1),
+          objective_few bs (n + 1 + width inside room b.expr),
+        )
 
     objective_columns : (bs : List Bid) (n : ℕ) → Each (λ b. IsSound b.expr) bs → n + length (bid_uppers inside room bs) ≤ top →
         Each (λ s. s.column < top) (objective inside room bs n) × Each (λ s. s.by ≤ PEAK) (objective inside room bs n)
@@ -136,9 +148,10 @@ module _ (inside : ℕ → List ℕ) (room : ℕ → ℕ → ℕ) where
     objective_columns (b ∷ bs) n sound le =
         let w = length-append (uppers inside room b.expr) (bid_uppers inside room bs) in
         let here = form_is_small b.expr sound.0 n (n + 1) top (omega arith) (omega (arith, le, w)) in
-        let rest = objective_columns bs (n + 1 + width inside room b.expr) sound.1 (omega (arith, le, w)) in
-        (Each-append (λ s. s.column < top) (form inside room b.expr n (n + 1)) (objective inside room bs (n + 1 + width inside room b.expr)) here.columns rest.0,
-         Each-append (λ s. s.by ≤ PEAK) (form inside room b.expr n (n + 1)) (objective inside room bs (n + 1 + width inside room b.expr)) here.numbers rest.1)
+        let rest = objective_columns bs (n + 1 + width inside room b.expr) sound.1 (omega (arith, le, w)) in (
+          Each-append (λ s. s.column < top) (form inside room b.expr n (n + 1)) (objective inside room bs (n + 1 + width inside room b.expr)) here.columns rest.0,
+          Each-append (λ s. s.by ≤ PEAK) (form inside room b.expr n (n + 1)) (objective inside room bs (n + 1 + width inside room b.expr)) here.numbers rest.1,
+        )
 
     pub objective_small : (bs : List Bid) → Each (λ b. IsSound b.expr) bs → length (bid_uppers inside room bs) ≤ top → IsSmallForm top (objective inside room bs 0)
     objective_small bs sound le =
@@ -180,8 +193,13 @@ module _ (inside : ℕ → List ℕ) (room : ℕ → ℕ → ℕ) where
       tallies_of_few : (job : ℕ) (ts : Trees) (n : ℕ) → length (tallies_of inside room job ts n) ≤ length (uppers_of inside room ts)
       tallies_of_few job none n = omega arith
       tallies_of_few job (more t ts) n =
-          omega (arith, length-append (tallies inside room job t n) (tallies_of inside room job ts (n + width inside room t)), length-append (uppers inside room t) (uppers_of inside room ts),
-            tallies_few job t n, tallies_of_few job ts (n + width inside room t))
+          omega (
+            arith,
+            length-append (tallies inside room job t n) (tallies_of inside room job ts (n + width inside room t)),
+            length-append (uppers inside room t) (uppers_of inside room ts),
+            tallies_few job t n,
+            tallies_of_few job ts (n + width inside room t),
+          )
 
     pub bid_tallies_in : (bs : List Bid) (n : ℕ) → n + length (bid_uppers inside room bs) ≤ top → Each (λ c. c.column < top) (bid_tallies inside room bs n)
     bid_tallies_in [] n le = tt
@@ -193,8 +211,13 @@ module _ (inside : ℕ → List ℕ) (room : ℕ → ℕ → ℕ) where
     pub bid_tallies_few : (bs : List Bid) (n : ℕ) → length (bid_tallies inside room bs n) ≤ length (bid_uppers inside room bs)
     bid_tallies_few [] n = omega arith
     bid_tallies_few (b ∷ bs) n =
-        omega (arith, length-append (tallies inside room b.job b.expr (n + 1)) (bid_tallies inside room bs (n + 1 + width inside room b.expr)), length-append (uppers inside room b.expr) (bid_uppers inside room bs),
-          tallies_few b.job b.expr (n + 1), bid_tallies_few bs (n + 1 + width inside room b.expr))
+        omega (
+          arith,
+          length-append (tallies inside room b.job b.expr (n + 1)) (bid_tallies inside room bs (n + 1 + width inside room b.expr)),
+          length-append (uppers inside room b.expr) (bid_uppers inside room bs),
+          tallies_few b.job b.expr (n + 1),
+          bid_tallies_few bs (n + 1 + width inside room b.expr),
+        )
 
     -- ---- the supply
     tally_form_small : (cs : List Tally) → Each (λ c. c.column < top) cs → length cs ≤ top → IsSmallForm top (tally_form cs)
@@ -203,9 +226,11 @@ module _ (inside : ℕ → List ℕ) (room : ℕ → ℕ → ℕ) where
         in_program : (ds : List Tally) → Each (λ c. c.column < top) ds → Each (λ s. s.column < top) (tally_form ds)
         in_program [] k = tt
         in_program (d ∷ ds) k = (k.0, in_program ds k.1)
+
         once : (ds : List Tally) → Each (λ s. s.by ≤ PEAK) (tally_form ds)
         once [] = tt
         once (d ∷ ds) = (omega arith, once ds)
+
         as_many : (ds : List Tally) → length (tally_form ds) ≡ length ds
         as_many [] = refl
         as_many (d ∷ ds) = ap suc (as_many ds)

@@ -1,5 +1,5 @@
 -- The point of an allotment meets the rows of a walk, and its form is at least the worth.
-use Rattle.std.proofs.Common.{◌≡◌, ℕ, zero, suc, ◌+◌, ◌*◌, ◌/◌, ◌<◌, ◌≤◌, ◌==◌, min, max, Bool, true, false, cond, nat_le, List, [], ◌∷◌, ◌++◌, length, map, Contains, refl, sym, ap, ◌∙◌, subst, arith, le_trans, inl, inr, ⊎_elim}
+use Rattle.std.proofs.Common.{◌≡◌, ℕ, zero, suc, ◌+◌, ◌*◌, ◌/◌, ◌≤◌, ◌==◌, min, Bool, true, false, cond, nat_le, List, [], ◌∷◌, ◌++◌, length, map, refl, sym, ap, ◌∙◌, subst, arith, le_trans, inl, inr}
 use Rattle.std.proofs.Math.Nat.{mul-zero, mul-le-mul_left}
 use Rattle.std.specs.Prelude.{if◌then◌else◌}
 use Rattle.std.proofs.lemmas.List.{length-map, length-append}
@@ -7,7 +7,7 @@ use Rattle.std.proofs.lemmas.List.Elements.{Contains-append_left, Contains-appen
 use Rattle.std.proofs.lemmas.Bool.Decides.{nat_tests}
 use Rattle.tetri_strl.specs.declared.expr.Leaf.{Leaf}
 use Rattle.tetri_strl.specs.Aligned.{EachLeaf, EachLeafOf}
-use Rattle.tetri_strl.specs.Thrifty.{IsBare, AtMostOne, MeetsOne, IsThrifty, AreThrifty}
+use Rattle.tetri_strl.specs.Thrifty.{IsBare, AtMostOne, IsThrifty, AreThrifty}
 use Rattle.tetri_strl.specs.Tree.{Operator, greatest, least, added, Tree, one, join, scale, barrier, Trees, none, more}
 use Rattle.tetri_strl.specs.Tree.{numbers, numbers_of}
 use Rattle.tetri_strl.specs.WellMade.{IsGoodLeaf}
@@ -15,9 +15,8 @@ use Rattle.tetri_strl.specs.Worth.{worth_at, joined, greatest_of, least_of, leas
 use Rattle.tetri_strl.proofs.WorthLemmas.{worth_at-none, worth_at_le, worth_by-le, EachLeaf-both}
 use Rattle.tetri_compile.specs.Marks.{mark, own_values, values, values_of}
 use Rattle.tetri_space.specs.Lists.{sum_of}
-use Rattle.tetri_compile.specs.declared.outline.Share.{Share}
-use Rattle.tetri_compile.specs.Forms.{share, Form, at_point, times, run, Limit, limit, IsMet, AreMet, Reads}
-use Rattle.tetri_compile.specs.Walk.{ones, best, own_uppers, uppers, uppers_of, width, form, forms, leaf_rows, rows, rows_of, rows_under}
+use Rattle.tetri_compile.specs.Forms.{share, at_point, run, limit, AreMet, Reads}
+use Rattle.tetri_compile.specs.Walk.{ones, best, own_uppers, uppers, uppers_of, width, form, forms, rows, rows_of, rows_under}
 use Rattle.tetri_compile.proofs.FormLemmas.{at_point-append, at_point-times, at_point-run, run-reads, Reads-split, AreMet-append}
 
 pub mark-le : (n : ℕ) → mark n ≤ 1
@@ -117,6 +116,7 @@ bar_row v w f y le e = by_test (nat_le v w) (λ t. le_from_test v w t) e
   where
     le_from_test : (m n : ℕ) → nat_le m n ≡ true → m ≤ n
     le_from_test m n t = grind (arith, nat_tests)
+
     by_test : (t : Bool) → (t ≡ true → v ≤ w) → y ≡ mark (cond t v 0) → (v * y + 0 ≤ f + 0) × (cond t v 0 ≤ v * y + 0)
     by_test true p e = (omega (arith, over_mark v v y e, p refl), itself_mark v y e)
     by_test false p e = (rw e (omega arith), omega arith)
@@ -198,16 +198,19 @@ module _ (inside : ℕ → List ℕ) (room : ℕ → ℕ → ℕ) (value : Leaf 
         AreMet x (limit (run 1 n (inside l.set)) (share i l.k ∷ []) ∷ cond linear [] (limit (share i l.k ∷ []) (run 1 n (inside l.set)) ∷ [])) ×
         (w ≤ at_point x (cond linear (run (l.v / l.k) n (inside l.set)) (share i l.v ∷ [])))
     gang_rows l i n w g true same k bare e few counted at =
-        let short : min l.k g ≡ g = omega arith in
-        ((omega (arith, under_mark w g l.k (x i) at bare few), tt),
-         omega (arith, at_point-run x (l.v / l.k) n (inside l.set), ap (λ m. l.v / l.k * m) counted, e ∙ ap (λ m. l.v / l.k * m) short))
-    gang_rows l i n w g false true k bare e few counted at =
-        ((omega (arith, under_mark w g l.k (x i) at bare few), (omega (arith, over_mark w l.k (x i) at, k refl), tt)),
-         subst (λ v. w ≤ v * x i + 0) e (itself_mark w (x i) at))
+        let short : min l.k g ≡ g = omega arith in (
+          (omega (arith, under_mark w g l.k (x i) at bare few), tt),
+          omega (arith, at_point-run x (l.v / l.k) n (inside l.set), ap (λ m. l.v / l.k * m) counted, e ∙ ap (λ m. l.v / l.k * m) short),
+        )
+    gang_rows l i n w g false true k bare e few counted at = (
+      (omega (arith, under_mark w g l.k (x i) at bare few), (omega (arith, over_mark w l.k (x i) at, k refl), tt)),
+      subst (λ v. w ≤ v * x i + 0) e (itself_mark w (x i) at),
+    )
     gang_rows l i n w g false false k bare e few counted at =
-        let zero_marked : x i ≡ 0 = at ∙ ap mark e in
-        ((omega (arith, under_mark w g l.k (x i) at bare few), (subst (λ y. l.k * y + 0 ≤ at_point x (run 1 n (inside l.set)) + 0) (sym zero_marked) (omega arith), tt)),
-         omega arith)
+        let zero_marked : x i ≡ 0 = at ∙ ap mark e in (
+          (omega (arith, under_mark w g l.k (x i) at bare few), (subst (λ y. l.k * y + 0 ≤ at_point x (run 1 n (inside l.set)) + 0) (sym zero_marked) (omega arith), tt)),
+          omega arith,
+        )
 
     mutual
       pub hold : (t : Tree) → EachLeaf IsRight t → IsThrifty value held t → (i n : ℕ) → x i ≡ mark (worth_by value t) → Reads x n (values inside value taken t) → Holds t i n
@@ -220,9 +223,10 @@ module _ (inside : ℕ → List ℕ) (room : ℕ → ℕ → ℕ) (value : Leaf 
           let ws = worths_by value ts in
           let row = under_mark (greatest_of ws) (sum_of mark ws) 1 (x i) at (λ e. marks_zero ws (bare_worths ts h (thrifty.0 e))) (marks_one ts h thrifty.1) in
           ((omega (arith, row, run-marks x value n ts parts.0), below.0), omega (arith, below.1, greatest_le_added ws))
-      hold (join least ts) h thrifty i n at reads =
-          (hold_under ts h thrifty.2 (least_of (worths_by value ts)) (least_below (worths_by value ts)) thrifty.0 i n (n + 1) at reads.0 reads.1,
-           least_form x n (least_of (worths_by value ts)) (best (join least ts)) (worth_le_best (join least ts) h) reads.0)
+      hold (join least ts) h thrifty i n at reads = (
+        hold_under ts h thrifty.2 (least_of (worths_by value ts)) (least_below (worths_by value ts)) thrifty.0 i n (n + 1) at reads.0 reads.1,
+        least_form x n (least_of (worths_by value ts)) (best (join least ts)) (worth_le_best (join least ts) h) reads.0,
+      )
       hold (join added ts) h thrifty i n at reads =
           let parts = Reads-split x n (length (ones ts)) (own_values inside value taken added ts) (values_of inside value taken ts) (length-own added ts) reads in
           let below = hold_of ts h thrifty.2 n (n + length (ones ts)) parts.0 parts.1 in
@@ -249,9 +253,10 @@ module _ (inside : ℕ → List ℕ) (room : ℕ → ℕ → ℕ) (value : Leaf 
       hold_of (more t ts) h thrifty j n marks reads =
           let parts = Reads-split x n (width inside room t) (values inside value taken t) (values_of inside value taken ts) (length-values t) reads in
           let here = hold t h.0 thrifty.0 j n marks.0 parts.0 in
-          let rest = hold_of ts h.1 thrifty.1 (j + 1) (n + width inside room t) marks.1 parts.1 in
-          (AreMet-append x _ _ here.0 rest.0,
-           omega (arith, here.1, rest.1, at_point-append x (form inside room t j n) (forms inside room ts (j + 1) (n + width inside room t))))
+          let rest = hold_of ts h.1 thrifty.1 (j + 1) (n + width inside room t) marks.1 parts.1 in (
+            AreMet-append x _ _ here.0 rest.0,
+            omega (arith, here.1, rest.1, at_point-append x (form inside room t j n) (forms inside room ts (j + 1) (n + width inside room t))),
+          )
 
       hold_under : (ts : Trees) → EachLeafOf IsRight ts → AreThrifty value held ts → (low : ℕ) → IsBelowEach low (worths_by value ts) →
           (low ≡ 0 → IsBare value held (numbers_of ts)) → (i c n : ℕ) → x i ≡ mark low → x c ≡ low → Reads x n (values_of inside value taken ts) →

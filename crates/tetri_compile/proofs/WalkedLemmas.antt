@@ -1,12 +1,11 @@
 -- What the walks of parts add, put together.
-use Rattle.std.proofs.Common.{◌≡◌, ℕ, ◌+◌, ◌==◌, ◌<◌, ◌^◌, List, [], ◌∷◌, ◌++◌, length, map, refl, sym, ap, ◌∙◌, subst, arith}
+use Rattle.std.proofs.Common.{◌≡◌, ℕ, ◌+◌, ◌==◌, ◌<◌, ◌^◌, List, [], ◌∷◌, ◌++◌, length, map, sym, ap, ◌∙◌, subst, arith}
 use Rattle.std.specs.Prelude.{if◌then◌else◌}
-use Rattle.std.proofs.lemmas.List.{append_assoc, append-nil, length-append}
+use Rattle.std.proofs.lemmas.List.{append_assoc, length-append}
 use Rattle.tetri_strl.specs.Tree.{Tree, Trees, join, least, added, more}
 use Rattle.tetri_space.specs.Space.{Bid, Space}
 use Rattle.tetri_compile.specs.declared.outline.Inequality.{Inequality}
 use Rattle.tetri_compile.specs.declared.outline.Outline.{Outline}
-use Rattle.tetri_compile.specs.declared.outline.Share.{Share}
 use Rattle.tetri_compile.specs.declared.outline.Tally.{Tally}
 use Rattle.tetri_compile.specs.Draft.{bid_rows, bid_tallies, bid_uppers, objective, tallies, tallies_of}
 use Rattle.tetri_compile.specs.Forms.{Form, Limit, limit, run, share, plain_limit}
@@ -17,7 +16,7 @@ use Rattle.tetri_compile.proofs.OutlineLemmas.{forms_next, uppers_next, rows_nex
 module _ (s : Space) (job : ℕ) (ts : Trees) (i b : ℕ) (old new : Outline) (f : Form) where
   pub under_walked : b ≡ best (join least ts) → f ≡ (if b == 0 then [] else (share (next_column old) 1 ∷ [])) →
       Grows old new (b ∷ uppers_of (inside s) (room s) ts) (rows_under (inside s) (room s) ts i (next_column old) (next_column old + 1))
-        (tallies_of (inside s) (room s) job ts (next_column old + 1)) →
+      (tallies_of (inside s) (room s) job ts (next_column old + 1)) →
       IsWalked s job (join least ts) i old new f
   under_walked e is g = record {
     form = is ∙ ap (λ (k : ℕ). if k == 0 then [] else (share (next_column old) 1 ∷ [])) e;
@@ -27,8 +26,8 @@ module _ (s : Space) (job : ℕ) (ts : Trees) (i b : ℕ) (old new : Outline) (f
 
   pub sum_walked : b ≡ length (ones ts) → f ≡ forms (inside s) (room s) ts (next_column old) (next_column old + length (ones ts)) →
       Grows old new (ones ts ++ uppers_of (inside s) (room s) ts)
-        (limit (run 1 (next_column old) (ones ts)) (share i b ∷ []) ∷ rows_of (inside s) (room s) ts (next_column old) (next_column old + length (ones ts)))
-        (tallies_of (inside s) (room s) job ts (next_column old + length (ones ts))) →
+      (limit (run 1 (next_column old) (ones ts)) (share i b ∷ []) ∷ rows_of (inside s) (room s) ts (next_column old) (next_column old + length (ones ts)))
+      (tallies_of (inside s) (room s) job ts (next_column old + length (ones ts))) →
       IsWalked s job (join added ts) i old new f
   sum_walked e is g = record {
     form = is;
@@ -40,8 +39,8 @@ module _ (s : Space) (job : ℕ) (ts : Trees) (i b : ℕ) (old new : Outline) (f
 pub marked_grows : (s : Space) (job : ℕ) (ts : Trees) (i b first : ℕ) (old mid new : Outline) (f : Form) → first ≡ next_column old →
     Grows old mid (ones ts) (limit (run 1 (next_column old) (ones ts)) (share i b ∷ []) ∷ []) [] → AreWalked s job ts first mid new f →
     Grows old new (ones ts ++ uppers_of (inside s) (room s) ts)
-      (limit (run 1 (next_column old) (ones ts)) (share i b ∷ []) ∷ rows_of (inside s) (room s) ts (next_column old) (next_column old + length (ones ts)))
-      (tallies_of (inside s) (room s) job ts (next_column old + length (ones ts)))
+    (limit (run 1 (next_column old) (ones ts)) (share i b ∷ []) ∷ rows_of (inside s) (room s) ts (next_column old) (next_column old + length (ones ts)))
+    (tallies_of (inside s) (room s) job ts (next_column old + length (ones ts)))
 marked_grows s job ts i b first old mid new f e ahead walked =
     let top = limit (run 1 (next_column old) (ones ts)) (share i b ∷ []) in
     let long : next_column mid ≡ next_column old + length (ones ts) = grows_length old mid (ones ts) (top ∷ []) [] ahead in
@@ -72,16 +71,17 @@ place_next s job t rest here all first k start old new before after f cut walked
     let step : first + (k + 1) ≡ (first + k) + 1 = omega arith in
     let wide = length-append (uppers ins rm t) (uppers_of ins rm rest) in
     let size : width_of ins rm here ≡ width_of ins rm (more t rest) = ap (width_of ins rm) cut in
-    let next : next_column new ≡ next_column old + width ins rm t = next_is ins rm job (first + k) t rest old new f walked.form walked.grows in
-    (omega (arith, fits, wide, size, next),
-     ap (λ (j : ℕ). after ++ forms ins rm rest j (next_column new)) step
-       ∙ forms_next ins rm job (first + k) t rest old new f walked.form walked.grows before after put
-       ∙ ap (λ (us : Trees). before ++ forms ins rm us (first + k) (next_column old)) (sym cut) ∙ h_form,
-     uppers_next ins rm job (first + k) t rest old new f walked.form walked.grows ∙ ap (λ (us : Trees). old.uppers.items ++ uppers_of ins rm us) (sym cut) ∙ h_uppers,
-     ap (λ (j : ℕ). map plain_limit new.rows.items ++ rows_of ins rm rest j (next_column new)) step
-       ∙ rows_next ins rm job (first + k) t rest old new f walked.form walked.grows
-       ∙ ap (λ (us : Trees). map plain_limit old.rows.items ++ rows_of ins rm us (first + k) (next_column old)) (sym cut) ∙ h_rows,
-     tallies_next ins rm job (first + k) t rest old new f walked.form walked.grows ∙ ap (λ (us : Trees). old.tallies.items ++ tallies_of ins rm job us (next_column old)) (sym cut) ∙ h_tallies)
+    let next : next_column new ≡ next_column old + width ins rm t = next_is ins rm job (first + k) t rest old new f walked.form walked.grows in (
+      omega (arith, fits, wide, size, next),
+      ap (λ (j : ℕ). after ++ forms ins rm rest j (next_column new)) step
+          ∙ forms_next ins rm job (first + k) t rest old new f walked.form walked.grows before after put
+          ∙ ap (λ (us : Trees). before ++ forms ins rm us (first + k) (next_column old)) (sym cut) ∙ h_form,
+      uppers_next ins rm job (first + k) t rest old new f walked.form walked.grows ∙ ap (λ (us : Trees). old.uppers.items ++ uppers_of ins rm us) (sym cut) ∙ h_uppers,
+      ap (λ (j : ℕ). map plain_limit new.rows.items ++ rows_of ins rm rest j (next_column new)) step
+          ∙ rows_next ins rm job (first + k) t rest old new f walked.form walked.grows
+          ∙ ap (λ (us : Trees). map plain_limit old.rows.items ++ rows_of ins rm us (first + k) (next_column old)) (sym cut) ∙ h_rows,
+      tallies_next ins rm job (first + k) t rest old new f walked.form walked.grows ∙ ap (λ (us : Trees). old.tallies.items ++ tallies_of ins rm job us (next_column old)) (sym cut) ∙ h_tallies,
+    )
 
 -- one more bid, where the bids from a place on were still to be walked
 pub bid_next : (s : Space) (b : Bid) (rest here all : List Bid) (i : ℕ) (start old mid new : Outline) (before after f : Form) →
@@ -108,23 +108,24 @@ bid_next s b rest here all i start old mid new before after f cut is_i put same_
     let wide = length-append us (bid_uppers ins rm rest) in
     let size : length (bid_uppers ins rm here) ≡ length (bid_uppers ins rm (b ∷ rest)) = ap (λ (bs : List Bid). length (bid_uppers ins rm bs)) cut in
     let form_is : f ≡ form ins rm b.expr n (n + 1) = walked.form ∙ ap (λ (j : ℕ). form ins rm b.expr j (next_column mid)) is_i ∙ ap (λ (m : ℕ). form ins rm b.expr n m) mid_is in
-    let rows_are : rows ins rm b.expr i (next_column mid) ≡ rows ins rm b.expr n (n + 1) = ap (λ (j : ℕ). rows ins rm b.expr j (next_column mid)) is_i ∙ ap (λ (m : ℕ). rows ins rm b.expr n m) mid_is in
-    (omega (arith, fits, wide, size, next),
-     ap (λ (g : Form). g ++ objective ins rm rest (next_column new)) (ext ∙ ap (λ (g : Form). before ++ g) form_is)
-       ∙ append_assoc before (form ins rm b.expr n (n + 1)) (objective ins rm rest (next_column new))
-       ∙ ap (λ (m : ℕ). before ++ (form ins rm b.expr n (n + 1) ++ objective ins rm rest m)) next
-       ∙ ap (λ (bs : List Bid). before ++ objective ins rm bs n) (sym cut) ∙ h_form,
-     ap (λ (vs : List ℕ). vs ++ bid_uppers ins rm rest) (walked.grows.uppers ∙ ap (λ (vs : List ℕ). vs ++ us) put)
-       ∙ append_assoc (old.uppers.items ++ 1 ∷ []) us (bid_uppers ins rm rest)
-       ∙ append_assoc old.uppers.items (1 ∷ []) (us ++ bid_uppers ins rm rest)
-       ∙ ap (λ (bs : List Bid). old.uppers.items ++ bid_uppers ins rm bs) (sym cut) ∙ h_uppers,
-     ap (λ (rs : List Limit). rs ++ bid_rows ins rm rest (next_column new))
-         (walked.grows.rows ∙ ap (λ (qs : List Inequality). map plain_limit qs ++ rows ins rm b.expr i (next_column mid)) same_rows ∙ ap (λ (rs : List Limit). map plain_limit old.rows.items ++ rs) rows_are)
-       ∙ append_assoc (map plain_limit old.rows.items) (rows ins rm b.expr n (n + 1)) (bid_rows ins rm rest (next_column new))
-       ∙ ap (λ (m : ℕ). map plain_limit old.rows.items ++ (rows ins rm b.expr n (n + 1) ++ bid_rows ins rm rest m)) next
-       ∙ ap (λ (bs : List Bid). map plain_limit old.rows.items ++ bid_rows ins rm bs n) (sym cut) ∙ h_rows,
-     ap (λ (cs : List Tally). cs ++ bid_tallies ins rm rest (next_column new))
-         (walked.grows.tallies ∙ ap (λ (cs : List Tally). cs ++ tallies ins rm b.job b.expr (next_column mid)) same_tallies ∙ ap (λ (m : ℕ). old.tallies.items ++ tallies ins rm b.job b.expr m) mid_is)
-       ∙ append_assoc old.tallies.items (tallies ins rm b.job b.expr (n + 1)) (bid_tallies ins rm rest (next_column new))
-       ∙ ap (λ (m : ℕ). old.tallies.items ++ (tallies ins rm b.job b.expr (n + 1) ++ bid_tallies ins rm rest m)) next
-       ∙ ap (λ (bs : List Bid). old.tallies.items ++ bid_tallies ins rm bs n) (sym cut) ∙ h_tallies)
+    let rows_are : rows ins rm b.expr i (next_column mid) ≡ rows ins rm b.expr n (n + 1) = ap (λ (j : ℕ). rows ins rm b.expr j (next_column mid)) is_i ∙ ap (λ (m : ℕ). rows ins rm b.expr n m) mid_is in (
+      omega (arith, fits, wide, size, next),
+      ap (λ (g : Form). g ++ objective ins rm rest (next_column new)) (ext ∙ ap (λ (g : Form). before ++ g) form_is)
+          ∙ append_assoc before (form ins rm b.expr n (n + 1)) (objective ins rm rest (next_column new))
+          ∙ ap (λ (m : ℕ). before ++ (form ins rm b.expr n (n + 1) ++ objective ins rm rest m)) next
+          ∙ ap (λ (bs : List Bid). before ++ objective ins rm bs n) (sym cut) ∙ h_form,
+      ap (λ (vs : List ℕ). vs ++ bid_uppers ins rm rest) (walked.grows.uppers ∙ ap (λ (vs : List ℕ). vs ++ us) put)
+          ∙ append_assoc (old.uppers.items ++ 1 ∷ []) us (bid_uppers ins rm rest)
+          ∙ append_assoc old.uppers.items (1 ∷ []) (us ++ bid_uppers ins rm rest)
+          ∙ ap (λ (bs : List Bid). old.uppers.items ++ bid_uppers ins rm bs) (sym cut) ∙ h_uppers,
+      ap (λ (rs : List Limit). rs ++ bid_rows ins rm rest (next_column new))
+          (walked.grows.rows ∙ ap (λ (qs : List Inequality). map plain_limit qs ++ rows ins rm b.expr i (next_column mid)) same_rows ∙ ap (λ (rs : List Limit). map plain_limit old.rows.items ++ rs) rows_are)
+          ∙ append_assoc (map plain_limit old.rows.items) (rows ins rm b.expr n (n + 1)) (bid_rows ins rm rest (next_column new))
+          ∙ ap (λ (m : ℕ). map plain_limit old.rows.items ++ (rows ins rm b.expr n (n + 1) ++ bid_rows ins rm rest m)) next
+          ∙ ap (λ (bs : List Bid). map plain_limit old.rows.items ++ bid_rows ins rm bs n) (sym cut) ∙ h_rows,
+      ap (λ (cs : List Tally). cs ++ bid_tallies ins rm rest (next_column new))
+          (walked.grows.tallies ∙ ap (λ (cs : List Tally). cs ++ tallies ins rm b.job b.expr (next_column mid)) same_tallies ∙ ap (λ (m : ℕ). old.tallies.items ++ tallies ins rm b.job b.expr m) mid_is)
+          ∙ append_assoc old.tallies.items (tallies ins rm b.job b.expr (n + 1)) (bid_tallies ins rm rest (next_column new))
+          ∙ ap (λ (m : ℕ). old.tallies.items ++ (tallies ins rm b.job b.expr (n + 1) ++ bid_tallies ins rm rest m)) next
+          ∙ ap (λ (bs : List Bid). old.tallies.items ++ bid_tallies ins rm bs n) (sym cut) ∙ h_tallies,
+    )

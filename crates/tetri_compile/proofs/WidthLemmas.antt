@@ -1,27 +1,27 @@
 -- How many columns and rows the walks of live bids have, and that they are few.
-use Rattle.std.proofs.Common.{◌≡◌, ℕ, zero, suc, ◌+◌, ◌*◌, ◌^◌, ◌<◌, ◌≤◌, ◌==◌, ◌&&◌, ◌||◌, max, Bool, true, false, cond, List, [], ◌∷◌, ◌++◌, length, get_or, map, All, Contains, refl, sym, ap, ◌∙◌, subst, arith, le_trans, inl, inr, ⊎_elim}
+use Rattle.std.proofs.Common.{◌≡◌, ℕ, suc, ◌+◌, ◌*◌, ◌^◌, ◌<◌, ◌≤◌, ◌==◌, ◌&&◌, ◌||◌, Bool, true, false, cond, List, [], ◌∷◌, ◌++◌, length, get_or, All, Contains, refl, sym, ap, ◌∙◌, subst, arith, le_trans, ⊎_elim}
 use Rattle.std.specs.Prelude.{nat_le, nat_lt}
 use Rattle.std.specs.List.{list_any, list_all, filter, range_with_len}
 use Rattle.std.proofs.Math.Nat.{mul-le-mul_left}
 use Rattle.std.proofs.lemmas.Bool.{and_parts}
 use Rattle.std.proofs.lemmas.Bool.Decides.{nat_tests}
 use Rattle.std.proofs.lemmas.List.{length-append, length-map, get_or_default}
-use Rattle.std.proofs.lemmas.List.Elements.{All-contains, Contains-append_left, Contains-append_right, Contains-append_cases}
+use Rattle.std.proofs.lemmas.List.Elements.{All-contains, Contains-append_cases}
 use Rattle.std.proofs.lemmas.List.Folds.{list_any-append}
 use Rattle.std.proofs.lemmas.List.FromFn.{length-range_with_len}
 use Rattle.tetri_strl.specs.declared.expr.Leaf.{Leaf}
 use Rattle.tetri_strl.specs.Aligned.{EachLeaf, EachLeafOf}
-use Rattle.tetri_strl.specs.Tree.{Operator, greatest, least, added, Tree, one, join, scale, barrier, Trees, none, more, leaves, leaves_of}
+use Rattle.tetri_strl.specs.Tree.{greatest, least, added, Tree, one, join, scale, barrier, Trees, none, more, leaves, leaves_of}
 use Rattle.tetri_strl.specs.Prune.{starts_in}
 use Rattle.tetri_strl.specs.WellMade.{IsSound, AreSound, IsGoodLeaf, HasChild, depth, depth_of, peak}
 use Rattle.tetri_strl.proofs.PartsApart.{the_one}
 use Rattle.tetri_strl.proofs.WorthLemmas.{EachLeaf-from, each_good}
 use Rattle.tetri_space.specs.Lists.{bit, count, has, sum_of, Each}
-use Rattle.tetri_space.specs.Partitions.{Parts, ArePartitionsOf, parts_found, parts_in, partitions, live_bids, sets_in, part_at, set_at, available, asked, alike, leads}
-use Rattle.tetri_space.specs.Sound.{IsSound as IsSoundSpace, IsSoundBid, HasKnownSet}
+use Rattle.tetri_space.specs.Partitions.{Parts, ArePartitionsOf, parts_found, parts_in, partitions, live_bids, part_at, set_at, available, asked, alike, leads}
+use Rattle.tetri_space.specs.Sound.{IsSound as IsSoundSpace, IsSoundBid}
 use Rattle.tetri_space.specs.Space.{Bid, Space, IsLive}
-use Rattle.tetri_space.proofs.ListLemmas.{Each-get, Each-at, Each-from, Each-all, Each-filter, Each-map, sum_of-append, sum_of-eq, sum_of-le, sum_of-swap, range_from}
-use Rattle.tetri_space.proofs.PartsLemmas.{live_within, filter_shorter}
+use Rattle.tetri_space.proofs.ListLemmas.{Each-get, Each-at, Each-from, Each-all, Each-filter, sum_of-eq, sum_of-swap, range_from}
+use Rattle.tetri_space.proofs.PartsLemmas.{filter_shorter}
 use Rattle.tetri_space.proofs.PrunedLemmas.{AreFrom, left_leaves, OfLeft, IsLess, IsLeftOf, IsSmaller, each_left_of, left_smaller, left_sound, sets_in_has, bids_left-shorter}
 use Rattle.tetri_compile.specs.declared.outline.Tally.{Tally}
 use Rattle.tetri_compile.specs.Draft.{leaf_tallies, is_held, supply_row, tallies, tallies_of, bid_uppers, bid_rows, bid_tallies, part_supply, supply}
@@ -29,8 +29,7 @@ use Rattle.tetri_compile.specs.Flat.{column_count, row_count}
 use Rattle.tetri_compile.specs.Forms.{Limit, limit, share, run}
 use Rattle.tetri_compile.specs.Sizes.{width_by, widths_by, widths_marked, row_total, row_totals, row_totals_under, covers, leaves_in, is_used, IsUsable, HasUsableParts}
 use Rattle.tetri_compile.specs.Walked.{IsReady}
-use Rattle.tetri_compile.specs.Walk.{ones, own_uppers, uppers, uppers_of, width, form, rows, rows_of, rows_under, leaf_rows}
-use Rattle.tetri_compile.proofs.SizeLemmas.{any_test}
+use Rattle.tetri_compile.specs.Walk.{ones, own_uppers, uppers, uppers_of, width, form, rows, rows_of, rows_under}
 
 -- ---- the columns of a walk
 module _ (many : ℕ → ℕ) (inside : ℕ → List ℕ) (room : ℕ → ℕ → ℕ) where
@@ -158,8 +157,8 @@ module _ (inside : ℕ → List ℕ) (room : ℕ → ℕ → ℕ) where
       supply_are (bid_tallies inside room bs n) ts ps
       ∙ sum_of-swap (λ p t. bit (list_any (is_held p t) (bid_tallies inside room bs n))) ps ts
       ∙ sum_of-eq (λ t. sum_of (λ p. bit (list_any (is_held p t) (bid_tallies inside room bs n))) ps) (λ t. count (λ p. is_used inside (leaves_in bs) p t) ps) ts
-        (Each-all _ (λ t. sum_of-eq (λ p. bit (list_any (is_held p t) (bid_tallies inside room bs n))) (λ p. bit (is_used inside (leaves_in bs) p t)) ps
-          (Each-all _ (λ p. ap bit (bids_held p t bs n)) ps)) ts)
+      (Each-all _ (λ t. sum_of-eq (λ p. bit (list_any (is_held p t) (bid_tallies inside room bs n))) (λ p. bit (is_used inside (leaves_in bs) p t)) ps
+      (Each-all _ (λ p. ap bit (bids_held p t bs n)) ps)) ts)
 
 -- ---- bounds
 mutual
@@ -201,15 +200,15 @@ module _ (many : ℕ → ℕ) where
     widths_few (more t ts) s h m le =
         subst (λ n. width_by many t + widths_by many ts ≤ n * (4096 + m)) (sym (length-append (leaves t) (leaves_of ts)))
         (both_within (length (leaves t)) (length (leaves_of ts)) (depth t) (depth_of ts) m (width_by many t) (widths_by many ts) 4096 (omega (arith, le)) (omega (arith, le))
-          (width_few t s.0 h.0) (widths_few ts s.1 h.1 m (omega (arith, le))))
+        (width_few t s.0 h.0) (widths_few ts s.1 h.1 m (omega (arith, le))))
 
     marked_few : (ts : Trees) → AreSound ts → EachLeafOf IsFew ts → (m : ℕ) → depth_of ts ≤ m → widths_marked many ts ≤ length (leaves_of ts) * (4096 + (m + 1))
     marked_few none s h m le = omega arith
     marked_few (more t ts) s h m le =
         subst (λ n. 1 + width_by many t + widths_marked many ts ≤ n * (4096 + (m + 1))) (sym (length-append (leaves t) (leaves_of ts)))
         (both_within (length (leaves t)) (length (leaves_of ts)) (m + 1) (m + 1) (m + 1) (1 + width_by many t) (widths_marked many ts) 4096 (omega arith) (omega arith)
-          (one_more (length (leaves t)) 4096 m (width_by many t) (some_leaf t s.0) (wider (length (leaves t)) 4096 (depth t) m (width_by many t) (omega (arith, le)) (width_few t s.0 h.0)))
-          (marked_few ts s.1 h.1 m (omega (arith, le))))
+        (one_more (length (leaves t)) 4096 m (width_by many t) (some_leaf t s.0) (wider (length (leaves t)) 4096 (depth t) m (width_by many t) (omega (arith, le)) (width_few t s.0 h.0)))
+        (marked_few ts s.1 h.1 m (omega (arith, le))))
 
 mutual
   rows_few : (t : Tree) → IsSound t → row_total t ≤ length (leaves t) * (1 + depth t)
@@ -229,15 +228,15 @@ mutual
   rows_few_of (more t ts) s m le =
       subst (λ n. row_total t + row_totals ts ≤ n * (1 + m)) (sym (length-append (leaves t) (leaves_of ts)))
       (both_within (length (leaves t)) (length (leaves_of ts)) (depth t) (depth_of ts) m (row_total t) (row_totals ts) 1 (omega (arith, le)) (omega (arith, le))
-        (rows_few t s.0) (rows_few_of ts s.1 m (omega (arith, le))))
+      (rows_few t s.0) (rows_few_of ts s.1 m (omega (arith, le))))
 
   under_few : (ts : Trees) → AreSound ts → (m : ℕ) → depth_of ts ≤ m → row_totals_under ts ≤ length (leaves_of ts) * (1 + (m + 1))
   under_few none s m le = omega arith
   under_few (more t ts) s m le =
       subst (λ n. 1 + row_total t + row_totals_under ts ≤ n * (1 + (m + 1))) (sym (length-append (leaves t) (leaves_of ts)))
       (both_within (length (leaves t)) (length (leaves_of ts)) (m + 1) (m + 1) (m + 1) (1 + row_total t) (row_totals_under ts) 1 (omega arith) (omega arith)
-        (one_more (length (leaves t)) 1 m (row_total t) (some_leaf t s.0) (wider (length (leaves t)) 1 (depth t) m (row_total t) (omega (arith, le)) (rows_few t s.0)))
-        (under_few ts s.1 m (omega (arith, le))))
+      (one_more (length (leaves t)) 1 m (row_total t) (some_leaf t s.0) (wider (length (leaves t)) 1 (depth t) m (row_total t) (omega (arith, le)) (rows_few t s.0)))
+      (under_few ts s.1 m (omega (arith, le))))
 
 -- ---- of an instance
 module _ (P : Leaf → Type 0) where
@@ -293,8 +292,13 @@ module _ (s : Space) (sound : IsSoundSpace s) (p : Parts) (are : ArePartitionsOf
 
   inside_few : (k : ℕ) → length (inside k) ≤ 4096
   inside_few k =
-      omega (arith, filter_shorter (λ q. list_all (has (set_at s k)) (part_at (partitions s) q)) (range_with_len 0 (length (partitions s))),
-        length-range_with_len 0 (length (partitions s)), partitions_few s, sound.few_nodes)
+      omega (
+        arith,
+        filter_shorter (λ q. list_all (has (set_at s k)) (part_at (partitions s) q)) (range_with_len 0 (length (partitions s))),
+        length-range_with_len 0 (length (partitions s)),
+        partitions_few s,
+        sound.few_nodes,
+      )
 
   each_bid : (P : Leaf → Type 0) → ((b : Bid) (l : Leaf) → Contains (live_bids s) b → Contains (leaves b.expr) l → P l) → Each (λ b. EachLeaf P b.expr) (live_bids s)
   each_bid P f = Each-from (λ b. EachLeaf P b.expr) (live_bids s) (λ b at. EachLeaf-from P b.expr (λ l below. f b l at below))
@@ -313,6 +317,7 @@ module _ (s : Space) (sound : IsSoundSpace s) (p : Parts) (are : ArePartitionsOf
       within : (k : ℕ) → All (λ q. q < 4096) (inside k)
       within k j d lt = Each-get (λ q. q < 4096) (inside k) j d (Each-filter (λ q. q < 4096) (λ q. list_all (has (set_at s k)) (part_at (partitions s) q)) (range_with_len 0 (length (partitions s)))
           (range_from (λ q. q < 4096) 0 (length (partitions s)) (λ q low high. omega (arith, high, partitions_few s, sound.few_nodes)))) lt
+
       good_leaf : (b : Bid) (l : Leaf) → Contains (live_bids s) b → Contains (leaves b.expr) l → IsGoodLeaf l
       good_leaf b l at below = from_left (Each-at (IsLeftOf s.now (s.now + s.window) s.bids) (live_bids s) b (each_left_of s.now (s.now + s.window) s.bids) at)
         where
@@ -343,12 +348,12 @@ module _ (s : Space) (sound : IsSoundSpace s) (p : Parts) (are : ArePartitionsOf
       let ps = range_with_len 0 (length (partitions s)) in
       let supplied = supply_rows_are inside room (live_bids s) 0 slots ps in
       let moved : sum_of (λ t. count (λ q. is_used inside (leaves_in (live_bids s)) q t) ps) slots
-          ≡ sum_of (λ t. count (λ q. is_used (parts_found p) (leaves_in p.bids) q t) (range_with_len 0 (length p.groups))) slots =
-          sum_of-eq (λ t. count (λ q. is_used inside (leaves_in (live_bids s)) q t) ps) (λ t. count (λ q. is_used (parts_found p) (leaves_in (live_bids s)) q t) ps) slots
-            (Each-all _ (λ t. sum_of-eq (λ q. bit (is_used inside (leaves_in (live_bids s)) q t)) (λ q. bit (is_used (parts_found p) (leaves_in (live_bids s)) q t)) ps
-              (Each-all _ (λ q. ap bit (sym (same_used (leaves_in (live_bids s)) q t (all_leaves (λ l. parts_found p l.set ≡ inside l.set) (live_bids s) (λ b l at below. (found b l at below).1))))) ps)) slots)
-          ∙ ap (λ bs. sum_of (λ t. count (λ q. is_used (parts_found p) (leaves_in bs) q t) ps) slots) (sym are.bids)
-          ∙ ap (λ n. sum_of (λ t. count (λ q. is_used (parts_found p) (leaves_in p.bids) q t) (range_with_len 0 n)) slots) (sym (ap length are.groups)) in
+      ≡ sum_of (λ t. count (λ q. is_used (parts_found p) (leaves_in p.bids) q t) (range_with_len 0 (length p.groups))) slots =
+      sum_of-eq (λ t. count (λ q. is_used inside (leaves_in (live_bids s)) q t) ps) (λ t. count (λ q. is_used (parts_found p) (leaves_in (live_bids s)) q t) ps) slots
+      (Each-all _ (λ t. sum_of-eq (λ q. bit (is_used inside (leaves_in (live_bids s)) q t)) (λ q. bit (is_used (parts_found p) (leaves_in (live_bids s)) q t)) ps
+      (Each-all _ (λ q. ap bit (sym (same_used (leaves_in (live_bids s)) q t (all_leaves (λ l. parts_found p l.set ≡ inside l.set) (live_bids s) (λ b l at below. (found b l at below).1))))) ps)) slots)
+      ∙ ap (λ bs. sum_of (λ t. count (λ q. is_used (parts_found p) (leaves_in bs) q t) ps) slots) (sym are.bids)
+      ∙ ap (λ n. sum_of (λ t. count (λ q. is_used (parts_found p) (leaves_in p.bids) q t) (range_with_len 0 n)) slots) (sym (ap length are.groups)) in
       length-append (bid_rows inside room (live_bids s) 0) (supply inside room (bid_tallies inside room (live_bids s) 0) slots ps)
       ∙ omega (arith, bid_rows_are inside room (live_bids s) 0, supplied, moved, ap (sum_of (λ b. row_total b.expr)) (sym are.bids))
 
@@ -363,9 +368,10 @@ module _ (s : Space) (sound : IsSoundSpace s) (p : Parts) (are : ArePartitionsOf
           let less = subst (OfLeft (IsSmaller h.whole.expr)) h.left (left_smaller s.now (s.now + s.window) h.whole.expr) in
           let few_leaves : length (leaves b.expr) ≤ 128 = omega (arith, less.leaves_le, whole.well_made.few_leaves) in
           let shallow : depth b.expr ≤ 64 = omega (arith, less.depth_le, whole.well_made.shallow) in
-          let few : EachLeaf (IsFew many) b.expr = EachLeaf-from (IsFew many) b.expr (λ l below. subst (λ ps. length ps ≤ 4096) (sym (found b l at below).1) (inside_few l.set)) in
-          (le_trans (width_few many b.expr left.0 few) (small_product (length (leaves b.expr)) (depth b.expr) few_leaves shallow),
-           le_trans (rows_few b.expr left.0) (few_product (length (leaves b.expr)) (depth b.expr) few_leaves shallow))
+          let few : EachLeaf (IsFew many) b.expr = EachLeaf-from (IsFew many) b.expr (λ l below. subst (λ ps. length ps ≤ 4096) (sym (found b l at below).1) (inside_few l.set)) in (
+            le_trans (width_few many b.expr left.0 few) (small_product (length (leaves b.expr)) (depth b.expr) few_leaves shallow),
+            le_trans (rows_few b.expr left.0) (few_product (length (leaves b.expr)) (depth b.expr) few_leaves shallow),
+          )
 
   few_live : length (live_bids s) ≤ 100000
   few_live = omega (arith, bids_left-shorter s.now (s.now + s.window) s.bids, sound.few_jobs)
@@ -390,8 +396,10 @@ module _ (s : Space) (sound : IsSoundSpace s) (p : Parts) (are : ArePartitionsOf
         where
           low : (m n : ℕ) → nat_le m n ≡ true → m ≤ n
           low m n e = grind (arith, nat_tests)
+
           high : (m n : ℕ) → nat_lt m n ≡ true → m < n
           high m n e = grind (arith, nat_tests)
+
       from_left : (b : Bid) → Contains (live_bids s) b → IsLeftOf s.now (s.now + s.window) s.bids b → IsSound b.expr × EachLeaf (IsReady s p) b.expr
       from_left b at h =
           let whole = All-contains (IsSoundBid s) s.bids h.whole sound.sound_bids h.among in

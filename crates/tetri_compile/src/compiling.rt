@@ -77,11 +77,7 @@ fn walk_bids(
 /// The program of an instance, and its columns that count nodes. Every lawful allotment has a point of
 /// the program at which the program earns no less than the allotment's total. The program is fit, its
 /// lower bounds are 0, and its columns can earn at most 2^64 - 1 together.
-pub fn compile(
-    alloc: Global,
-    inst: &Instance,
-    parts: &Partitions,
-) -> Result<Compiled, AllocError>
+pub fn compile(alloc: Global, inst: &Instance, parts: &Partitions) -> Result<Compiled, AllocError>
     requires sound { IsSoundSpace (space inst.now) }
     requires partitions { ArePartitionsOf (space inst.now) (parts_of parts.now) }
     requires columns { column_count (space inst.now) ≤ 2000 }

@@ -116,7 +116,11 @@ pub fn flatten(alloc: Global, form: &[Share], out: &Outline) -> Result<Program, 
     requires form { IsSmallForm (length out.now.uppers.items) form.now }
     requires rows { Each (IsSmallLimit (length out.now.uppers.items)) (map plain_limit out.now.rows.items) }
     ensures { IfOk result (λ p. plain p ≡ flat (record {
-        uppers = out.now.uppers.items; objective = form.now; rows = map plain_limit out.now.rows.items; tallies = out.now.tallies.items })) }
+      uppers = out.now.uppers.items;
+      objective = form.now;
+      rows = map plain_limit out.now.rows.items;
+      tallies = out.now.tallies.items;
+    })) }
 {
     let count = out.uppers.len();
     Ok(Program {

@@ -84,7 +84,7 @@ fn add_part(
     requires there { part < length (parts_of parts.now).groups }
     ensures { OnOk result ((cs : List TallyRow) → tallies.now ≡ filter (λ c. c.part == part) cs →
         Grows out.old out.new [] (part_supply (inside (space inst.entry.now)) (room (space inst.entry.now)) cs part
-            (range_with_len inst.entry.now.now inst.entry.now.window)) []) }
+        (range_with_len inst.entry.now.now inst.entry.now.window)) []) }
 {
     for slot in inst.now..inst.now + inst.window {
         add_slot(alloc, inst, parts, part, slot, tallies, out)?;
@@ -104,7 +104,7 @@ pub fn add_supply(
     requires partitions { ArePartitionsOf (space inst.now) (parts_of parts.now) }
     ensures { OnOk result (Grows out.old out.new []
         (supply (inside (space inst.entry.now)) (room (space inst.entry.now)) out.old.tallies.items
-            (range_with_len inst.entry.now.now inst.entry.now.window) (range_with_len 0 (length (partitions (space inst.entry.now))))) []) }
+        (range_with_len inst.entry.now.now inst.entry.now.window) (range_with_len 0 (length (partitions (space inst.entry.now))))) []) }
 {
     for part in 0..parts.count() {
         let mine = of_part(alloc, part, &out.tallies)?;

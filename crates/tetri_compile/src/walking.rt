@@ -157,7 +157,7 @@ fn walk_marked(
     ensures grows { OnOk result (Grows out.old out.new
         (ones (trees kids.now) ++ uppers_of (inside (space inst.entry.now)) (room (space inst.entry.now)) (trees kids.now))
         (limit (run 1 (next_column out.old) (ones (trees kids.now))) (share indicator most ∷ [])
-          ∷ rows_of (inside (space inst.entry.now)) (room (space inst.entry.now)) (trees kids.now) (next_column out.old) (next_column out.old + length (ones (trees kids.now))))
+        ∷ rows_of (inside (space inst.entry.now)) (room (space inst.entry.now)) (trees kids.now) (next_column out.old) (next_column out.old + length (ones (trees kids.now))))
         (tallies_of (inside (space inst.entry.now)) (room (space inst.entry.now)) job (trees kids.now) (next_column out.old + length (ones (trees kids.now))))) }
 {
     let first = out.uppers.len() as u32;
@@ -192,7 +192,15 @@ fn walk_each(
 {
     let mut form = Vec::new(alloc);
     for place in 0..kids.len() {
-        let part = walk(alloc, inst, parts, job, &kids[place], first + place as u32, out)?;
+        let part = walk(
+            alloc,
+            inst,
+            parts,
+            job,
+            &kids[place],
+            first + place as u32,
+            out,
+        )?;
         form.extend_from_slice(&part)?;
     }
     Ok(form)

@@ -1,4 +1,4 @@
-use Rattle.std.proofs.Common.{◌≡◌, ◌+◌, ◌<◌, ◌^◌, ◌++◌, ◌∷◌, [], ℕ, List, length, drop, map, refl, sym, ap, ◌∙◌, subst, arith}
+use Rattle.std.proofs.Common.{◌≡◌, ◌+◌, ◌++◌, ◌∷◌, [], ℕ, List, length, drop, map, refl, ap, ◌∙◌, subst, arith}
 use Rattle.std.proofs.lemmas.List.{length-append}
 use Rattle.tetri_strl.specs.Aligned.{EachLeaf}
 use Rattle.tetri_strl.specs.Tree.{tree}
@@ -52,8 +52,8 @@ loop-offer-preserved c =
     let at : c.len-indicator.result ≡ next_column c.loop-offer.out = omega (arith, c.len-indicator.ensures, c.loop-offer.out.uppers.ok.0) in
     let said : IsWalked s o.job (tree o.expr) c.len-indicator.result mid c.walk.new.out c.in_ok-part.part.items = c.in_ok-part.ensures in
     let next = bid_next s (bid o) (drop (i + 1) (map bid os)) (drop i (map bid os)) (map bid os) c.len-indicator.result c.args.out.now c.loop-offer.out mid c.walk.new.out c.loop-offer.form.items c.extend_from_slice.new.self.items c.in_ok-part.part.items
-        cut at c.in_ok-push.ensures.items refl refl said
-        (c.in_ok-extend_from_slice.ensures.items ∙ ap (λ (ys : List Share). c.loop-offer.form.items ++ ys) c.deref.ensures.value) h.fits h.form h.uppers h.rows h.tallies in
+    cut at c.in_ok-push.ensures.items refl refl said
+    (c.in_ok-extend_from_slice.ensures.items ∙ ap (λ (ys : List Share). c.loop-offer.form.items ++ ys) c.deref.ensures.value) h.fits h.form h.uppers h.rows h.tallies in
     record {
       ready = (subst (Each (λ (b : Bid). IsSound b.expr × EachLeaf (IsReady s (parts_of c.args.parts.now)) b.expr)) cut h.ready).1;
       fits = next.0;

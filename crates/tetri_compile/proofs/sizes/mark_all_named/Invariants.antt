@@ -8,4 +8,4 @@ use Rattle.tetri_compile.proofs.sizes.mark_all_named.Given as goal
 abbrev pub invariant-loop-offer : goal.invariant-loop-offer
 invariant-loop-offer l =
     (k : ℕ) → (slice_index_or l.named k false || list_any (λ m. covers m l.slot && m.set == k) (leaves_in (drop l.offer-index (map bid l.offer-items))))
-      ≡ (slice_index_or l.fn.named k false || list_any (λ m. covers m l.slot && m.set == k) (leaves_in (parts_of l.parts).bids))
+    ≡ (slice_index_or l.fn.named k false || list_any (λ m. covers m l.slot && m.set == k) (leaves_in (parts_of l.parts).bids))

@@ -7,4 +7,4 @@ use Rattle.tetri_compile.proofs.sizes.mark_used.Given as goal
 abbrev pub invariant-loop-set : goal.invariant-loop-set
 invariant-loop-set l =
     (p : ℕ) → slice_index_or l.used p false
-      ≡ (slice_index_or l.fn.used p false || list_any (λ k. slice_index_or l.named k false && has (parts_found (parts_of l.parts) k) p) (range_with_len 0 l.set))
+    ≡ (slice_index_or l.fn.used p false || list_any (λ k. slice_index_or l.named k false && has (parts_found (parts_of l.parts) k) p) (range_with_len 0 l.set))

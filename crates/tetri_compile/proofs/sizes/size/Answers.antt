@@ -1,10 +1,9 @@
-use Rattle.std.proofs.Common.{◌≡◌, ◌+◌, ◌*◌, ◌<◌, ◌≤◌, All, List, ℕ, length, map, drop, subst, sym, ap, ◌∙◌, arith}
+use Rattle.std.proofs.Common.{◌≡◌, ◌+◌, ◌<◌, ◌≤◌, All, List, length, subst, sym, ap, ◌∙◌, arith}
 use Rattle.std.proofs.lemmas.List.{length-map}
-use Rattle.tetri_strl.specs.Tree.{tree}
 use Rattle.tetri_space.specs.Lists.{sum_of}
 use Rattle.tetri_space.specs.Partitions.{parts_found, parts_of}
-use Rattle.tetri_space.specs.Space.{Bid, bid, space}
-use Rattle.tetri_compile.specs.Sizes.{HasUsableParts, leaves_in, row_total, width_by}
+use Rattle.tetri_space.specs.Space.{Bid, space}
+use Rattle.tetri_compile.specs.Sizes.{leaves_in, row_total, width_by}
 use Rattle.tetri_compile.proofs.SizeLemmas.{each_of_offer, sum_next, sum_end}
 use Rattle.tetri_compile.proofs.WidthLemmas.{usable, columns_counted, columns_small, rows_counted, rows_small}
 use Rattle.tetri_compile.proofs.sizes.size.Goals as goal
@@ -21,34 +20,57 @@ pub columns_of-requires-clause-fits : goal.columns_of-requires-clause-fits
 columns_of-requires-clause-fits c =
     let p = parts_of c.args.parts.now in
     let f = λ (b : Bid). 1 + width_by (λ k. length (parts_found p k)) b.expr in
-    omega (arith, sum_next f c.offers-offer-items.result.now c.loop-offer.offer-index c.offer-item.result c.loop-offer-test.true c.offer-item.is,
-      c.loop-offer.invariant.columns, columns_small (space c.args.inst.now) c.requires.sound p c.requires.partitions)
+    omega (
+      arith,
+      sum_next f c.offers-offer-items.result.now c.loop-offer.offer-index c.offer-item.result c.loop-offer-test.true c.offer-item.is,
+      c.loop-offer.invariant.columns,
+      columns_small (space c.args.inst.now) c.requires.sound p c.requires.partitions,
+    )
 
 pub overflow_add-columns : goal.overflow_add-columns
 overflow_add-columns c =
     let p = parts_of c.args.parts.now in
     let f = λ (b : Bid). 1 + width_by (λ k. length (parts_found p k)) b.expr in
-    omega (arith, sum_next f c.offers-offer-items.result.now c.loop-offer.offer-index c.offer-item.result c.loop-offer-test.true c.offer-item.is,
-      c.loop-offer.invariant.columns, columns_small (space c.args.inst.now) c.requires.sound p c.requires.partitions, c.columns_of.ensures)
+    omega (
+      arith,
+      sum_next f c.offers-offer-items.result.now c.loop-offer.offer-index c.offer-item.result c.loop-offer-test.true c.offer-item.is,
+      c.loop-offer.invariant.columns,
+      columns_small (space c.args.inst.now) c.requires.sound p c.requires.partitions,
+      c.columns_of.ensures,
+    )
 
 pub overflow_add-columns-in-loop-offer : goal.overflow_add-columns-in-loop-offer
 overflow_add-columns-in-loop-offer c =
     let p = parts_of c.args.parts.now in
     let f = λ (b : Bid). 1 + width_by (λ k. length (parts_found p k)) b.expr in
-    omega (arith, sum_next f c.offers-offer-items.result.now c.loop-offer.offer-index c.offer-item.result c.loop-offer-test.true c.offer-item.is,
-      c.loop-offer.invariant.columns, columns_small (space c.args.inst.now) c.requires.sound p c.requires.partitions, c.columns_of.ensures)
+    omega (
+      arith,
+      sum_next f c.offers-offer-items.result.now c.loop-offer.offer-index c.offer-item.result c.loop-offer-test.true c.offer-item.is,
+      c.loop-offer.invariant.columns,
+      columns_small (space c.args.inst.now) c.requires.sound p c.requires.partitions,
+      c.columns_of.ensures,
+    )
 
 pub rows_of-rows-requires : goal.rows_of-rows-requires
 rows_of-rows-requires c =
     let p = parts_of c.args.parts.now in
-    omega (arith, sum_next (λ (b : Bid). row_total b.expr) c.offers-offer-items.result.now c.loop-offer.offer-index c.offer-item.result c.loop-offer-test.true c.offer-item.is,
-      c.loop-offer.invariant.rows, rows_small (space c.args.inst.now) c.requires.sound p c.requires.partitions)
+    omega (
+      arith,
+      sum_next (λ (b : Bid). row_total b.expr) c.offers-offer-items.result.now c.loop-offer.offer-index c.offer-item.result c.loop-offer-test.true c.offer-item.is,
+      c.loop-offer.invariant.rows,
+      rows_small (space c.args.inst.now) c.requires.sound p c.requires.partitions,
+    )
 
 pub overflow_add-rows : goal.overflow_add-rows
 overflow_add-rows c =
     let p = parts_of c.args.parts.now in
-    omega (arith, sum_next (λ (b : Bid). row_total b.expr) c.offers-offer-items.result.now c.loop-offer.offer-index c.offer-item.result c.loop-offer-test.true c.offer-item.is,
-      c.loop-offer.invariant.rows, rows_small (space c.args.inst.now) c.requires.sound p c.requires.partitions, c.rows_of-rows.ensures)
+    omega (
+      arith,
+      sum_next (λ (b : Bid). row_total b.expr) c.offers-offer-items.result.now c.loop-offer.offer-index c.offer-item.result c.loop-offer-test.true c.offer-item.is,
+      c.loop-offer.invariant.rows,
+      rows_small (space c.args.inst.now) c.requires.sound p c.requires.partitions,
+      c.rows_of-rows.ensures,
+    )
 
 pub loop-offer-preserved : goal.loop-offer-preserved
 loop-offer-preserved c =

@@ -1,12 +1,11 @@
-use Rattle.std.proofs.Common.{◌≡◌, ◌==◌, ◌++◌, ◌∷◌, [], List, length, map, refl, sym, ap, ◌∙◌, subst, arith}
+use Rattle.std.proofs.Common.{◌≡◌, ◌++◌, ◌∷◌, [], List, length, map, sym, ap, ◌∙◌}
 use Rattle.std.specs.List.{filter}
-use Rattle.std.proofs.lemmas.List.{append-nil, map-append}
+use Rattle.std.proofs.lemmas.List.{append-nil}
 use Rattle.tetri_space.specs.Space.{space}
 use Rattle.tetri_compile.specs.declared.outline.Inequality.{Inequality}
-use Rattle.tetri_compile.specs.declared.outline.Tally.{Tally}
-use Rattle.tetri_compile.specs.Draft.{is_held, supply_row, tally_form}
+use Rattle.tetri_compile.specs.Draft.{is_held, tally_form}
 use Rattle.tetri_compile.specs.Forms.{Form, Limit, plain_limit}
-use Rattle.tetri_compile.specs.Walked.{Grows, room}
+use Rattle.tetri_compile.specs.Walked.{room}
 use Rattle.tetri_compile.proofs.OutlineLemmas.{row_last}
 use Rattle.tetri_compile.proofs.ProgramLemmas.{is_none, is_some}
 use Rattle.tetri_compile.proofs.ProgramLemmas.{held_are, nothing_grown, supply_none, supply_some}
@@ -26,9 +25,9 @@ returns c = λ cs e.
     let some = supply_some held m (λ z. is_some (sym c.in_ok-form.form.ok.0) (sym c.if-is_empty.false ∙ c.is_empty.ensures) (ap length form ∙ z)) in
     let row : Inequality = record { most = c.in_ok-form.form; under = c.new.result; plus = c.from.result } in
     let said : plain_limit row ≡ record { most = tally_form held; under = []; plus = m } =
-        ap (λ (f : Form). record { most = f; under = c.new.result.items; plus = c.from.result }) form
-        ∙ ap (λ (f : Form). record { most = tally_form held; under = f; plus = c.from.result }) c.new.ensures.items
-        ∙ ap (λ n. record { most = tally_form held; under = []; plus = n }) (c.from.ensures ∙ c.available.ensures) in
+    ap (λ (f : Form). record { most = f; under = c.new.result.items; plus = c.from.result }) form
+    ∙ ap (λ (f : Form). record { most = tally_form held; under = f; plus = c.from.result }) c.new.ensures.items
+    ∙ ap (λ n. record { most = tally_form held; under = []; plus = n }) (c.from.ensures ∙ c.available.ensures) in
     record {
       uppers = sym (append-nil c.args.out.now.uppers.items);
       rows = row_last c.args.out.now.rows.items c.push.new.self.items row c.in_ok-push.ensures.items

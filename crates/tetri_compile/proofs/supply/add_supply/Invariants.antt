@@ -11,8 +11,8 @@ abbrev pub invariant-loop-part : goal.invariant-loop-part
 invariant-loop-part l = record {
   uppers : l.out.uppers.items ≡ l.fn.out.uppers.items;
   rows : map plain_limit l.out.rows.items ++ supply (inside (space l.inst)) (room (space l.inst)) l.fn.out.tallies.items (range_with_len l.inst.now l.inst.window)
-        (range_with_len l.part (length (partitions (space l.inst)) - l.part))
+      (range_with_len l.part (length (partitions (space l.inst)) - l.part))
       ≡ map plain_limit l.fn.out.rows.items ++ supply (inside (space l.inst)) (room (space l.inst)) l.fn.out.tallies.items (range_with_len l.inst.now l.inst.window)
-        (range_with_len 0 (length (partitions (space l.inst))));
+      (range_with_len 0 (length (partitions (space l.inst))));
   tallies : l.out.tallies.items ≡ l.fn.out.tallies.items;
 }

@@ -1,27 +1,26 @@
-use Rattle.std.proofs.Common.{◌≡◌, ◌+◌, ◌*◌, ◌<◌, ◌≤◌, ◌^◌, ◌++◌, ◌∷◌, [], ℕ, List, length, drop, map, rules, refl, sym, ap, ◌∙◌, subst, arith, le_trans}
+use Rattle.std.proofs.Common.{◌≡◌, ◌+◌, ◌*◌, ◌<◌, ◌≤◌, ◌^◌, ◌++◌, ◌∷◌, [], ℕ, List, length, drop, map, rules, refl, sym, ap, ◌∙◌, subst, arith}
 use Rattle.std.proofs.Math.Nat.{mul-le-mul_left}
-use Rattle.std.proofs.lemmas.List.{length-append, append_assoc, append-nil}
+use Rattle.std.proofs.lemmas.List.{length-append}
 use Rattle.tetri_strl.specs.declared.expr.Expr.{Expr}
 use Rattle.tetri_strl.specs.declared.expr.Leaf.{Leaf}
 use Rattle.tetri_strl.specs.Aligned.{EachLeaf, EachLeafOf}
-use Rattle.tetri_strl.specs.Tree.{Tree, Trees, join, least, added, scale, barrier, more, tree, trees}
+use Rattle.tetri_strl.specs.Tree.{Tree, join, least, added, scale, barrier, more, tree, trees}
 use Rattle.tetri_strl.specs.WellMade.{peak, IsSound, AreSound}
 use Rattle.tetri_strl.proofs.TreeLemmas.{tree-Min, tree-Sum, tree-Scale, tree-Barrier}
 use Rattle.tetri_strl.proofs.WorthLemmas.{EachLeaf-both}
 use Rattle.tetri_space.specs.Lists.{Each}
-use Rattle.tetri_space.specs.Partitions.{Parts, parts_of}
-use Rattle.tetri_space.specs.Space.{Space, space}
+use Rattle.tetri_space.specs.Partitions.{parts_of}
+use Rattle.tetri_space.specs.Space.{space}
 use Rattle.tetri_space.proofs.ListLemmas.{Each-map}
 use Rattle.tetri_compile.specs.declared.outline.Inequality.{Inequality}
 use Rattle.tetri_compile.specs.declared.outline.Outline.{Outline}
 use Rattle.tetri_compile.specs.declared.outline.Share.{Share}
-use Rattle.tetri_compile.specs.Draft.{tallies, tallies_of}
-use Rattle.tetri_compile.specs.Forms.{Form, Limit, limit, run, share, times, plain_limit}
-use Rattle.tetri_compile.specs.Walk.{best, ones, uppers, uppers_of, width, width_of, form, forms, rows, rows_of, rows_under}
-use Rattle.tetri_compile.specs.Walked.{Grows, IsReady, IsWalked, AreWalked, inside, next_column, room}
+use Rattle.tetri_compile.specs.Forms.{Form, limit, run, share, plain_limit}
+use Rattle.tetri_compile.specs.Walk.{best, ones, uppers_of, form, forms, rows}
+use Rattle.tetri_compile.specs.Walked.{Grows, IsReady, IsWalked, inside, next_column, room}
 use Rattle.tetri_compile.proofs.FormSizes.{form_small}
 use Rattle.tetri_compile.proofs.KidLemmas.{kids_next}
-use Rattle.tetri_compile.proofs.OutlineLemmas.{forms_next, uppers_next, rows_next, tallies_next, next_is, grows_more, grows_length, ones_are, ones_long, rows_pushed, sides_are, top_is_best}
+use Rattle.tetri_compile.proofs.OutlineLemmas.{ones_are, ones_long, rows_pushed, sides_are, top_is_best}
 use Rattle.tetri_compile.proofs.WalkedLemmas.{under_walked, sum_walked, place_next, marked_grows}
 use Rattle.tetri_compile.proofs.walking.+walk.Goals as goal
 
@@ -36,8 +35,8 @@ walk-times_of-requires t c =
     let n = next_column c.args.out.now in
     let small : Each (λ (p : Share). p.by ≤ peak kid) (form (inside s) (room s) kid c.args.indicator n) = form_small (inside s) (room s) kid sound.0 c.args.indicator n in
     subst (λ (f : Form). Each (λ (p : Share). by * p.by < 2 ^ 64) f) (sym made.form)
-      (Each-map (λ (p : Share). p.by ≤ peak kid) (λ (p : Share). by * p.by < 2 ^ 64) (λ p le. omega (arith, mul-le-mul_left by le, sound.2))
-        (form (inside s) (room s) kid c.args.indicator n) small)
+    (Each-map (λ (p : Share). p.by ≤ peak kid) (λ (p : Share). by * p.by < 2 ^ 64) (λ p le. omega (arith, mul-le-mul_left by le, sound.2))
+    (form (inside s) (room s) kid c.args.indicator n) small)
 
 pub walk-returns-in_ok-form-in-Min : goal.walk-returns-in_ok-form-in-Min
 walk-returns-in_ok-form-in-Min t c =
@@ -47,13 +46,13 @@ walk-returns-in_ok-form-in-Min t c =
     let ts = trees c.deref-in-Min.result.now in
     let same : tree e ≡ join least ts = ap tree c.in-Min.is ∙ tree-Min c.in-Min.kids ∙ ap (λ es. join least (trees es)) (sym c.deref-in-Min.ensures.value) in
     let live : EachLeaf (λ (l : Leaf). (s.now ≤ l.start) × (l.start < s.now + s.window)) (tree e) =
-        EachLeaf-both (IsReady s (parts_of c.args.parts.now)) (IsReady s (parts_of c.args.parts.now)) (λ l. (s.now ≤ l.start) × (l.start < s.now + s.window))
-          (λ l p q. (p.live.not_early, p.live.not_late)) (tree e) c.requires.ready c.requires.ready in
+    EachLeaf-both (IsReady s (parts_of c.args.parts.now)) (IsReady s (parts_of c.args.parts.now)) (λ l. (s.now ≤ l.start) × (l.start < s.now + s.window))
+    (λ l p q. (p.live.not_early, p.live.not_late)) (tree e) c.requires.ready c.requires.ready in
     let top : c.top_in-best.result ≡ best (join least ts) = c.top_in-best.ensures ∙ top_is_best s.now (s.now + s.window) (tree e) live ∙ ap best same in
     let f = c.in_ok-form-in-Min.ensures.form in
     let g = c.in_ok-form-in-Min.ensures.grows in
     subst (λ (x : Tree). IsWalked s c.args.job x c.args.indicator c.args.out.now c.walk_under.new.out c.in_ok-form-in-Min.form.items) (sym same)
-      (under_walked s c.args.job ts c.args.indicator c.top_in-best.result c.args.out.now c.walk_under.new.out c.in_ok-form-in-Min.form.items top f g)
+    (under_walked s c.args.job ts c.args.indicator c.top_in-best.result c.args.out.now c.walk_under.new.out c.in_ok-form-in-Min.form.items top f g)
 
 pub walk-returns-in_ok-form-in-Sum : goal.walk-returns-in_ok-form-in-Sum
 walk-returns-in_ok-form-in-Sum t c =
@@ -66,7 +65,7 @@ walk-returns-in_ok-form-in-Sum t c =
     let g = c.in_ok-form-in-Sum.ensures.grows in
     let most : c.len-most.result ≡ length (ones ts) = omega (arith, c.len-most.ensures, ones_long es, ap (λ (xs : List Expr). length xs) c.deref-in-Sum.ensures.value, c.in-Sum.kids.ok.0) in
     subst (λ (x : Tree). IsWalked s c.args.job x c.args.indicator c.args.out.now c.walk_marked-in-Sum.new.out c.in_ok-form-in-Sum.form.items) (sym same)
-      (sum_walked s c.args.job ts c.args.indicator c.len-most.result c.args.out.now c.walk_marked-in-Sum.new.out c.in_ok-form-in-Sum.form.items most f g)
+    (sum_walked s c.args.job ts c.args.indicator c.len-most.result c.args.out.now c.walk_marked-in-Sum.new.out c.in_ok-form-in-Sum.form.items most f g)
 
 pub walk-returns-in_ok-form-in-Barrier-2 : goal.walk-returns-in_ok-form-in-Barrier-2
 walk-returns-in_ok-form-in-Barrier-2 t c =
@@ -82,8 +81,8 @@ walk-returns-in_ok-form-in-Barrier-2 t c =
     let row : Inequality = record { most = c.in_ok-one_share-in-Barrier.field-0; under = c.in_ok-form-in-Barrier.form; plus = 0 } in
     let said : plain_limit row ≡ limit (share i v ∷ []) (form (inside s) (room s) kid i n) = sides_are row (share i v ∷ []) (form (inside s) (room s) kid i n) most made.form refl in
     let rs : map plain_limit c.push.new.self.items ≡ map plain_limit c.args.out.now.rows.items ++ rows (inside s) (room s) (barrier kid v) i n =
-        rows_pushed c.args.out.now.rows.items c.walk-in-Barrier.new.out.rows.items c.push.new.self.items (rows (inside s) (room s) kid i n) row (limit (share i v ∷ []) (form (inside s) (room s) kid i n)) g.rows
-          c.in_ok-push-in-Barrier.ensures.items said in
+    rows_pushed c.args.out.now.rows.items c.walk-in-Barrier.new.out.rows.items c.push.new.self.items (rows (inside s) (room s) kid i n) row (limit (share i v ∷ []) (form (inside s) (room s) kid i n)) g.rows
+    c.in_ok-push-in-Barrier.ensures.items said in
     let new : Outline = record { uppers = c.walk-in-Barrier.new.out.uppers; rows = c.push.new.self; tallies = c.walk-in-Barrier.new.out.tallies } in
     let all : IsWalked s c.args.job (barrier kid v) i c.args.out.now new c.in_ok-form-in-Barrier-2.form.items = record {
       form = c.in_ok-form-in-Barrier-2.ensures;
@@ -103,7 +102,7 @@ walk_each-loop-place-preserved t c =
     let cut : trees (drop k es) ≡ more (tree e) rest = kids_next es k e lt c.index-kids-place.is in
     let said : IsWalked s c.args.job (tree e) (c.args.first + k) c.loop-place.out c.walk.new.out c.in_ok-part.part.items = c.in_ok-part.ensures in
     let next = place_next s c.args.job (tree e) rest (trees (drop k es)) (trees es) c.args.first k c.args.out.now c.loop-place.out c.walk.new.out c.loop-place.form.items c.extend_from_slice.new.self.items c.in_ok-part.part.items
-        cut said (c.in_ok-extend_from_slice.ensures.items ∙ ap (λ (ys : List Share). c.loop-place.form.items ++ ys) c.deref.ensures.value) h.fits h.form h.uppers h.rows h.tallies in
+    cut said (c.in_ok-extend_from_slice.ensures.items ∙ ap (λ (ys : List Share). c.loop-place.form.items ++ ys) c.deref.ensures.value) h.fits h.form h.uppers h.rows h.tallies in
     record {
       sound = (subst AreSound cut h.sound).1;
       ready = (subst (EachLeafOf (IsReady s (parts_of c.args.parts.now))) cut h.ready).1;
@@ -158,7 +157,22 @@ walk_marked-walk_each-requires t c =
     let ts = trees c.args.kids.now in
     let long = length-append (ones ts) (uppers_of (inside s) (room s) ts) in
     let marks = c.in_ok-add_marks.ensures in
-    let more : next_column c.add_marks.new.out ≡ next_column c.args.out.now + length (ones ts) = ap length (marks.uppers ∙ ap (λ (us : List ℕ). c.args.out.now.uppers.items ++ us) (sym (ones_are c.args.kids.now))) ∙ length-append c.args.out.now.uppers.items (ones ts) in
-    (search rules, (c.requires.sound, (c.requires.partitions, (c.requires.kids_sound, (c.requires.ready,
-      (omega (arith, c.requires.fits, long, more),
-      omega (arith, c.len-first.ensures, c.args.out.now.uppers.ok.0, c.requires.fits, long, ones_long c.args.kids.now)))))))
+    let more : next_column c.add_marks.new.out ≡ next_column c.args.out.now + length (ones ts) = ap length (marks.uppers ∙ ap (λ (us : List ℕ). c.args.out.now.uppers.items ++ us) (sym (ones_are c.args.kids.now))) ∙ length-append c.args.out.now.uppers.items (ones ts) in (
+      search rules,
+      (
+        c.requires.sound,
+        (
+          c.requires.partitions,
+          (
+            c.requires.kids_sound,
+            (
+              c.requires.ready,
+              (
+                omega (arith, c.requires.fits, long, more),
+                omega (arith, c.len-first.ensures, c.args.out.now.uppers.ok.0, c.requires.fits, long, ones_long c.args.kids.now),
+              ),
+            ),
+          ),
+        ),
+      ),
+    )

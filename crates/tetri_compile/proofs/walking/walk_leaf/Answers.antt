@@ -1,8 +1,8 @@
-use Rattle.std.proofs.Common.{◌≡◌, ◌++◌, ◌∷◌, [], List, ℕ, Bool, true, false, cond, length, map, min, refl, sym, ap, ◌∙◌, arith}
+use Rattle.std.proofs.Common.{◌≡◌, ◌++◌, ◌∷◌, [], List, ℕ, Bool, cond, length, map, min, refl, sym, ap, ◌∙◌, arith}
 use Rattle.tetri_space.specs.Space.{space}
 use Rattle.tetri_compile.specs.declared.outline.Inequality.{Inequality}
 use Rattle.tetri_compile.specs.Draft.{leaf_tallies}
-use Rattle.tetri_compile.specs.Forms.{Form, Limit, limit, run, share, plain_limit}
+use Rattle.tetri_compile.specs.Forms.{Form, limit, run, share, plain_limit}
 use Rattle.tetri_compile.specs.Walked.{inside, next_column, room}
 use Rattle.tetri_compile.proofs.OutlineLemmas.{rows_pushed, sides_are}
 use Rattle.tetri_compile.proofs.walking.walk_leaf.Goals as goal
@@ -26,7 +26,7 @@ returns-then-leaf-clause-grows c =
       rows =
           rows_pushed c.args.out.now.rows.items c.add_counts.new.out.rows.items c.push.new.self.items [] row _ g.rows c.in_ok-push.ensures.items said
           ∙ ap (λ (b : Bool). map plain_limit c.args.out.now.rows.items ++ (limit (run 1 n ps) (share c.args.indicator l.k ∷ [])
-              ∷ cond b [] (limit (share c.args.indicator l.k ∷ []) (run 1 n ps) ∷ []))) (sym c.if-leaf.true);
+          ∷ cond b [] (limit (share c.args.indicator l.k ∷ []) (run 1 n ps) ∷ []))) (sym c.if-leaf.true);
       tallies = g.tallies ∙ ap (λ (qs : List ℕ). c.args.out.now.tallies.items ++ leaf_tallies c.args.job l qs n) same;
     }
 
@@ -49,12 +49,12 @@ returns-clause-grows c =
     let row : Inequality = record { most = c.in_ok-run_of.field-0; under = c.in_ok-one_share.field-0; plus = 0 } in
     let row-2 : Inequality = record { most = c.in_ok-one_share-2.field-0; under = c.in_ok-run_of-2.field-0; plus = 0 } in
     let one = rows_pushed c.args.out.now.rows.items c.add_counts.new.out.rows.items c.push.new.self.items [] row (limit counts wanted) g.rows c.in_ok-push.ensures.items
-        (sides_are row counts wanted most under refl) in
+    (sides_are row counts wanted most under refl) in
     record {
       uppers = g.uppers ∙ ap (λ (qs : List ℕ). c.args.out.now.uppers.items ++ map (λ p. min l.k (room s p l.start)) qs) same;
       rows =
           rows_pushed c.args.out.now.rows.items c.push.new.self.items c.push-2.new.self.items (limit counts wanted ∷ []) row-2 (limit wanted counts) one c.in_ok-push-2.ensures.items
-            (sides_are row-2 wanted counts most-2 under-2 refl)
+          (sides_are row-2 wanted counts most-2 under-2 refl)
           ∙ ap (λ (b : Bool). map plain_limit c.args.out.now.rows.items ++ (limit counts wanted ∷ cond b [] (limit wanted counts ∷ []))) (sym c.if-leaf.false);
       tallies = g.tallies ∙ ap (λ (qs : List ℕ). c.args.out.now.tallies.items ++ leaf_tallies c.args.job l qs n) same;
     }
