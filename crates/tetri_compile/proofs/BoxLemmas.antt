@@ -1,21 +1,21 @@
 -- The marks and counts of fair grants lie in the program's box.
-use Rattle.std.proofs.Common.{◌≡◌, ℕ, ◌+◌, ◌<◌, ◌≤◌, min, Bool, true, false, cond, List, [], ◌∷◌, ◌++◌, length, map, Contains, refl, arith}
+use Rattle.std.proofs.Common.{ℕ, ◌≤◌, min, Bool, true, false, cond, List, [], ◌∷◌, ◌++◌, length, map, Contains, refl, arith}
 use Rattle.tetri_strl.specs.declared.expr.Leaf.{Leaf}
 use Rattle.tetri_strl.specs.declared.grants.Grant.{Grant}
 use Rattle.tetri_strl.specs.Aligned.{EachLeaf, EachLeafOf}
 use Rattle.tetri_strl.specs.Tree.{Operator, greatest, least, added, Tree, one, join, scale, barrier, Trees, none, more, leaves}
 use Rattle.tetri_strl.specs.WellMade.{IsGoodLeaf}
-use Rattle.tetri_strl.specs.Worth.{granted, worth_of, worth_by, worths_by}
+use Rattle.tetri_strl.specs.Worth.{worth_of, worth_by, worths_by}
 use Rattle.tetri_strl.proofs.WorthLemmas.{AreBelow, EachLeaf-from, EachLeaf-both, each_good}
-use Rattle.tetri_space.specs.Lists.{sum_of, count, has, Each, EachPair}
+use Rattle.tetri_space.specs.Lists.{count, has, Each}
 use Rattle.tetri_space.specs.Partitions.{part_at}
 use Rattle.tetri_space.specs.Space.{Bid, Space}
-use Rattle.tetri_space.proofs.ListLemmas.{sum_of-le, bit-le, Each-from, Each-map, Each-all}
-use Rattle.tetri_compile.specs.Allotted.{suits, granted_in, bid_values, values_of_bids}
+use Rattle.tetri_space.proofs.ListLemmas.{sum_of-le, bit-le, Each-from, Each-all}
+use Rattle.tetri_compile.specs.Allotted.{suits, granted_in, values_of_bids}
 use Rattle.tetri_compile.specs.declared.outline.Tally.{Tally}
 use Rattle.tetri_compile.specs.Draft.{bid_uppers}
 use Rattle.tetri_compile.specs.Marks.{mark, own_values, values, values_of}
-use Rattle.tetri_compile.specs.Walk.{ones, own_uppers, uppers, uppers_of, best}
+use Rattle.tetri_compile.specs.Walk.{ones, own_uppers, uppers, uppers_of}
 use Rattle.tetri_compile.proofs.FairLemmas.{inside, room, IsFair, kept, taken, value, held, all_right, granted_le, granted_few, granted_total, kept-le, supply_le, good}
 use Rattle.tetri_compile.proofs.WalkLemmas.{IsRight, mark-le, worth_le_best}
 

@@ -1,8 +1,8 @@
 -- The outline of a whole instance is its program's draft, and the draft's numbers are small.
-use Rattle.std.proofs.Common.{◌≡◌, ℕ, zero, suc, ◌+◌, ◌<◌, ◌≤◌, All, get_or, List, [], ◌∷◌, ◌++◌, length, map, refl, sym, ap, ◌∙◌, subst, arith}
+use Rattle.std.proofs.Common.{◌≡◌, ℕ, zero, suc, ◌≤◌, All, List, [], ◌∷◌, ◌++◌, length, map, refl, ap, ◌∙◌, subst, arith}
 use Rattle.std.specs.List.{range_with_len}
-use Rattle.std.proofs.lemmas.List.{append-nil, append_assoc}
-use lib.IntN.{ℤ, pos}
+use Rattle.std.proofs.lemmas.List.{append-nil}
+use lib.IntN.{pos}
 use Rattle.tetri_strl.specs.WellMade.{IsSound}
 use Rattle.tetri_strl.specs.Aligned.{EachLeaf}
 use Rattle.tetri_space.specs.Lists.{Each}

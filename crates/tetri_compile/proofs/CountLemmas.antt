@@ -1,6 +1,6 @@
 -- The columns that count nodes ascend, are in the program, and are from 0 to 4096.
 use Rattle.std.proofs.Common.{◌≡◌, ℕ, zero, suc, ◌+◌, ◌<◌, ◌≤◌, min, List, [], ◌∷◌, ◌++◌, length, map, refl, sym, ap, ◌∙◌, subst, arith, le_trans}
-use Rattle.std.specs.Prelude.{◌≤ℤ◌, unsigned_abs}
+use Rattle.std.specs.Prelude.{◌≤ℤ◌}
 use Rattle.std.proofs.lemmas.Int.{ints}
 use Rattle.std.proofs.lemmas.List.{length-append, length-map}
 use Rattle.std.proofs.lemmas.List.FromFn.{length-map-range_with_len}
@@ -8,10 +8,10 @@ use lib.IntN.{ℤ, pos}
 use Rattle.tetri_ip.specs.declared.programs.Program.{Program}
 use Rattle.tetri_ip.specs.Points.{number_at}
 use Rattle.tetri_strl.specs.declared.expr.Leaf.{Leaf}
-use Rattle.tetri_strl.specs.Tree.{Operator, greatest, least, added, Tree, one, join, scale, barrier, Trees, none, more}
+use Rattle.tetri_strl.specs.Tree.{Tree, one, join, scale, barrier, Trees, none, more}
 use Rattle.tetri_strl.specs.WellMade.{IsSound, AreSound}
 use Rattle.tetri_space.specs.Lists.{Each, EachPair, Ascends}
-use Rattle.tetri_space.specs.Space.{Bid, Space}
+use Rattle.tetri_space.specs.Space.{Bid}
 use Rattle.tetri_space.proofs.ListLemmas.{Each-across, Each-append, Each-map, EachPair-append}
 use Rattle.tetri_compile.specs.declared.compiling.Count.{Count}
 use Rattle.tetri_compile.specs.declared.outline.Tally.{Tally}

@@ -1,13 +1,12 @@
 -- The usual worked example: of two nodes with a tag and two without, a job wants two with the tag, or any two for longer.
-use Rattle.std.proofs.Common.{◌≡◌, ℕ, Bool, true, false, List, [], ◌∷◌, length, map, refl}
-use lib.IntN.{ℤ, pos, negsuc}
+use Rattle.std.proofs.Common.{◌≡◌, ℕ, false, List, [], ◌∷◌, refl}
+use lib.IntN.{pos, negsuc}
 use Rattle.tetri_strl.specs.declared.expr.Leaf.{Leaf}
-use Rattle.tetri_strl.specs.Tree.{Operator, greatest, Tree, one, join, Trees, none, more}
+use Rattle.tetri_strl.specs.Tree.{greatest, one, join, none, more}
 use Rattle.tetri_ip.specs.declared.programs.Term.{Term}
 use Rattle.tetri_space.specs.Partitions.{partitions}
-use Rattle.tetri_space.specs.Space.{Bid, Space}
-use Rattle.tetri_compile.specs.Draft.{draft}
-use Rattle.tetri_compile.specs.Flat.{FlatRow, FlatProgram, program_of, column_count, row_count}
+use Rattle.tetri_space.specs.Space.{Space}
+use Rattle.tetri_compile.specs.Flat.{FlatRow, program_of, column_count, row_count}
 
 abbrev tagged : Leaf
 tagged = record { num = 0; set = 0; k = 2; start = 0; dur = 2; v = 4; linear = false }

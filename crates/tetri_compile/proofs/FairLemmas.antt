@@ -1,29 +1,29 @@
 -- The marks and counts of fair grants meet every row, and their objective is at least what the grants are worth.
-use Rattle.std.proofs.Common.{◌≡◌, ◌≢◌, ◌⊎◌, ℕ, zero, suc, ◌+◌, ◌*◌, ◌<◌, ◌≤◌, ◌==◌, ◌&&◌, not, min, Bool, true, false, cond, List, [], ◌∷◌, ◌++◌, length, get_or, map, Contains, refl, sym, ap, ◌∙◌, subst, arith, true≢false, inl, inr, ⊎_elim, le_trans}
+use Rattle.std.proofs.Common.{◌≡◌, ℕ, ◌+◌, ◌<◌, ◌≤◌, ◌==◌, ◌&&◌, not, Bool, true, false, cond, List, [], ◌∷◌, length, Contains, refl, sym, ap, ◌∙◌, subst, arith, le_trans}
 use Rattle.std.specs.Prelude.{nat_lt, nat_le, slice_index_or}
 use Rattle.std.specs.List.{list_any, list_all, filter, range_with_len}
-use Rattle.std.proofs.lemmas.Bool.{cond_both, and_parts}
+use Rattle.std.proofs.lemmas.Bool.{and_parts}
 use Rattle.std.proofs.lemmas.Bool.Decides.{nat_tests}
 use Rattle.tetri_strl.specs.declared.expr.Leaf.{Leaf}
 use Rattle.tetri_strl.specs.declared.grants.Grant.{Grant}
 use Rattle.tetri_strl.specs.Aligned.{EachLeaf}
-use Rattle.tetri_strl.specs.Thrifty.{IsBare, IsThriftyFor, held_leaves}
-use Rattle.tetri_strl.specs.Tree.{Tree, leaves}
+use Rattle.tetri_strl.specs.Thrifty.{IsThriftyFor, held_leaves}
+use Rattle.tetri_strl.specs.Tree.{leaves}
 use Rattle.tetri_strl.specs.WellMade.{IsGoodLeaf, IsSound}
 use Rattle.tetri_strl.specs.Worth.{granted, worth_at, leaf_worth, worth_of}
 use Rattle.tetri_strl.proofs.PartsApart.{AreApart}
 use Rattle.tetri_strl.proofs.TrimThrift.{ungranted}
 use Rattle.tetri_strl.proofs.WorthLemmas.{EachLeaf-from, EachLeaf-both, each_good}
-use Rattle.tetri_space.specs.Lists.{sum_of, bit, count, has, Each, EachPair, Ascends}
+use Rattle.tetri_space.specs.Lists.{sum_of, count, has, Each, EachPair, Ascends}
 use Rattle.tetri_space.specs.Partitions.{set_at, part_at, parts_in, is_free, available}
 use Rattle.tetri_space.specs.Space.{Bid, Space}
-use Rattle.tetri_space.proofs.ListLemmas.{eq_from_test, Each-at, Each-from, Each-map, Each-all, Each-append, Each-filter, Each-passed, Each-across, Each-both, EachPair-append, EachPair-filter, EachPair-with, sum_of-le, sum_of-eq, sum_of-filter-le, filter-ascends, range-ascends}
-use Rattle.tetri_compile.specs.Allotted.{suits, granted_in, bid_values, values_of_bids}
+use Rattle.tetri_space.proofs.ListLemmas.{eq_from_test, Each-at, Each-from, Each-map, Each-all, Each-append, Each-filter, Each-passed, Each-across, Each-both, EachPair-append, EachPair-filter, EachPair-with, sum_of-le, sum_of-filter-le, filter-ascends, range-ascends}
+use Rattle.tetri_compile.specs.Allotted.{suits, granted_in, values_of_bids}
 use Rattle.tetri_compile.specs.declared.outline.Tally.{Tally}
-use Rattle.tetri_compile.specs.Draft.{is_held, tally_form, supply_row, tallies, bid_uppers, objective, bid_rows, bid_tallies, part_supply, supply, draft_of}
+use Rattle.tetri_compile.specs.Draft.{is_held, tally_form, supply_row, objective, bid_rows, bid_tallies, part_supply, supply, draft_of}
 use Rattle.tetri_compile.specs.Marks.{mark, values}
-use Rattle.tetri_compile.specs.Forms.{share, at_point, Limit, IsMet, AreMet, Reads}
-use Rattle.tetri_compile.specs.Walk.{uppers, width, form, rows}
+use Rattle.tetri_compile.specs.Forms.{at_point, AreMet, Reads}
+use Rattle.tetri_compile.specs.Walk.{width, form, rows}
 use Rattle.tetri_compile.proofs.WalkLemmas.{IsRight, hold, length-values}
 use Rattle.tetri_compile.proofs.FormLemmas.{at_point-append, Reads-split, AreMet-append}
 use Rattle.tetri_compile.proofs.GrantLemmas.{spread, IsSpread, at_most_one, any_which, held_le_free, IsOnRight, ShareNone, suits_some, shares_le}

@@ -1,6 +1,6 @@
 -- A program with few and small numbers is fit.
-use Rattle.std.proofs.Common.{◌≡◌, ℕ, zero, suc, ◌+◌, ◌*◌, ◌^◌, ◌<◌, ◌≤◌, ◌==◌, max, Bool, true, false, cond, List, [], ◌∷◌, length, map, slice_index_or, refl, sym, ap, ◌∙◌, subst, arith, le_trans}
-use Rattle.std.specs.Prelude.{unsigned_abs, ◌≤ℤ◌, ◌-ℤ◌, sum_by}
+use Rattle.std.proofs.Common.{◌≡◌, ℕ, zero, suc, ◌+◌, ◌*◌, ◌^◌, ◌<◌, ◌≤◌, ◌==◌, max, List, [], ◌∷◌, length, map, refl, sym, ap, ◌∙◌, subst, arith, le_trans}
+use Rattle.std.specs.Prelude.{unsigned_abs, ◌≤ℤ◌, ◌-ℤ◌}
 use Rattle.std.specs.List.{range_with_len}
 use Rattle.std.proofs.Math.Nat.{mul-le-mul_left, mul-le-mul_right}
 use Rattle.std.proofs.lemmas.Bool.{cond_both}
@@ -12,14 +12,14 @@ use lib.IntN.{ℤ, pos}
 use Rattle.tetri_ip.specs.declared.programs.Program.{Program}
 use Rattle.tetri_ip.specs.declared.programs.Row.{Row}
 use Rattle.tetri_ip.specs.declared.programs.Term.{Term}
-use Rattle.tetri_ip.specs.Points.{IsBelow, IsFit, IsFitRow, IsWithin, column_at, cost_reach, number_at, reach, right_of, size_at, term_at, terms_of}
+use Rattle.tetri_ip.specs.Points.{IsFit, IsFitRow, IsWithin, column_at, cost_reach, number_at, reach, right_of, size_at, term_at, terms_of}
 use Rattle.tetri_strl.specs.WellMade.{PEAK}
 use Rattle.tetri_space.specs.Lists.{Each}
 use Rattle.tetri_compile.specs.Draft.{Draft}
 use Rattle.tetri_compile.specs.Flat.{FlatProgram, FlatRow, coefficient, flat, flat_row, plain, plain_row, terms_at}
 use Rattle.tetri_compile.specs.Forms.{Form, Limit}
 use Rattle.tetri_compile.specs.Small.{IsSmallForm, IsSmallLimit}
-use Rattle.tetri_compile.proofs.GainLemmas.{from_zero, number_of}
+use Rattle.tetri_compile.proofs.GainLemmas.{number_of}
 use Rattle.tetri_compile.proofs.ProgramLemmas.{coefficient_small, less_of}
 
 -- ---- the terms of a row

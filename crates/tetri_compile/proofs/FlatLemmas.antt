@@ -1,26 +1,22 @@
 -- The program by columns says what the forms say.
-use Rattle.std.proofs.Common.{◌≡◌, ◌⊎◌, ℕ, zero, suc, ◌+◌, ◌*◌, ◌<◌, ◌≤◌, ◌==◌, Bool, true, false, cond, List, [], ◌∷◌, ◌++◌, length, map, refl, sym, ap, ◌∙◌, subst, arith, ⊎_elim, inl, inr, le_trans}
+use Rattle.std.proofs.Common.{◌≡◌, ℕ, zero, suc, ◌+◌, ◌*◌, ◌<◌, ◌≤◌, ◌==◌, cond, List, [], ◌∷◌, length, map, refl, sym, ap, ◌∙◌, subst, arith, inl, inr}
 use Rattle.std.specs.Prelude.{unsigned_abs, ◌≤ℤ◌}
 use Rattle.std.specs.List.{range_with_len}
 use Rattle.std.proofs.Math.Nat.{mul-zero}
 use Rattle.std.proofs.lemmas.Bool.{cond_both, cases_order, cases_eq}
-use Rattle.std.proofs.lemmas.List.{length-map}
 use Rattle.std.proofs.lemmas.Int.{ints}
 use borrow.Author.Differences.{up, down}
 use lib.IntN.{ℤ, pos, negsuc, ◌+ℤ◌, ◌-ℤ◌, ◌*ℤ◌}
 use Rattle.tetri_algebra.specs.IntegerRing.{ℤ_ring}
 use Rattle.tetri_algebra.specs.Sums.{dot}
-use Rattle.tetri_ip.specs.declared.programs.Program.{Program}
 use Rattle.tetri_ip.specs.declared.programs.Row.{Row}
-use Rattle.tetri_ip.specs.declared.programs.Term.{Term}
-use Rattle.tetri_ip.specs.Points.{number_at, terms_of, right_of, left_side, IsBetween, MeetsRows}
+use Rattle.tetri_ip.specs.Points.{number_at, left_side, MeetsRows}
 use Rattle.tetri_strl.proofs.WorthLemmas.{AreBelow}
 use Rattle.tetri_space.specs.Lists.{sum_of}
 use Rattle.tetri_space.proofs.ListLemmas.{test_from_eq, test_from_ne, eq_from_test, sum_of-plus, sum_of-eq, sum_of-zero, Each-all}
 use Rattle.tetri_compile.specs.Draft.{Draft}
 use Rattle.tetri_compile.specs.Flat.{FlatRow, plain_row, coefficient, terms_at, flat_row, flat}
-use Rattle.tetri_compile.specs.declared.outline.Share.{Share}
-use Rattle.tetri_compile.specs.Forms.{Form, at_point, Limit, IsMet, AreMet, Reads, Within}
+use Rattle.tetri_compile.specs.Forms.{Form, at_point, Limit, AreMet, Reads}
 
 -- a point's number of a column
 abbrev pub at_column : List ℤ → ℕ → ℕ

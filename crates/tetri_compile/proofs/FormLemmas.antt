@@ -1,10 +1,9 @@
 -- Forms and rows at a point.
-use Rattle.std.proofs.Common.{◌≡◌, ℕ, zero, suc, ◌+◌, ◌*◌, ◌<◌, ◌≤◌, List, [], ◌∷◌, ◌++◌, length, map, refl, sym, ap, ◌∙◌, subst, arith}
+use Rattle.std.proofs.Common.{◌≡◌, ℕ, ◌+◌, ◌*◌, List, [], ◌∷◌, ◌++◌, length, map, refl, sym, subst, arith}
 use Rattle.std.proofs.Math.Nat.{mul-zero}
 use Rattle.tetri_space.specs.Lists.{sum_of}
 use Rattle.tetri_space.proofs.ListLemmas.{sum_of-append}
-use Rattle.tetri_compile.specs.declared.outline.Share.{Share}
-use Rattle.tetri_compile.specs.Forms.{share, Form, at_point, times, run, Limit, limit, IsMet, AreMet, Reads, Within}
+use Rattle.tetri_compile.specs.Forms.{Form, at_point, times, run, Limit, AreMet, Reads, Within}
 
 module _ (x : ℕ → ℕ) where
   pub at_point-append : (f g : Form) → at_point x (f ++ g) ≡ at_point x f + at_point x g

@@ -1,19 +1,17 @@
 -- The numbers of a form stay small, and its columns are the walk's.
-use Rattle.std.proofs.Common.{◌≡◌, ℕ, zero, suc, ◌+◌, ◌*◌, ◌/◌, ◌<◌, ◌≤◌, ◌==◌, max, min, Bool, true, false, cond, List, [], ◌∷◌, ◌++◌, length, map, refl, sym, ap, ◌∙◌, subst, arith, le_trans}
+use Rattle.std.proofs.Common.{◌≡◌, ℕ, ◌+◌, ◌*◌, ◌/◌, ◌<◌, ◌≤◌, ◌==◌, max, min, Bool, true, false, cond, List, [], ◌∷◌, length, refl, arith, le_trans}
 use Rattle.std.specs.Prelude.{if◌then◌else◌}
 use Rattle.std.proofs.Math.Nat.{mul-le-mul_left, div-mul-le_self}
 use Rattle.std.proofs.lemmas.Bool.{cond_both}
 use Rattle.std.proofs.lemmas.Bool.Decides.{nat_tests}
 use Rattle.std.proofs.lemmas.List.{length-append, length-map}
-use Rattle.tetri_strl.specs.declared.expr.Leaf.{Leaf}
-use Rattle.tetri_strl.specs.Tree.{Operator, greatest, least, added, Tree, one, join, scale, barrier, Trees, none, more}
-use Rattle.tetri_strl.specs.WellMade.{peak, peaks, IsGoodLeaf, IsSound, AreSound}
-use Rattle.tetri_strl.specs.Worth.{greatest_of, least_of, added_of, worth_by, worths_by}
+use Rattle.tetri_strl.specs.Tree.{greatest, least, added, Tree, one, join, scale, barrier, Trees, none, more}
+use Rattle.tetri_strl.specs.WellMade.{peak, peaks, IsSound, AreSound}
+use Rattle.tetri_strl.specs.Worth.{greatest_of, added_of}
 use Rattle.tetri_strl.proofs.WorthLemmas.{worth_le_peak}
 use Rattle.tetri_space.specs.Lists.{Each}
-use Rattle.tetri_compile.specs.declared.outline.Share.{Share}
-use Rattle.tetri_compile.specs.Forms.{share, Form, times, run, Limit, limit}
-use Rattle.tetri_compile.specs.Walk.{ones, best, own_uppers, uppers, uppers_of, width, form, forms, rows, rows_of, rows_under}
+use Rattle.tetri_compile.specs.Forms.{share, Form, times, run}
+use Rattle.tetri_compile.specs.Walk.{ones, best, uppers, uppers_of, width, form, forms}
 use Rattle.tetri_space.proofs.ListLemmas.{Each-map, Each-append}
 
 pub run_small : {X : Type 0} (b m n : ℕ) (xs : List X) → b ≤ m → Each (λ s. s.by ≤ m) (run b n xs)

@@ -1,29 +1,26 @@
 -- The upper bounds are small, and so is the most that the columns can earn.
-use Rattle.std.proofs.Common.{◌≡◌, ℕ, zero, suc, ◌+◌, ◌*◌, ◌/◌, ◌^◌, ◌<◌, ◌≤◌, ◌==◌, max, min, Bool, true, false, cond, List, [], ◌∷◌, ◌++◌, length, map, refl, sym, ap, ◌∙◌, subst, arith, le_trans}
-use Rattle.std.specs.Prelude.{if◌then◌else◌, unsigned_abs}
+use Rattle.std.proofs.Common.{◌≡◌, ℕ, zero, suc, ◌+◌, ◌*◌, ◌/◌, ◌^◌, ◌<◌, ◌≤◌, ◌==◌, min, List, [], ◌∷◌, length, map, refl, sym, ap, ◌∙◌, subst, arith, le_trans}
+use Rattle.std.specs.Prelude.{unsigned_abs}
 use Rattle.std.specs.List.{range_with_len}
 use Rattle.std.proofs.Math.Nat.{mul-le-mul_left, mul-le-mul_right, div-mul-le_self}
 use Rattle.std.proofs.lemmas.Bool.{cond_both}
-use Rattle.std.proofs.lemmas.List.{length-append}
 use Rattle.std.proofs.lemmas.List.FromFn.{length-map-range_with_len}
 use lib.IntN.{ℤ, pos}
 use lib.Signed.{lt_z}
 use Rattle.tetri_ip.specs.declared.programs.Program.{Program}
 use Rattle.tetri_ip.specs.Points.{number_at}
-use Rattle.tetri_strl.specs.declared.expr.Leaf.{Leaf}
-use Rattle.tetri_strl.specs.Tree.{Operator, greatest, least, added, Tree, one, join, scale, barrier, Trees, none, more}
-use Rattle.tetri_strl.specs.WellMade.{peak, peaks, PEAK, IsGoodLeaf, IsSound, AreSound}
+use Rattle.tetri_strl.specs.Tree.{greatest, least, added, Tree, one, join, scale, barrier, Trees, none, more}
+use Rattle.tetri_strl.specs.WellMade.{peak, peaks, PEAK, IsSound, AreSound}
 use Rattle.tetri_strl.specs.Worth.{greatest_of, added_of}
 use Rattle.tetri_strl.proofs.WorthLemmas.{worth_le_peak}
 use Rattle.tetri_space.specs.Lists.{Each, sum_of}
 use Rattle.tetri_space.specs.Space.{Bid}
 use Rattle.tetri_space.proofs.ListLemmas.{Each-all, Each-append, Each-map, sum_of-le}
-use Rattle.tetri_compile.specs.declared.outline.Share.{Share}
 use Rattle.tetri_compile.specs.Draft.{Draft, bid_uppers, objective}
 use Rattle.tetri_compile.specs.Flat.{FlatProgram, coefficient, flat, plain}
 use Rattle.tetri_compile.specs.Forms.{Form, Reads, at_point, run, share, times}
 use Rattle.tetri_compile.specs.Gain.{gain_at, most_gain}
-use Rattle.tetri_compile.specs.Walk.{best, form, forms, ones, own_uppers, uppers, uppers_of, width}
+use Rattle.tetri_compile.specs.Walk.{best, form, forms, ones, uppers, uppers_of, width}
 use Rattle.tetri_compile.proofs.FlatLemmas.{at_column, form_at, point_reads}
 use Rattle.tetri_compile.proofs.FormLemmas.{Reads-split}
 use Rattle.tetri_compile.proofs.FormSizes.{AllBelow, below_added, below_greatest}

@@ -1,12 +1,12 @@
 -- How many nodes of each partition the grants give.
-use Rattle.std.proofs.Common.{◌≡◌, ◌≢◌, ◌⊎◌, ℕ, zero, suc, ◌+◌, ◌*◌, ◌<◌, ◌≤◌, ◌==◌, ◌&&◌, ◌||◌, not, Bool, true, false, cond, List, [], ◌∷◌, ◌++◌, length, get_or, map, Contains, refl, sym, ap, ◌∙◌, subst, arith, true≢false, inl, inr, ⊎_elim, le_trans}
-use Rattle.std.specs.List.{list_any, list_all, filter, range_with_len}
-use Rattle.std.proofs.lemmas.Bool.{cond_both, cases_Bool, and_parts, or_cases}
+use Rattle.std.proofs.Common.{◌≡◌, ℕ, ◌+◌, ◌≤◌, ◌&&◌, ◌||◌, Bool, true, false, cond, List, [], ◌∷◌, length, refl, sym, ap, ◌∙◌, subst, arith, true≢false, ⊎_elim, le_trans}
+use Rattle.std.specs.List.{list_any}
+use Rattle.std.proofs.lemmas.Bool.{and_parts, or_cases}
 use Rattle.tetri_strl.specs.declared.grants.Grant.{Grant}
 use Rattle.tetri_strl.specs.Worth.{granted}
 use Rattle.tetri_compile.specs.Allotted.{suits, granted_in}
 use Rattle.tetri_space.specs.Lists.{sum_of, bit, count, has, Each, EachPair, Ascends}
-use Rattle.tetri_space.proofs.ListLemmas.{bit-le, common-le, sum_of-swap, sum_of-eq, sum_of-le, sum_of-plus, sum_of-zero, sum_of-one, sum_of-filter, Each-map, Each-all}
+use Rattle.tetri_space.proofs.ListLemmas.{common-le, sum_of-swap, sum_of-eq, sum_of-le, sum_of-plus, sum_of-zero, sum_of-one, Each-map, Each-all}
 
 -- ---- over partitions that cover
 module _ (job leaf : ℕ) (part : ℕ → List ℕ) (ps : List ℕ) where

@@ -1,5 +1,5 @@
 -- The parts of an expression, one after another.
-use Rattle.std.proofs.Common.{◌≡◌, ◌⊎◌, ℕ, ◌+◌, ◌<◌, ◌==◌, ◌&&◌, ◌||◌, Bool, true, false, List, ◌∷◌, ◌++◌, length, get_or, drop, Vec, Global, inl, inr, refl, sym, ap, ◌∙◌, subst}
+use Rattle.std.proofs.Common.{◌≡◌, ◌⊎◌, ℕ, ◌+◌, ◌<◌, ◌||◌, Bool, true, false, List, ◌∷◌, length, get_or, drop, Vec, Global, inl, inr, sym, ap, ◌∙◌, subst}
 use Rattle.std.specs.List.{list_any}
 use Rattle.std.proofs.lemmas.List.{drop_more}
 use Rattle.std.proofs.lemmas.List.Folds.{list_any-append}
@@ -7,7 +7,7 @@ use Rattle.tetri_strl.specs.declared.expr.Expr.{Expr}
 use Rattle.tetri_strl.specs.declared.expr.Expr.TheVariants.{Max, Min, Sum}
 use Rattle.tetri_strl.specs.declared.expr.Leaf.{Leaf}
 use Rattle.tetri_strl.specs.Aligned.{EachLeaf, EachLeafOf}
-use Rattle.tetri_strl.specs.Tree.{Operator, greatest, least, added, Tree, join, Trees, more, leaves, leaves_of, tree, trees}
+use Rattle.tetri_strl.specs.Tree.{Operator, greatest, least, added, join, more, leaves, leaves_of, tree, trees}
 use Rattle.tetri_strl.proofs.TreeLemmas.{tree-Max, tree-Min, tree-Sum}
 
 -- an expression with these parts is a join of them

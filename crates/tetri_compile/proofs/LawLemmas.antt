@@ -1,16 +1,16 @@
 -- Every lawful allotment has a point of the program that is worth no less.
-use Rattle.std.proofs.Common.{◌≡◌, ℕ, ◌≤◌, List, length, map, refl, sym, ap, ◌∙◌, subst, arith}
+use Rattle.std.proofs.Common.{◌≡◌, ℕ, ◌≤◌, List, length, sym, ap, ◌∙◌, subst, arith}
 use Rattle.std.specs.Prelude.{◌≤ℤ◌}
 use Rattle.std.proofs.lemmas.Int.{ints}
 use Rattle.std.proofs.lemmas.List.{length-map}
 use Rattle.std.proofs.lemmas.List.FromFn.{length-map-range_with_len}
-use lib.IntN.{ℤ, pos}
+use lib.IntN.{pos}
 use Rattle.tetri_algebra.specs.IntegerRing.{ℤ_ring}
 use Rattle.tetri_algebra.specs.Sums.{dot}
 use Rattle.tetri_strl.specs.declared.grants.Grant.{Grant}
 use Rattle.tetri_strl.proofs.WorthLemmas.{AreBelow}
 use Rattle.tetri_ip.specs.declared.programs.Program.{Program}
-use Rattle.tetri_ip.specs.Points.{number_at, objective, box_of, IsPoint, MeetsRows}
+use Rattle.tetri_ip.specs.Points.{number_at, objective, box_of, IsPoint}
 use Rattle.tetri_space.specs.Lawful.{IsLawful}
 use Rattle.tetri_space.specs.Partitions.{live_bids, partitions}
 use Rattle.tetri_space.specs.Sound.{IsSound}

@@ -1,44 +1,41 @@
 -- A lawful allotment's grants are fair to the live bids.
-use Rattle.std.proofs.Common.{◌≡◌, ◌≢◌, ℕ, zero, suc, ◌+◌, ◌<◌, ◌≤◌, ◌==◌, ◌&&◌, ◌||◌, not, Bool, true, false, cond, List, [], ◌∷◌, length, get_or, map, All, AllPairs, Contains, Option, Some, None, refl, sym, ap, ◌∙◌, subst, arith, true≢false}
-use Rattle.std.specs.Prelude.{nat_lt, nat_le, slice_get, slice_index_or}
-use Rattle.std.specs.List.{filter, find, list_any, sum_by}
+use Rattle.std.proofs.Common.{◌≡◌, ◌≢◌, ℕ, suc, ◌+◌, ◌<◌, ◌≤◌, ◌==◌, ◌||◌, Bool, true, false, cond, List, [], ◌∷◌, length, All, AllPairs, Contains, Option, Some, None, refl, sym, ap, ◌∙◌, subst, arith, true≢false}
+use Rattle.std.specs.List.{sum_by}
 use Rattle.std.specs.List.Sorted.{IsStrictlyIncreasing}
 use Rattle.std.specs.Option.{IsSomeAnd}
-use Rattle.std.proofs.lemmas.Bool.{and_parts, and_from}
+use Rattle.std.proofs.lemmas.Bool.{and_parts}
 use Rattle.std.proofs.lemmas.Bool.Decides.{nat_tests}
 use Rattle.std.proofs.lemmas.List.Elements.{All-contains}
 use Rattle.std.proofs.lemmas.List.Kept.{AllPairs-from_increasing}
 use Rattle.std.proofs.lemmas.List.Sums.{sum_by-cons}
 use Rattle.tetri_strl.specs.declared.expr.Leaf.{Leaf}
 use Rattle.tetri_strl.specs.declared.grants.Grant.{Grant}
-use Rattle.tetri_strl.specs.Aligned.{EachLeaf}
 use Rattle.tetri_strl.specs.Prune.{GrantsOnlyIn, starts_in, pruned, worth_kept}
 use Rattle.tetri_strl.specs.Thrifty.{IsThrifty, IsThriftyFor, held_leaves}
 use Rattle.tetri_strl.specs.Tree.{Tree, leaves}
 use Rattle.tetri_strl.specs.Trim.{earns, idle, trimmed}
-use Rattle.tetri_strl.specs.WellMade.{IsGoodLeaf}
 use Rattle.tetri_strl.specs.Worth.{granted, leaf_worth, worth_of}
-use Rattle.tetri_strl.proofs.PartsApart.{AreApart, apart_of_pairs}
+use Rattle.tetri_strl.proofs.PartsApart.{apart_of_pairs}
 use Rattle.tetri_strl.proofs.PruneLemmas.{each_nothing, pruned_keeps_worth}
 use Rattle.tetri_strl.proofs.TrimThrift.{trimmed_thrifty}
 use Rattle.tetri_strl.proofs.TrimWorth.{trimmed_worth}
 use Rattle.tetri_strl.proofs.WorthLemmas.{EachLeaf-from}
 use Rattle.tetri_space.specs.Free.{IsFree}
-use Rattle.tetri_space.specs.Lawful.{HasRightNodes, MayBeGranted, IsLawfulGrant, IsLawful, NoCommonSlot}
+use Rattle.tetri_space.specs.Lawful.{HasRightNodes, MayBeGranted, IsLawfulGrant, IsLawful}
 use Rattle.tetri_space.specs.Lawful.{AreApart as GrantsApart}
-use Rattle.tetri_space.specs.Lists.{sum_of, has, Each, EachPair, Ascends}
+use Rattle.tetri_space.specs.Lists.{has, Each, EachPair, Ascends}
 use Rattle.tetri_space.specs.Partitions.{with_left, bids_left, live_bids, asked, partitions, set_at, is_free}
 use Rattle.tetri_space.specs.Sound.{IsSoundBid, IsSound}
-use Rattle.tetri_space.specs.Space.{Bid, Space, leaf_in, IsLive, Covers}
+use Rattle.tetri_space.specs.Space.{Bid, Space, leaf_in, Covers}
 use Rattle.tetri_space.specs.Total.{bid_worth, total_in}
 use Rattle.tetri_space.proofs.FreeLemmas.{free_decides}
-use Rattle.tetri_space.proofs.LawLemmas.{granted_right, dead_granted}
+use Rattle.tetri_space.proofs.LawLemmas.{dead_granted}
 use Rattle.tetri_space.proofs.LeafLemmas.{find-by_key, leaf_in-found}
-use Rattle.tetri_space.proofs.ListLemmas.{eq_from_test, test_from_eq, Each-map, Each-all, Each-at, Each-from, EachPair-from, EachPair-with, any_from, sum_of-filter-le}
+use Rattle.tetri_space.proofs.ListLemmas.{eq_from_test, test_from_eq, Each-all, Each-at, Each-from, EachPair-from, EachPair-with, any_from, sum_of-filter-le}
 use Rattle.tetri_space.proofs.PartitionLemmas.{covered}
 use Rattle.tetri_space.proofs.PrunedLemmas.{IsLeftOf, each_left_of, OfLeft, AreFrom, IsGood, OtherJob, asked_has, left_leaves, lefts_good, lefts_jobs}
 use Rattle.tetri_compile.specs.Allotted.{suits, earning, trimmed_for}
-use Rattle.tetri_compile.proofs.FairLemmas.{IsRightFor, IsKept, IsFair, HoldsApart, worth_of_bids, granted_total, lt_from_test, le_from_test}
+use Rattle.tetri_compile.proofs.FairLemmas.{IsRightFor, IsKept, IsFair, HoldsApart, worth_of_bids, granted_total}
 use Rattle.tetri_compile.proofs.ThriftOfLeft.{left_thrifty}
 
 -- ---- tests of what is known

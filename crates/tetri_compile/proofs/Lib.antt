@@ -12,6 +12,7 @@ pub mod GrantLemmas
 pub mod KidLemmas
 pub mod LawLemmas
 pub mod LawfulLemmas
+pub mod ManyJobs
 pub mod OutlineLemmas
 pub mod ProgramLemmas
 pub mod SizeLemmas

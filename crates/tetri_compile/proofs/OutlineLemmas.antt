@@ -1,27 +1,27 @@
 -- Steps of the loops that write an outline.
-use Rattle.std.proofs.Common.{◌≡◌, ℕ, zero, suc, ◌+◌, ◌*◌, ◌<◌, ◌≤◌, ◌&&◌, true, cond, min, List, [], ◌∷◌, ◌++◌, length, get_or, set, map, take, drop, replicate, refl, sym, ap, ◌∙◌, subst, arith}
+use Rattle.std.proofs.Common.{◌≡◌, ℕ, suc, ◌+◌, ◌*◌, ◌<◌, ◌≤◌, ◌&&◌, true, cond, List, [], ◌∷◌, ◌++◌, length, get_or, set, map, take, drop, replicate, refl, sym, ap, ◌∙◌, arith}
 use Rattle.std.specs.Prelude.{nat_le, nat_lt}
 use Rattle.std.proofs.lemmas.Bool.Decides.{nat_tests}
-use Rattle.std.proofs.lemmas.List.{append-nil, append_assoc, map-append, length-append, length-set, drop_more, drop-set-lt, take_more}
+use Rattle.std.proofs.lemmas.List.{append_assoc, map-append, length-append, length-set, drop_more, drop-set-lt, take_more}
 use Rattle.std.proofs.Math.Seq.{take-suc-set}
 use Rattle.tetri_strl.specs.declared.expr.Expr.{Expr}
 use Rattle.tetri_strl.specs.declared.expr.Leaf.{Leaf}
 use Rattle.tetri_strl.specs.Aligned.{EachLeaf}
-use Rattle.tetri_strl.specs.Tree.{Tree, Trees, more, tree, trees}
+use Rattle.tetri_strl.specs.Tree.{Tree, Trees, more, trees}
 use Rattle.tetri_strl.specs.Worth.{leaf_top, top_of}
 use Rattle.tetri_strl.proofs.WorthLemmas.{worth_by-le, EachLeaf-both}
-use Rattle.std.specs.List.{filter, list_all, range_with_len}
-use Rattle.tetri_space.specs.Partitions.{partitions, parts_in, part_at, set_at, ArePartitionsOf, Parts}
+use Rattle.std.specs.List.{list_all, range_with_len}
+use Rattle.tetri_space.specs.Partitions.{parts_in, part_at, set_at}
 use Rattle.tetri_space.specs.Space.{Space}
-use Rattle.tetri_space.specs.Lists.{Each, has}
+use Rattle.tetri_space.specs.Lists.{has}
 use Rattle.tetri_space.proofs.ListLemmas.{Each-get, Each-filter, range_from}
 use Rattle.tetri_compile.specs.declared.outline.Outline.{Outline}
 use Rattle.tetri_compile.specs.declared.outline.Inequality.{Inequality}
 use Rattle.tetri_compile.specs.declared.outline.Share.{Share}
 use Rattle.tetri_compile.specs.declared.outline.Tally.{Tally}
-use Rattle.tetri_compile.specs.Draft.{leaf_tallies, tallies, tallies_of}
+use Rattle.tetri_compile.specs.Draft.{tallies, tallies_of}
 use Rattle.tetri_compile.specs.Forms.{Form, Limit, limit, share, run, times, plain_limit}
-use Rattle.tetri_compile.specs.Walk.{best, ones, uppers, uppers_of, width, form, forms, rows, rows_of, rows_under}
+use Rattle.tetri_compile.specs.Walk.{best, ones, uppers, uppers_of, width, form, forms, rows, rows_of}
 use Rattle.tetri_compile.specs.Walked.{Grows, next_column}
 
 -- one column further in a run

@@ -2,7 +2,6 @@
 use Rattle.std.proofs.Common.{◌≡◌, ℕ, zero, suc, ◌+◌, ◌-◌, ◌*◌, ◌^◌, ◌<◌, ◌≤◌, ◌==◌, ◌&&◌, Bool, true, false, cond, List, [], ◌∷◌, ◌++◌, length, get_or, slice_index_or, map, drop, replicate, refl, sym, ap, true≢false, ◌∙◌, subst, arith}
 use Rattle.std.specs.Prelude.{nat_le, nat_lt}
 use Rattle.std.specs.List.{filter, range_with_len}
-use Rattle.std.proofs.Math.Nat.{mul-le-mul_left}
 use Rattle.std.proofs.lemmas.Bool.{cond_both}
 use Rattle.std.proofs.lemmas.List.{append_assoc, append-nil, drop_more}
 use Rattle.std.specs.Prelude.{unsigned_abs}
@@ -10,9 +9,8 @@ use Rattle.std.proofs.lemmas.Int.{ints, fits_signed_from_abs, to_z-of_z}
 use lib.IntN.{ℤ, pos, ◌-ℤ◌}
 use mir.Syntax.{w128}
 use mir.Val.{to_z, of_z}
-use Rattle.tetri_ip.specs.declared.programs.Term.{Term}
 use Rattle.tetri_strl.specs.WellMade.{PEAK}
-use Rattle.tetri_space.specs.Lists.{Each, sum_of}
+use Rattle.tetri_space.specs.Lists.{Each}
 use Rattle.std.proofs.lemmas.Bool.Decides.{nat_tests}
 use Rattle.tetri_space.proofs.ListLemmas.{eq_from_test, test_from_eq, test_from_ne}
 use Rattle.tetri_compile.specs.declared.outline.Inequality.{Inequality}

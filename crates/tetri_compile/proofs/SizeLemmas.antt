@@ -1,32 +1,23 @@
 -- The size of a program, counted part by part.
-use Rattle.std.proofs.Common.{◌≡◌, ◌⊎◌, ℕ, zero, suc, ◌+◌, ◌*◌, ◌<◌, ◌≤◌, ◌==◌, ◌&&◌, ◌||◌, max, Bool, true, false, cond, List, [], ◌∷◌, ◌++◌, length, get_or, map, take, drop, All, Contains, replicate, refl, sym, ap, ◌∙◌, subst, arith, true≢false, inl, inr, ⊎_elim, le_trans}
-use Rattle.std.specs.Prelude.{nat_le, nat_lt, slice_index_or}
+use Rattle.std.proofs.Common.{◌≡◌, ℕ, zero, suc, ◌+◌, ◌<◌, ◌≤◌, ◌==◌, ◌&&◌, ◌||◌, Bool, true, false, List, [], ◌∷◌, ◌++◌, length, get_or, map, take, drop, All, Contains, replicate, refl, sym, ap, ◌∙◌, subst, arith, true≢false, ⊎_elim}
+use Rattle.std.specs.Prelude.{slice_index_or}
 use Rattle.std.specs.Bool.{one_answer}
-use Rattle.std.specs.List.{list_any, filter, range_with_len}
-use Rattle.std.proofs.Math.Nat.{mul-le-mul_left}
-use Rattle.std.proofs.lemmas.Bool.{and_parts, and_from, or_cases, or_right}
-use Rattle.std.proofs.lemmas.List.{drop_all, length-append, length-map, get_or-map}
+use Rattle.std.specs.List.{list_any, range_with_len}
+use Rattle.std.proofs.lemmas.Bool.{and_parts, and_from, or_cases}
+use Rattle.std.proofs.lemmas.List.{drop_all, length-map, get_or-map}
 use Rattle.std.proofs.lemmas.List.Elements.{All-contains, Contains-append_left, Contains-append_right}
 use Rattle.std.proofs.lemmas.List.Folds.{list_any-append}
-use Rattle.std.proofs.lemmas.List.FromFn.{length-range_with_len}
-use Rattle.tetri_strl.specs.declared.expr.Expr.{Expr}
 use Rattle.tetri_strl.specs.declared.expr.Leaf.{Leaf}
-use Rattle.tetri_strl.specs.Aligned.{EachLeaf, EachLeafOf}
-use Rattle.tetri_strl.specs.Tree.{Operator, greatest, least, added, Tree, one, join, scale, barrier, Trees, none, more, leaves, leaves_of, tree}
-use Rattle.tetri_strl.specs.WellMade.{IsSound, AreSound, HasChild, depth, depth_of}
+use Rattle.tetri_strl.specs.Aligned.{EachLeaf}
+use Rattle.tetri_strl.specs.Tree.{leaves, tree}
 use Rattle.tetri_strl.proofs.WorthLemmas.{EachLeaf-from}
 use Rattle.tetri_space.specs.declared.instance.Offer.{Offer}
-use Rattle.tetri_space.specs.Lists.{bit, count, has, sum_of, Each}
-use Rattle.tetri_space.specs.Partitions.{Parts, parts_found}
+use Rattle.tetri_space.specs.Lists.{bit, count, has, sum_of}
 use Rattle.tetri_space.specs.Space.{Bid, bid}
 use Rattle.tetri_space.proofs.BidLemmas.{next_bid}
 use Rattle.tetri_space.proofs.GroupLemmas.{range_next, range_push}
-use Rattle.tetri_space.proofs.ListLemmas.{eq_from_test, test_from_eq, any_from, sum_of-append, sum_of-eq, sum_of-swap, Each-all, Each-from, range_from, range_contains}
-use Rattle.tetri_compile.specs.declared.outline.Tally.{Tally}
-use Rattle.tetri_compile.specs.Draft.{leaf_tallies, is_held, supply_row, tallies, tallies_of, bid_uppers, bid_rows, bid_tallies, part_supply, supply}
-use Rattle.tetri_compile.specs.Forms.{Limit}
-use Rattle.tetri_compile.specs.Sizes.{width_by, widths_by, widths_marked, row_total, row_totals, row_totals_under, covers, leaves_in, is_used, IsUsable, HasUsableParts}
-use Rattle.tetri_compile.specs.Walk.{ones, own_uppers, uppers, uppers_of, width, rows, rows_of, rows_under, leaf_rows}
+use Rattle.tetri_space.proofs.ListLemmas.{eq_from_test, test_from_eq, any_from, sum_of-append, sum_of-eq, Each-all, range_contains}
+use Rattle.tetri_compile.specs.Sizes.{covers, leaves_in, is_used}
 
 -- ---- the leaves of bids, one bid after another
 pub leaves_next : (os : List Offer) (i : ℕ) (o : Offer) → i < length os → o ≡ get_or os i o →

@@ -1,23 +1,21 @@
 -- The forms and limits of a program have few and small numbers.
-use Rattle.std.proofs.Common.{◌≡◌, ℕ, zero, suc, ◌+◌, ◌*◌, ◌/◌, ◌<◌, ◌≤◌, ◌==◌, max, min, Bool, true, false, cond, List, [], ◌∷◌, ◌++◌, length, get_or, map, refl, sym, ap, ◌∙◌, subst, arith, le_trans}
-use Rattle.std.specs.Prelude.{if◌then◌else◌}
+use Rattle.std.proofs.Common.{◌≡◌, ℕ, zero, suc, ◌+◌, ◌/◌, ◌<◌, ◌≤◌, ◌==◌, min, Bool, List, [], ◌∷◌, length, get_or, map, refl, ap, arith, le_trans}
 use Rattle.std.specs.List.{filter, range_with_len}
 use Rattle.std.proofs.lemmas.Bool.{cond_both}
 use Rattle.std.proofs.lemmas.List.{length-append, length-map}
 use Rattle.std.proofs.lemmas.List.FromFn.{length-range_with_len}
 use Rattle.tetri_strl.specs.declared.expr.Leaf.{Leaf}
-use Rattle.tetri_strl.specs.Tree.{Operator, greatest, least, added, Tree, one, join, scale, barrier, Trees, none, more}
-use Rattle.tetri_strl.specs.WellMade.{peak, PEAK, IsGoodLeaf, IsSound, AreSound}
-use Rattle.tetri_space.specs.Lists.{Each, bit, count, sum_of}
+use Rattle.tetri_strl.specs.Tree.{greatest, least, added, Tree, one, join, scale, barrier, Trees, none, more}
+use Rattle.tetri_strl.specs.WellMade.{peak, PEAK, IsSound, AreSound}
+use Rattle.tetri_space.specs.Lists.{Each, count}
 use Rattle.tetri_space.specs.Partitions.{alike, asked, available, is_free, leads, live_bids, part_at, partitions}
 use Rattle.tetri_space.specs.Sound.{IsSound as IsSoundSpace}
 use Rattle.tetri_space.specs.Space.{Bid, Space}
 use Rattle.tetri_space.proofs.ListLemmas.{Each-append, Each-filter, Each-map, bit-le}
 use Rattle.tetri_space.proofs.PartsLemmas.{filter_shorter}
-use Rattle.tetri_compile.specs.declared.outline.Share.{Share}
 use Rattle.tetri_compile.specs.declared.outline.Tally.{Tally}
 use Rattle.tetri_compile.specs.Draft.{bid_rows, bid_tallies, bid_uppers, is_held, leaf_tallies, objective, part_supply, supply, supply_row, tallies, tallies_of, tally_form}
-use Rattle.tetri_compile.specs.Forms.{Form, Limit, limit, run, share, times}
+use Rattle.tetri_compile.specs.Forms.{Form, limit, run, share, times}
 use Rattle.tetri_compile.specs.Small.{IsSmallForm, IsSmallLimit}
 use Rattle.tetri_compile.specs.Walk.{best, form, forms, ones, own_uppers, rows, rows_of, rows_under, uppers, uppers_of, width}
 use Rattle.tetri_compile.proofs.FormSizes.{form_in, form_small, run_in, run_small}

@@ -1,23 +1,20 @@
 -- The count columns of a walk: what they are at the point, and that no two count the same.
-use Rattle.std.proofs.Common.{◌≡◌, ◌≢◌, ◌⊎◌, ℕ, zero, suc, ◌+◌, ◌*◌, ◌<◌, ◌≤◌, ◌==◌, ◌&&◌, min, Bool, true, false, cond, List, [], ◌∷◌, ◌++◌, length, get_or, map, Contains, refl, sym, ap, ◌∙◌, subst, arith, true≢false, inl, inr, ⊎_elim, le_trans}
-use Rattle.std.specs.List.{list_any, list_all, filter, range_with_len}
-use Rattle.std.proofs.lemmas.Bool.{cond_both, cases_Bool, and_parts, or_cases}
+use Rattle.std.proofs.Common.{◌≡◌, ℕ, zero, suc, ◌+◌, ◌<◌, List, [], ◌∷◌, ◌++◌, length, map, Contains, refl, sym, ap, subst, arith, ⊎_elim}
 use Rattle.std.proofs.lemmas.List.Elements.{Contains-append_left, Contains-append_right, Contains-append_cases}
 use Rattle.tetri_strl.specs.declared.expr.Leaf.{Leaf}
-use Rattle.tetri_strl.specs.Tree.{Operator, greatest, least, added, Tree, one, join, scale, barrier, Trees, none, more}
+use Rattle.tetri_strl.specs.Tree.{Tree, one, join, scale, barrier, Trees, none, more}
 use Rattle.tetri_strl.specs.Tree.{numbers, numbers_of}
 use Rattle.tetri_strl.specs.Tree.{leaves, leaves_of}
 use Rattle.tetri_compile.specs.declared.outline.Tally.{Tally}
-use Rattle.tetri_compile.specs.Draft.{leaf_tallies, is_held, tally_form, tallies, tallies_of, bid_tallies}
-use Rattle.tetri_space.specs.Lists.{sum_of, bit, count, has, Each, EachPair, Ascends}
-use Rattle.tetri_compile.specs.Marks.{mark, own_values, values, values_of}
-use Rattle.tetri_compile.specs.Forms.{share, at_point, Reads}
-use Rattle.tetri_space.specs.Space.{Bid, Space}
-use Rattle.tetri_compile.specs.Walk.{own_uppers, uppers, width}
+use Rattle.tetri_compile.specs.Draft.{leaf_tallies, tallies, tallies_of}
+use Rattle.tetri_space.specs.Lists.{Each, EachPair, Ascends}
+use Rattle.tetri_compile.specs.Marks.{own_values, values, values_of}
+use Rattle.tetri_compile.specs.Forms.{Reads}
+use Rattle.tetri_compile.specs.Walk.{own_uppers, width}
 use Rattle.tetri_strl.proofs.PartsApart.{AreApart, AreApartOf}
 use Rattle.tetri_compile.proofs.WalkLemmas.{length-own, length-values}
 use Rattle.tetri_compile.proofs.FormLemmas.{Reads-split}
-use Rattle.tetri_space.proofs.ListLemmas.{EachPair-append, Each-across, Each-from, Each-map, Each-all, Each-append, Each-filter}
+use Rattle.tetri_space.proofs.ListLemmas.{EachPair-append, Each-across, Each-from, Each-map, Each-append}
 
 -- a leaf's number is among the numbers
 mutual

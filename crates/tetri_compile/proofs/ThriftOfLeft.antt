@@ -1,13 +1,13 @@
 -- What is left of an expression in a range of slots is thrifty where the whole is.
-use Rattle.std.proofs.Common.{◌≡◌, ◌⊎◌, ℕ, Bool, true, false, cond, List, [], ◌∷◌, Option, Some, None, Contains, inl, inr, refl, sym, ap, ◌∙◌}
+use Rattle.std.proofs.Common.{◌≡◌, ℕ, Bool, true, false, cond, List, ◌∷◌, Option, Some, None, inl, inr, sym, ◌∙◌}
 use Rattle.tetri_strl.specs.declared.expr.Leaf.{Leaf}
 use Rattle.tetri_strl.specs.Aligned.{EachLeaf, EachLeafOf}
 use Rattle.tetri_strl.specs.Prune.{starts_in, kept, pruned, pruned_of, worth_kept}
 use Rattle.tetri_strl.specs.Thrifty.{IsBare, AtMostOne, MeetsOne, IsThrifty, AreThrifty}
 use Rattle.tetri_strl.specs.Tree.{Operator, greatest, least, added, Tree, one, join, scale, barrier, Trees, none, more, row, numbers, numbers_of}
-use Rattle.tetri_strl.specs.Worth.{worth_by, worths_by}
+use Rattle.tetri_strl.specs.Worth.{worth_by}
 use Rattle.tetri_strl.proofs.PruneLemmas.{IsNothing, pruned_worth}
-use Rattle.tetri_strl.proofs.ThriftyLemmas.{left_bare, right_bare}
+use Rattle.tetri_strl.proofs.ThriftyLemmas.{right_bare}
 use Rattle.tetri_space.proofs.PrunedLemmas.{OfLeft, of_join, of_scale, of_bar, AreIn, left_numbers, left_numbers_of}
 
 of_worth : (value : Leaf → ℕ) (w : ℕ) (o : Option Tree) → worth_kept value o ≡ w → OfLeft (λ u. worth_by value u ≡ w) o

@@ -1,5 +1,5 @@
 -- The point of an allotment meets the rows of a walk, and its form is at least the worth.
-use Rattle.std.proofs.Common.{◌≡◌, ℕ, zero, suc, ◌+◌, ◌*◌, ◌/◌, ◌<◌, ◌≤◌, ◌==◌, min, max, Bool, true, false, cond, nat_le, List, [], ◌∷◌, ◌++◌, length, map, Contains, refl, sym, ap, ◌∙◌, subst, arith, le_trans, inl, inr, ⊎_elim}
+use Rattle.std.proofs.Common.{◌≡◌, ℕ, zero, suc, ◌+◌, ◌*◌, ◌/◌, ◌≤◌, ◌==◌, min, Bool, true, false, cond, nat_le, List, [], ◌∷◌, ◌++◌, length, map, refl, sym, ap, ◌∙◌, subst, arith, le_trans, inl, inr}
 use Rattle.std.proofs.Math.Nat.{mul-zero, mul-le-mul_left}
 use Rattle.std.specs.Prelude.{if◌then◌else◌}
 use Rattle.std.proofs.lemmas.List.{length-map, length-append}
@@ -7,7 +7,7 @@ use Rattle.std.proofs.lemmas.List.Elements.{Contains-append_left, Contains-appen
 use Rattle.std.proofs.lemmas.Bool.Decides.{nat_tests}
 use Rattle.tetri_strl.specs.declared.expr.Leaf.{Leaf}
 use Rattle.tetri_strl.specs.Aligned.{EachLeaf, EachLeafOf}
-use Rattle.tetri_strl.specs.Thrifty.{IsBare, AtMostOne, MeetsOne, IsThrifty, AreThrifty}
+use Rattle.tetri_strl.specs.Thrifty.{IsBare, AtMostOne, IsThrifty, AreThrifty}
 use Rattle.tetri_strl.specs.Tree.{Operator, greatest, least, added, Tree, one, join, scale, barrier, Trees, none, more}
 use Rattle.tetri_strl.specs.Tree.{numbers, numbers_of}
 use Rattle.tetri_strl.specs.WellMade.{IsGoodLeaf}
@@ -15,9 +15,8 @@ use Rattle.tetri_strl.specs.Worth.{worth_at, joined, greatest_of, least_of, leas
 use Rattle.tetri_strl.proofs.WorthLemmas.{worth_at-none, worth_at_le, worth_by-le, EachLeaf-both}
 use Rattle.tetri_compile.specs.Marks.{mark, own_values, values, values_of}
 use Rattle.tetri_space.specs.Lists.{sum_of}
-use Rattle.tetri_compile.specs.declared.outline.Share.{Share}
-use Rattle.tetri_compile.specs.Forms.{share, Form, at_point, times, run, Limit, limit, IsMet, AreMet, Reads}
-use Rattle.tetri_compile.specs.Walk.{ones, best, own_uppers, uppers, uppers_of, width, form, forms, leaf_rows, rows, rows_of, rows_under}
+use Rattle.tetri_compile.specs.Forms.{share, at_point, run, limit, AreMet, Reads}
+use Rattle.tetri_compile.specs.Walk.{ones, best, own_uppers, uppers, uppers_of, width, form, forms, rows, rows_of, rows_under}
 use Rattle.tetri_compile.proofs.FormLemmas.{at_point-append, at_point-times, at_point-run, run-reads, Reads-split, AreMet-append}
 
 pub mark-le : (n : ℕ) → mark n ≤ 1

@@ -1,12 +1,12 @@
 -- The program of a list of bids, by forms and limits, and the columns that count nodes.
-use Rattle.std.specs.Prelude.{ℕ, ◌+◌, Bool, ◌&&◌, ◌==◌, nat_lt, nat_le, List, [], ◌∷◌, ◌++◌, map, length}
+use Rattle.std.specs.Prelude.{ℕ, ◌+◌, Bool, ◌&&◌, ◌==◌, nat_lt, nat_le, List, [], ◌∷◌, ◌++◌, length}
 use Rattle.std.specs.List.{filter, range_with_len}
 use Rattle.tetri_strl.specs.declared.expr.Leaf.{Leaf}
-use Rattle.tetri_strl.specs.Tree.{Operator, greatest, least, added, Tree, one, join, scale, barrier, Trees, none, more}
+use Rattle.tetri_strl.specs.Tree.{Tree, one, join, scale, barrier, Trees, none, more}
 use Rattle.tetri_space.specs.Space.{Bid, Space}
 use Rattle.tetri_space.specs.Partitions.{live_bids, partitions, parts_in, available}
 use Rattle.tetri_compile.specs.declared.outline.Tally.{Tally}
-use Rattle.tetri_compile.specs.Forms.{Form, share, Limit, run}
+use Rattle.tetri_compile.specs.Forms.{Form, share, Limit}
 use Rattle.tetri_compile.specs.Walk.{own_uppers, uppers, width, form, rows}
 
 -- the columns that count the nodes of a leaf by partition, from number n on

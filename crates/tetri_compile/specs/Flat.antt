@@ -1,5 +1,5 @@
 -- The program of an instance as whole numbers by column.
-use Rattle.std.specs.Prelude.{◌≡◌, ℕ, ◌+◌, ◌==◌, if◌then◌else◌, List, [], ◌∷◌, length, map, ◌-ℤ◌, pos}
+use Rattle.std.specs.Prelude.{◌≡◌, ℕ, ◌==◌, if◌then◌else◌, List, [], ◌∷◌, length, map, ◌-ℤ◌, pos}
 use Rattle.std.specs.List.{range_with_len}
 use lib.IntN.{ℤ}
 use Rattle.tetri_ip.specs.declared.programs.Program.{Program}

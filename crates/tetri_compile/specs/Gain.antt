@@ -1,7 +1,6 @@
 -- The most that the columns of a program can earn.
 use Rattle.std.specs.Prelude.{ℕ, ◌*◌, if◌then◌else◌, length, pos, unsigned_abs}
 use Rattle.std.specs.List.{range_with_len}
-use lib.IntN.{ℤ}
 use lib.Signed.{lt_z}
 use Rattle.tetri_ip.specs.declared.programs.Program.{Program}
 use Rattle.tetri_ip.specs.Points.{number_at}

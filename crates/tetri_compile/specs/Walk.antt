@@ -2,8 +2,7 @@
 use Rattle.std.specs.Prelude.{ℕ, ◌+◌, ◌/◌, ◌==◌, min, if◌then◌else◌, List, [], ◌∷◌, ◌++◌, map, length}
 use Rattle.tetri_strl.specs.declared.expr.Leaf.{Leaf}
 use Rattle.tetri_strl.specs.Tree.{Operator, greatest, least, added, Tree, one, join, scale, barrier, Trees, none, more}
-use Rattle.tetri_strl.specs.Worth.{worth_by, worths_by}
-use Rattle.tetri_compile.specs.declared.outline.Share.{Share}
+use Rattle.tetri_strl.specs.Worth.{worth_by}
 use Rattle.tetri_compile.specs.Forms.{share, Form, times, run, Limit, limit}
 
 -- a list of a one for each tree

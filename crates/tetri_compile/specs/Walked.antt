@@ -1,17 +1,14 @@
 -- What a walk adds to an outline.
-use Rattle.std.specs.Prelude.{◌≡◌, ℕ, ◌+◌, ◌<◌, ◌≤◌, List, [], ◌∷◌, ◌++◌, length, map}
+use Rattle.std.specs.Prelude.{◌≡◌, ℕ, ◌<◌, List, ◌++◌, length, map}
 use Rattle.tetri_strl.specs.declared.expr.Leaf.{Leaf}
-use Rattle.tetri_strl.specs.Aligned.{EachLeaf}
-use Rattle.tetri_strl.specs.Prune.{starts_in}
 use Rattle.tetri_strl.specs.Tree.{Tree, Trees}
 use Rattle.tetri_space.specs.Partitions.{Parts, parts_found, parts_in, partitions, available}
 use Rattle.tetri_space.specs.Space.{Space, IsLive}
 use Rattle.tetri_compile.specs.declared.outline.Outline.{Outline}
-use Rattle.tetri_compile.specs.declared.outline.Share.{Share}
 use Rattle.tetri_compile.specs.declared.outline.Tally.{Tally}
-use Rattle.tetri_compile.specs.Draft.{leaf_tallies, tallies, tallies_of}
+use Rattle.tetri_compile.specs.Draft.{tallies, tallies_of}
 use Rattle.tetri_compile.specs.Forms.{Form, Limit, plain_limit}
-use Rattle.tetri_compile.specs.Walk.{uppers, uppers_of, form, forms, rows, rows_of, rows_under, leaf_rows}
+use Rattle.tetri_compile.specs.Walk.{uppers, uppers_of, form, forms, rows, rows_of}
 
 -- the outline grew by these columns, rows and tallies
 pub record Grows (old new : Outline) (us : List ℕ) (rs : List Limit) (cs : List Tally) : Type 0 where

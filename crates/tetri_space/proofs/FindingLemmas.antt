@@ -1,27 +1,26 @@
 -- Steps of the loops that find the partitions.
-use Rattle.std.proofs.Common.{add-one, bytes_eq, length-drop, ◌≡◌, ◌⊎◌, ℕ, zero, suc, ◌+◌, ◌<◌, ◌≤◌, ◌==◌, ◌&&◌, ◌||◌, not, Bool, true, false, cond, List, [], ◌∷◌, ◌++◌, length, map, get_or, set, drop, All, Contains, Vec, Global, Option, Some, None, refl, sym, ap, ◌∙◌, subst, arith, true≢false, inl, inr, ⊎_elim}
+use Rattle.std.proofs.Common.{bytes_eq, length-drop, ◌≡◌, ℕ, suc, ◌+◌, ◌<◌, ◌==◌, ◌&&◌, ◌||◌, Bool, true, false, cond, List, [], ◌∷◌, ◌++◌, length, map, get_or, set, drop, All, Contains, Vec, Global, Some, None, refl, sym, ap, ◌∙◌, arith, true≢false, inl, inr}
 use Rattle.std.specs.List.{list_any, filter, position, range_with_len}
 use Rattle.std.proofs.lemmas.List.Quantifiers.{position-Some}
 use Rattle.std.proofs.lemmas.Slice.Eq.{bytes_eq-Decides}
 use Rattle.std.specs.Bool.{one_answer}
 use Rattle.tetri_cluster.proofs.NameTables.{list_any_map, position_map}
 use Rattle.std.specs.List.Sorted.{IsStrictlyIncreasing}
-use Rattle.std.specs.Option.{option_map}
-use Rattle.std.proofs.lemmas.Bool.{cases_eq, eq-eqb, ne_eqb, cond_both, and_parts}
+use Rattle.std.proofs.lemmas.Bool.{cases_eq, eq-eqb, ne_eqb}
 use Rattle.std.proofs.lemmas.List.{append-nil, append_assoc, map-append, length-map, get_or-map, get_or_default, get_or-drop, get_or-set_same, get_or-set_other, map-set, drop_more}
 use Rattle.std.proofs.lemmas.List.Elements.{All-contains, filter-append}
 use Rattle.std.proofs.lemmas.List.Folds.{list_any-append}
 use Rattle.std.proofs.lemmas.List.Kept.{AllPairs-from_increasing}
 use Rattle.tetri_strl.specs.declared.expr.Expr.{Expr}
 use Rattle.tetri_strl.specs.declared.expr.Leaf.{Leaf}
-use Rattle.tetri_strl.specs.Tree.{Tree, Trees, more, leaves, leaves_of, tree, trees}
+use Rattle.tetri_strl.specs.Tree.{leaves, tree}
 use Rattle.tetri_strl.specs.Prune.{pruned}
 use Rattle.tetri_strl.specs.Aligned.{EachLeaf}
 use Rattle.tetri_strl.proofs.WorthLemmas.{EachLeaf-from}
 use Rattle.tetri_space.specs.Finding.{has_some, firsts, grouped, list_at}
-use Rattle.tetri_space.specs.Lists.{has, Each, EachPair}
+use Rattle.tetri_space.specs.Lists.{has, Each}
 use Rattle.tetri_space.specs.Partitions.{with_left, bids_left, sets_in}
-use Rattle.tetri_space.specs.Space.{Bid, bid}
+use Rattle.tetri_space.specs.Space.{bid}
 use Rattle.tetri_space.specs.declared.instance.Offer.{Offer}
 use Rattle.tetri_space.proofs.BidLemmas.{next_bid}
 use Rattle.tetri_space.proofs.GroupLemmas.{range_next, group_empty, group_joined, group_new}

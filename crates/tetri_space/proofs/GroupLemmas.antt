@@ -1,14 +1,14 @@
 -- Nodes that are grouped by their signatures one after another.
-use Rattle.std.proofs.Common.{◌≡◌, ◌⊎◌, ℕ, zero, suc, ◌+◌, ◌<◌, ◌≤◌, ◌==◌, ◌&&◌, ◌||◌, not, Bool, true, false, cond, List, [], ◌∷◌, ◌++◌, length, map, get_or, set, Contains, bytes_eq, refl, sym, ap, ◌∙◌, subst, arith, true≢false, inl, inr, ⊎_elim}
+use Rattle.std.proofs.Common.{◌≡◌, ℕ, zero, suc, ◌+◌, ◌<◌, ◌&&◌, ◌||◌, not, Bool, true, false, cond, List, [], ◌∷◌, ◌++◌, length, map, get_or, set, bytes_eq, refl, sym, ap, ◌∙◌, subst, arith, true≢false}
 use Rattle.std.specs.List.{list_any, filter, range_with_len}
-use Rattle.std.proofs.lemmas.Bool.{cond_both, and_parts, and_from, or_right, cases_Bool, false_from_ne_true, or_cases}
-use Rattle.std.proofs.lemmas.List.{append-nil, map-append, length-map, get_or-map, get_or_default}
-use Rattle.std.proofs.lemmas.List.Elements.{filter-append, Contains-append_cases, Contains-append_left, Contains-append_right}
+use Rattle.std.proofs.lemmas.Bool.{and_parts, and_from, false_from_ne_true}
+use Rattle.std.proofs.lemmas.List.{append-nil, map-append, get_or_default}
+use Rattle.std.proofs.lemmas.List.Elements.{filter-append}
 use Rattle.std.proofs.lemmas.List.Folds.{list_any-append}
 use Rattle.std.proofs.lemmas.Slice.Eq.{bytes_eq-Decides}
 use Rattle.tetri_space.specs.Lists.{Each, EachPair}
 use Rattle.tetri_space.specs.Finding.{has_some, is_first, firsts, grouped}
-use Rattle.tetri_space.proofs.ListLemmas.{any_from, Each-get, Each-map, Each-append, Each-at, Each-from, EachPair-append, Each-passed, Each-filter, range_from}
+use Rattle.tetri_space.proofs.ListLemmas.{any_from, Each-get, Each-map, Each-from, EachPair-append, Each-passed, Each-filter}
 
 pub range_push : (a n : ℕ) → range_with_len a (suc n) ≡ range_with_len a n ++ (a + n) ∷ []
 range_push a zero = ap (λ k. k ∷ []) (omega arith)

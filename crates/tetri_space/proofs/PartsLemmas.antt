@@ -1,10 +1,10 @@
 -- The groups of nodes by signature are the partitions.
-use Rattle.std.proofs.Common.{◌≡◌, ◌⊎◌, ℕ, zero, suc, ◌+◌, ◌<◌, ◌≤◌, ◌==◌, ◌&&◌, ◌||◌, not, Bool, true, false, cond, List, [], ◌∷◌, ◌++◌, length, map, get_or, All, Contains, Vec, Global, bytes_eq, slice_index_or, refl, sym, ap, ◌∙◌, subst, arith, true≢false, inl, inr, ⊎_elim}
+use Rattle.std.proofs.Common.{◌≡◌, ℕ, zero, suc, ◌+◌, ◌<◌, ◌≤◌, ◌==◌, ◌&&◌, ◌||◌, not, Bool, true, false, cond, List, [], ◌∷◌, length, map, get_or, All, Contains, Vec, Global, bytes_eq, slice_index_or, refl, sym, ap, ◌∙◌, subst, arith, true≢false, ⊎_elim}
 use Rattle.std.specs.Prelude.{nat_lt}
-use Rattle.std.specs.Bool.{Decides, one_answer}
+use Rattle.std.specs.Bool.{one_answer}
 use Rattle.std.specs.List.{list_any, list_all, filter, range_with_len}
 use Rattle.std.specs.List.Sorted.{IsStrictlyIncreasing}
-use Rattle.std.proofs.lemmas.Bool.{and_parts, and_from, or_cases, cases_Bool, cases_lt}
+use Rattle.std.proofs.lemmas.Bool.{and_parts, or_cases, cases_lt}
 use Rattle.std.proofs.lemmas.Bool.Decides.{nat_tests}
 use Rattle.std.proofs.lemmas.List.{length-map, get_or-map, get_or_default}
 use Rattle.std.proofs.lemmas.List.Elements.{All-contains, Contains-append_cases}
@@ -20,8 +20,8 @@ use Rattle.tetri_space.specs.Partitions.{live_bids, sets_in, asked, alike, leads
 use Rattle.tetri_space.specs.Sound.{IsSound, IsSoundBid, HasKnownSet}
 use Rattle.tetri_space.specs.Space.{Bid, Space}
 use Rattle.tetri_space.proofs.GroupLemmas.{filter-same, map-same, range_next}
-use Rattle.tetri_space.proofs.ListLemmas.{Each-filter, Each-map, Each-at, Each-from, Each-passed, all_from, from_all, any_from, has-filter, has-range, range_contains, range_from, eq_from_test, test_from_eq}
-use Rattle.tetri_space.proofs.PrunedLemmas.{IsLeafOf, AllLeavesOf, lefts_leaves, in_map}
+use Rattle.tetri_space.proofs.ListLemmas.{Each-filter, Each-at, Each-from, all_from, from_all, any_from, has-filter, has-range, range_from, eq_from_test, test_from_eq}
+use Rattle.tetri_space.proofs.PrunedLemmas.{AllLeavesOf, lefts_leaves, in_map}
 
 -- ---- the sets of the live leaves are known
 contains_from : (ns : List ℕ) (n : ℕ) → has ns n ≡ true → Contains ns n

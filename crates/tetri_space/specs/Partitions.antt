@@ -1,7 +1,6 @@
 -- Groups of nodes that the live leaves cannot tell apart, and how many of their nodes are free.
 use Rattle.std.specs.Prelude.{◌≡◌, ℕ, ◌+◌, ◌<◌, Bool, true, ◌&&◌, not, nat_lt, nat_le, List, [], ◌∷◌, ◌++◌, map, length, slice_index_or, Contains, Option, Some, None}
 use Rattle.std.specs.List.{list_any, list_all, filter, range_with_len}
-use Rattle.tetri_strl.specs.declared.expr.Leaf.{Leaf}
 use Rattle.tetri_strl.specs.Prune.{pruned}
 use Rattle.tetri_strl.specs.Tree.{Tree, leaves}
 use Rattle.tetri_space.specs.Lists.{has, same, count}

@@ -1,4 +1,4 @@
-use Rattle.std.proofs.Common.{◌≡◌, ℕ, All, List, length, map, refl, sym, ap, ◌∙◌, subst}
+use Rattle.std.proofs.Common.{◌≡◌, All, List, length, map, refl, sym, ap, ◌∙◌, subst}
 use Rattle.std.specs.Prelude.{pos}
 use lib.IntN.{ℤ}
 use Rattle.tetri_space.specs.Lists.{Each}

@@ -1,5 +1,4 @@
-use Rattle.std.proofs.Common.{◌≡◌, ◌+◌, ◌<◌, ◌^◌, ℕ, List, replicate, slice_index_or, sym, ap, ◌∙◌, arith}
-use Rattle.tetri_compile.specs.Flat.{coefficient}
+use Rattle.std.proofs.Common.{ℕ, List, slice_index_or, ap, ◌∙◌, arith}
 use Rattle.tetri_compile.proofs.ProgramLemmas.{coefficient_small, none_at}
 use Rattle.tetri_compile.proofs.flattening.numbers_of.Goals as goal
 

@@ -1,5 +1,5 @@
-use Rattle.std.proofs.Common.{◌≡◌, sym, subst}
-use Rattle.tetri_compile.specs.Small.{IsSmallForm, IsSmallLimit}
+use Rattle.std.proofs.Common.{sym, subst}
+use Rattle.tetri_compile.specs.Small.{IsSmallForm}
 use Rattle.tetri_compile.proofs.ProgramLemmas.{small_at}
 use Rattle.tetri_compile.proofs.flattening.rows_from.Goals as goal
 

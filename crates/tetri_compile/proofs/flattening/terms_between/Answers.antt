@@ -1,10 +1,10 @@
-use Rattle.std.proofs.Common.{◌≡◌, ◌+◌, ◌-◌, ◌<◌, ◌++◌, ◌∷◌, [], ℕ, List, length, Vec, Global, sym, ap, ◌∙◌, arith}
+use Rattle.std.proofs.Common.{◌≡◌, ◌+◌, ◌-◌, ◌<◌, ◌++◌, ◌∷◌, ℕ, List, length, Vec, Global, sym, ap, ◌∙◌, arith}
 use Rattle.std.specs.List.{range_with_len}
 use Rattle.std.proofs.lemmas.List.{append_assoc, get_or_default}
-use lib.IntN.{ℤ, pos, ◌-ℤ◌}
+use lib.IntN.{ℤ, pos}
 use Rattle.tetri_ip.specs.declared.programs.Term.{Term}
 use Rattle.tetri_compile.specs.Flat.{coefficient, terms_at}
-use Rattle.tetri_compile.proofs.ProgramLemmas.{range_more, terms_skip, terms_keep, coefficient_small, term_made}
+use Rattle.tetri_compile.proofs.ProgramLemmas.{terms_skip, terms_keep, coefficient_small, term_made}
 use Rattle.tetri_compile.proofs.flattening.terms_between.Goals.{then-index+in_ok-push, else-index}
 use Rattle.tetri_compile.proofs.flattening.terms_between.Goals as goal
 

@@ -1,4 +1,4 @@
-use Rattle.std.proofs.Common.{◌≡◌, ◌+◌, ◌<◌, ◌^◌, ◌==◌, ◌&&◌, ◌||◌, false, length, drop, subst, slice_index_or, ap, sym, ◌∙◌}
+use Rattle.std.proofs.Common.{◌+◌, ◌<◌, ◌^◌, ◌==◌, ◌&&◌, ◌||◌, false, length, drop, subst, slice_index_or, ap, sym, ◌∙◌}
 use Rattle.std.specs.List.{list_any}
 use Rattle.tetri_strl.specs.Aligned.{EachLeafOf}
 use Rattle.tetri_strl.specs.Tree.{trees}

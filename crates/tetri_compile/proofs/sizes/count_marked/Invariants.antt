@@ -1,4 +1,4 @@
-use Rattle.std.proofs.Common.{◌≡◌, ◌+◌, ◌≤◌, ℕ, drop}
+use Rattle.std.proofs.Common.{◌≡◌, ◌+◌, ◌≤◌, drop}
 use Rattle.tetri_space.specs.Lists.{count}
 use Rattle.tetri_compile.proofs.sizes.count_marked.Given as goal
 

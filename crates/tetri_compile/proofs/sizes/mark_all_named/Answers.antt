@@ -1,7 +1,7 @@
-use Rattle.std.proofs.Common.{◌≡◌, ◌+◌, ◌<◌, ◌^◌, ◌==◌, ◌&&◌, All, List, length, map, subst, sym, ap, ◌∙◌}
+use Rattle.std.proofs.Common.{◌+◌, ◌<◌, ◌^◌, ◌==◌, ◌&&◌, All, List, length, subst, sym, ◌∙◌}
 use Rattle.tetri_strl.specs.Aligned.{EachLeaf}
 use Rattle.tetri_strl.specs.Tree.{tree}
-use Rattle.tetri_space.specs.Space.{Bid, bid}
+use Rattle.tetri_space.specs.Space.{Bid}
 use Rattle.tetri_compile.specs.Sizes.{covers, leaves_in}
 use Rattle.tetri_compile.proofs.SizeLemmas.{each_of_offer, any_leaf_next}
 use Rattle.tetri_compile.proofs.sizes.mark_all_named.Goals as goal

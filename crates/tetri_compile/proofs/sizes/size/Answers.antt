@@ -1,10 +1,9 @@
-use Rattle.std.proofs.Common.{◌≡◌, ◌+◌, ◌*◌, ◌<◌, ◌≤◌, All, List, ℕ, length, map, drop, subst, sym, ap, ◌∙◌, arith}
+use Rattle.std.proofs.Common.{◌≡◌, ◌+◌, ◌<◌, ◌≤◌, All, List, length, subst, sym, ap, ◌∙◌, arith}
 use Rattle.std.proofs.lemmas.List.{length-map}
-use Rattle.tetri_strl.specs.Tree.{tree}
 use Rattle.tetri_space.specs.Lists.{sum_of}
 use Rattle.tetri_space.specs.Partitions.{parts_found, parts_of}
-use Rattle.tetri_space.specs.Space.{Bid, bid, space}
-use Rattle.tetri_compile.specs.Sizes.{HasUsableParts, leaves_in, row_total, width_by}
+use Rattle.tetri_space.specs.Space.{Bid, space}
+use Rattle.tetri_compile.specs.Sizes.{leaves_in, row_total, width_by}
 use Rattle.tetri_compile.proofs.SizeLemmas.{each_of_offer, sum_next, sum_end}
 use Rattle.tetri_compile.proofs.WidthLemmas.{usable, columns_counted, columns_small, rows_counted, rows_small}
 use Rattle.tetri_compile.proofs.sizes.size.Goals as goal

@@ -1,4 +1,4 @@
-use Rattle.std.proofs.Common.{◌≡◌, ◌+◌, ◌-◌, ◌*◌, ◌≤◌, length}
+use Rattle.std.proofs.Common.{◌≡◌, ◌-◌, ◌*◌, ◌≤◌, length}
 use Rattle.std.specs.List.{range_with_len}
 use Rattle.tetri_space.specs.Lists.{count, sum_of}
 use Rattle.tetri_space.specs.Partitions.{parts_found, parts_of}

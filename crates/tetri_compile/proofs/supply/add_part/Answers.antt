@@ -1,10 +1,9 @@
-use Rattle.std.proofs.Common.{◌≡◌, ◌+◌, ◌-◌, ◌≤◌, ◌==◌, ◌++◌, List, [], map, sym, ap, ◌∙◌, arith}
-use Rattle.std.specs.List.{filter, range_with_len}
+use Rattle.std.proofs.Common.{◌+◌, ◌++◌, map, sym, ap, ◌∙◌, arith}
 use Rattle.std.proofs.lemmas.List.{append-nil}
 use Rattle.tetri_space.specs.Space.{space}
 use Rattle.tetri_compile.specs.Draft.{part_supply}
 use Rattle.tetri_compile.specs.Forms.{plain_limit}
-use Rattle.tetri_compile.specs.Walked.{Grows, inside, room}
+use Rattle.tetri_compile.specs.Walked.{inside, room}
 use Rattle.tetri_compile.proofs.ProgramLemmas.{part_next, range_over}
 use Rattle.tetri_compile.proofs.supply.add_part.Goals as goal
 

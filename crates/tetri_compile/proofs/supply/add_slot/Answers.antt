@@ -1,12 +1,11 @@
-use Rattle.std.proofs.Common.{◌≡◌, ◌==◌, ◌++◌, ◌∷◌, [], List, length, map, refl, sym, ap, ◌∙◌, subst, arith}
+use Rattle.std.proofs.Common.{◌≡◌, ◌++◌, ◌∷◌, [], List, length, map, sym, ap, ◌∙◌}
 use Rattle.std.specs.List.{filter}
-use Rattle.std.proofs.lemmas.List.{append-nil, map-append}
+use Rattle.std.proofs.lemmas.List.{append-nil}
 use Rattle.tetri_space.specs.Space.{space}
 use Rattle.tetri_compile.specs.declared.outline.Inequality.{Inequality}
-use Rattle.tetri_compile.specs.declared.outline.Tally.{Tally}
-use Rattle.tetri_compile.specs.Draft.{is_held, supply_row, tally_form}
+use Rattle.tetri_compile.specs.Draft.{is_held, tally_form}
 use Rattle.tetri_compile.specs.Forms.{Form, Limit, plain_limit}
-use Rattle.tetri_compile.specs.Walked.{Grows, room}
+use Rattle.tetri_compile.specs.Walked.{room}
 use Rattle.tetri_compile.proofs.OutlineLemmas.{row_last}
 use Rattle.tetri_compile.proofs.ProgramLemmas.{is_none, is_some}
 use Rattle.tetri_compile.proofs.ProgramLemmas.{held_are, nothing_grown, supply_none, supply_some}

@@ -1,27 +1,26 @@
-use Rattle.std.proofs.Common.{◌≡◌, ◌+◌, ◌*◌, ◌<◌, ◌≤◌, ◌^◌, ◌++◌, ◌∷◌, [], ℕ, List, length, drop, map, rules, refl, sym, ap, ◌∙◌, subst, arith, le_trans}
+use Rattle.std.proofs.Common.{◌≡◌, ◌+◌, ◌*◌, ◌<◌, ◌≤◌, ◌^◌, ◌++◌, ◌∷◌, [], ℕ, List, length, drop, map, rules, refl, sym, ap, ◌∙◌, subst, arith}
 use Rattle.std.proofs.Math.Nat.{mul-le-mul_left}
-use Rattle.std.proofs.lemmas.List.{length-append, append_assoc, append-nil}
+use Rattle.std.proofs.lemmas.List.{length-append}
 use Rattle.tetri_strl.specs.declared.expr.Expr.{Expr}
 use Rattle.tetri_strl.specs.declared.expr.Leaf.{Leaf}
 use Rattle.tetri_strl.specs.Aligned.{EachLeaf, EachLeafOf}
-use Rattle.tetri_strl.specs.Tree.{Tree, Trees, join, least, added, scale, barrier, more, tree, trees}
+use Rattle.tetri_strl.specs.Tree.{Tree, join, least, added, scale, barrier, more, tree, trees}
 use Rattle.tetri_strl.specs.WellMade.{peak, IsSound, AreSound}
 use Rattle.tetri_strl.proofs.TreeLemmas.{tree-Min, tree-Sum, tree-Scale, tree-Barrier}
 use Rattle.tetri_strl.proofs.WorthLemmas.{EachLeaf-both}
 use Rattle.tetri_space.specs.Lists.{Each}
-use Rattle.tetri_space.specs.Partitions.{Parts, parts_of}
-use Rattle.tetri_space.specs.Space.{Space, space}
+use Rattle.tetri_space.specs.Partitions.{parts_of}
+use Rattle.tetri_space.specs.Space.{space}
 use Rattle.tetri_space.proofs.ListLemmas.{Each-map}
 use Rattle.tetri_compile.specs.declared.outline.Inequality.{Inequality}
 use Rattle.tetri_compile.specs.declared.outline.Outline.{Outline}
 use Rattle.tetri_compile.specs.declared.outline.Share.{Share}
-use Rattle.tetri_compile.specs.Draft.{tallies, tallies_of}
-use Rattle.tetri_compile.specs.Forms.{Form, Limit, limit, run, share, times, plain_limit}
-use Rattle.tetri_compile.specs.Walk.{best, ones, uppers, uppers_of, width, width_of, form, forms, rows, rows_of, rows_under}
-use Rattle.tetri_compile.specs.Walked.{Grows, IsReady, IsWalked, AreWalked, inside, next_column, room}
+use Rattle.tetri_compile.specs.Forms.{Form, limit, run, share, plain_limit}
+use Rattle.tetri_compile.specs.Walk.{best, ones, uppers_of, form, forms, rows}
+use Rattle.tetri_compile.specs.Walked.{Grows, IsReady, IsWalked, inside, next_column, room}
 use Rattle.tetri_compile.proofs.FormSizes.{form_small}
 use Rattle.tetri_compile.proofs.KidLemmas.{kids_next}
-use Rattle.tetri_compile.proofs.OutlineLemmas.{forms_next, uppers_next, rows_next, tallies_next, next_is, grows_more, grows_length, ones_are, ones_long, rows_pushed, sides_are, top_is_best}
+use Rattle.tetri_compile.proofs.OutlineLemmas.{ones_are, ones_long, rows_pushed, sides_are, top_is_best}
 use Rattle.tetri_compile.proofs.WalkedLemmas.{under_walked, sum_walked, place_next, marked_grows}
 use Rattle.tetri_compile.proofs.walking.+walk.Goals as goal
 

@@ -1,4 +1,4 @@
-use Rattle.std.proofs.Common.{◌≡◌, ◌+◌, ◌++◌, ◌<◌, ◌^◌, ◌∷◌, length, drop, map}
+use Rattle.std.proofs.Common.{◌≡◌, ◌+◌, ◌++◌, ◌<◌, ◌^◌, ◌∷◌, drop, map}
 use Rattle.tetri_strl.specs.Aligned.{EachLeafOf}
 use Rattle.tetri_strl.specs.Tree.{trees}
 use Rattle.tetri_strl.specs.WellMade.{AreSound}

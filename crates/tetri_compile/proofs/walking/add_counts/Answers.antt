@@ -1,4 +1,4 @@
-use Rattle.std.proofs.Common.{◌≡◌, ◌<◌, ℕ, List, length, get_or, sym, ap, ◌∙◌, arith}
+use Rattle.std.proofs.Common.{◌<◌, ℕ, List, length, get_or, ap, ◌∙◌, arith}
 use Rattle.tetri_space.specs.Partitions.{partitions, parts_in}
 use Rattle.tetri_space.specs.Space.{space}
 use Rattle.tetri_compile.proofs.OutlineLemmas.{inside_below}

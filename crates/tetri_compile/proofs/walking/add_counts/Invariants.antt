@@ -1,4 +1,4 @@
-use Rattle.std.proofs.Common.{◌≡◌, ℕ, ◌+◌, ◌++◌, length, map, min, drop}
+use Rattle.std.proofs.Common.{◌≡◌, ◌+◌, ◌++◌, map, min, drop}
 use Rattle.tetri_space.specs.Space.{space}
 use Rattle.tetri_compile.specs.Draft.{leaf_tallies}
 use Rattle.tetri_compile.specs.Walked.{next_column, room}

@@ -1,5 +1,4 @@
-use Rattle.std.proofs.Common.{◌≡◌, ◌++◌, ◌*◌, ◌<◌, ◌^◌, length, take, drop}
-use Rattle.tetri_space.specs.Lists.{Each}
+use Rattle.std.proofs.Common.{◌≡◌, length, take, drop}
 use Rattle.tetri_compile.specs.Forms.{times}
 use Rattle.tetri_compile.proofs.walking.times_of.Given as goal
 

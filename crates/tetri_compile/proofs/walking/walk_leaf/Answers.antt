@@ -1,8 +1,8 @@
-use Rattle.std.proofs.Common.{◌≡◌, ◌++◌, ◌∷◌, [], List, ℕ, Bool, true, false, cond, length, map, min, refl, sym, ap, ◌∙◌, arith}
+use Rattle.std.proofs.Common.{◌≡◌, ◌++◌, ◌∷◌, [], List, ℕ, Bool, cond, length, map, min, refl, sym, ap, ◌∙◌, arith}
 use Rattle.tetri_space.specs.Space.{space}
 use Rattle.tetri_compile.specs.declared.outline.Inequality.{Inequality}
 use Rattle.tetri_compile.specs.Draft.{leaf_tallies}
-use Rattle.tetri_compile.specs.Forms.{Form, Limit, limit, run, share, plain_limit}
+use Rattle.tetri_compile.specs.Forms.{Form, limit, run, share, plain_limit}
 use Rattle.tetri_compile.specs.Walked.{inside, next_column, room}
 use Rattle.tetri_compile.proofs.OutlineLemmas.{rows_pushed, sides_are}
 use Rattle.tetri_compile.proofs.walking.walk_leaf.Goals as goal

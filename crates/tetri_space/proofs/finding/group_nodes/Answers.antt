@@ -1,6 +1,5 @@
-use Rattle.std.proofs.Common.{◌≡◌, ◌<◌, ◌++◌, ◌∷◌, [], ℕ, List, Vec, cond, false, bytes_eq, length, map, sym, ap, ◌∙◌, arith}
+use Rattle.std.proofs.Common.{◌≡◌, ◌++◌, ◌∷◌, [], cond, false, bytes_eq, map, sym, ap, ◌∙◌, arith}
 use Rattle.std.specs.List.{list_any}
-use Rattle.std.proofs.lemmas.List.{length-map}
 use Rattle.tetri_space.specs.Finding.{has_some, list_at}
 use Rattle.tetri_space.proofs.FindingLemmas.{skip_node, join_node, new_node, list_is, some_from, none_of_empty}
 use Rattle.tetri_space.proofs.finding.group_nodes.Goals as goal

@@ -1,6 +1,5 @@
-use Rattle.std.proofs.Common.{◌≡◌, ◌+◌, ◌++◌, drop, map, All, List, Some, None, subst, sym, ap, ◌∙◌, rules, length}
+use Rattle.std.proofs.Common.{◌+◌, ◌++◌, drop, map, All, subst, sym, ap, ◌∙◌}
 use Rattle.std.specs.Option.{option_map}
-use Rattle.tetri_strl.specs.Prune.{pruned}
 use Rattle.tetri_strl.specs.Tree.{tree}
 use Rattle.tetri_space.specs.Partitions.{bids_left}
 use Rattle.tetri_space.specs.Sound.{IsSoundBid}

@@ -1,4 +1,4 @@
-use Rattle.std.proofs.Common.{◌≡◌, ◌<◌, ◌++◌, ◌∷◌, [], List, ℕ, cond, length, arith, ap, sym, ◌∙◌}
+use Rattle.std.proofs.Common.{◌≡◌, ◌++◌, ◌∷◌, [], List, ℕ, cond, length, arith, ap, sym, ◌∙◌}
 use Rattle.tetri_space.specs.Finding.{list_at}
 use Rattle.tetri_space.specs.Lists.{has}
 use Rattle.std.specs.List.{filter, range_with_len}

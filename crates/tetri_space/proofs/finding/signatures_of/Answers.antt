@@ -1,4 +1,4 @@
-use Rattle.std.proofs.Common.{◌≡◌, ◌<◌, ◌&&◌, ◌++◌, ◌∷◌, [], Bool, true, false, List, ℕ, cond, length, slice_index_or, refl, ap, sym, ◌∙◌, arith}
+use Rattle.std.proofs.Common.{◌&&◌, ◌++◌, ◌∷◌, [], false, List, ℕ, cond, length, slice_index_or, ap, sym, ◌∙◌}
 use Rattle.std.proofs.lemmas.List.{append-nil}
 use Rattle.tetri_space.specs.Finding.{list_at}
 use Rattle.tetri_space.specs.Lists.{has}

@@ -1,4 +1,4 @@
-use Rattle.std.proofs.Common.{◌≡◌, ◌+◌, ◌<◌, ℕ, List, length, get_or, drop, true, false, sym, ap, ◌∙◌, arith}
+use Rattle.std.proofs.Common.{◌≡◌, ◌<◌, ℕ, List, length, get_or, true, ap, ◌∙◌, arith}
 use Rattle.tetri_space.specs.Lists.{bit, count}
 use Rattle.tetri_space.specs.Partitions.{is_free, part_at, partitions}
 use Rattle.tetri_space.specs.Space.{space}

@@ -1,4 +1,4 @@
-use Rattle.std.proofs.Common.{◌≡◌, ◌<◌, ◌∙◌, List, Vec, Global, ℕ, length, map, subst, sym, ap, arith}
+use Rattle.std.proofs.Common.{◌<◌, ◌∙◌, List, Vec, Global, ℕ, length, ap, arith}
 use Rattle.std.specs.List.{filter, range_with_len}
 use Rattle.std.proofs.lemmas.List.{length-map}
 use Rattle.tetri_space.specs.Finding.{list_at}
