@@ -186,6 +186,9 @@ fn example(
     requires second_made { IsWellMade (tree second) }
     requires second_numbered { numbers (tree second) ≡ range_with_len 0 (length (leaves (tree second))) }
     requires second_sets { All (λ l. l.set < 2) (leaves (tree second)) }
+    requires first_starts { All (λ l. l.start ≤ 10000) (leaves (tree first)) }
+    requires second_arrived { All (λ l. 1 ≤ l.start) (leaves (tree second)) }
+    requires second_starts { All (λ l. l.start ≤ 10000) (leaves (tree second)) }
     ensures { IfOk result (λ t. IsSound (scenario t)) }
 {
     let mut jobs = Vec::new(alloc);

@@ -1,5 +1,5 @@
 -- The example traces are sound.
-use Rattle.std.proofs.Common.{◌≡◌, ◌≢◌, ◌⊎◌, ℕ, ℤ, pos, negsuc, ◌<◌, ◌≤◌, ◌≤ℤ◌, true, List, [], ◌∷◌, ◌++◌, length, map, All, AllPairs, None, ⊎_elim, refl, sym, ap, ◌∙◌, subst, arith, zero, suc, w32}
+use Rattle.std.proofs.Common.{◌≡◌, ◌≢◌, ◌⊎◌, ℕ, ℤ, pos, negsuc, ◌+◌, ◌<◌, ◌≤◌, ◌≤ℤ◌, true, List, [], ◌∷◌, ◌++◌, length, map, All, AllPairs, None, ⊎_elim, refl, sym, ap, ◌∙◌, subst, arith, zero, suc, w32}
 use Rattle.std.specs.List.{cons_option, range_with_len}
 use Rattle.std.specs.List.Sorted.{IsStrictlyIncreasing}
 use Rattle.std.proofs.lemmas.Int.{ints, to_z-of_z}
@@ -98,15 +98,17 @@ module _ (until : ℕ) (late : ℤ) (e f : Tree) (x y : Happening) (nodes : List
   }
 
   sound_job : (name : List ℕ) (arrival : ℕ) (l : ℤ) (d : Tree) → is_name name ≡ true → arrival < until → negsuc 9999 ≤ℤ l → l ≤ℤ pos 10000 →
-      IsWellMade d → numbers d ≡ range_with_len 0 (length (leaves d)) → All (λ m. m.set < 2) (leaves d) → IsSoundSubmission example (job_at name arrival l d)
-  sound_job name arrival l d named within not_early not_late made numbered sets =
-      record { named = named; in_run = within; not_too_early = not_early; not_too_late = not_late; well_made = made; numbered = numbered; known_sets = sets }
+      IsWellMade d → numbers d ≡ range_with_len 0 (length (leaves d)) → All (λ m. m.set < 2) (leaves d) →
+      All (λ m. (arrival ≤ m.start) × (m.start ≤ arrival + 10000)) (leaves d) → IsSoundSubmission example (job_at name arrival l d)
+  sound_job name arrival l d named within not_early not_late made numbered sets starts =
+      record { named = named; in_run = within; not_too_early = not_early; not_too_late = not_late; well_made = made; numbered = numbered; known_sets = sets; starts = starts }
 
   sound_example : 3 ≤ until → until ≤ 5 → pos 0 ≤ℤ late → late ≤ℤ pos 1 → names_of nodes ≡ (110 ∷ 49 ∷ []) ∷ (110 ∷ 50 ∷ []) ∷ [] →
       ((x ≡ Cancel 0) ⊎ ((x ≡ Drain 0) ⊎ (x ≡ Undrain 1))) → ((y ≡ Cancel 0) ⊎ ((y ≡ Drain 0) ⊎ (y ≡ Undrain 1))) →
       IsWellMade e → numbers e ≡ range_with_len 0 (length (leaves e)) → All (λ m. m.set < 2) (leaves e) →
-      IsWellMade f → numbers f ≡ range_with_len 0 (length (leaves f)) → All (λ m. m.set < 2) (leaves f) → IsSound example
-  sound_example some few not_early not_late names is_x is_y made_e numbered_e sets_e made_f numbered_f sets_f =
+      IsWellMade f → numbers f ≡ range_with_len 0 (length (leaves f)) → All (λ m. m.set < 2) (leaves f) →
+      All (λ m. m.start ≤ 10000) (leaves e) → All (λ m. 1 ≤ m.start) (leaves f) → All (λ m. m.start ≤ 10000) (leaves f) → IsSound example
+  sound_example some few not_early not_late names is_x is_y made_e numbered_e sets_e made_f numbered_f sets_f starts_e arrived_f starts_f =
       let two : length nodes ≡ 2 = sym (length-map nodes (λ (n : NodeText). n.name)) ∙ ap length names in
       let twist_x = twist example refl two x is_x in
       let twist_y = twist example refl two y is_y in
@@ -138,8 +140,8 @@ module _ (until : ℕ) (late : ℤ) (e f : Tree) (x y : Happening) (nodes : List
         jobs_ascend = pairs (λ i j. i.arrival ≤ j.arrival) example.submissions ((omega arith, tt), (tt, tt));
         jobs =
             each (IsSoundSubmission example) example.submissions (
-              sound_job (106 ∷ 49 ∷ []) 0 late e refl (omega arith) (omega (arith, ints)) (omega (arith, ints)) made_e numbered_e sets_e,
-              (sound_job (106 ∷ 50 ∷ []) 1 (pos 0) f refl (omega arith) (omega (arith, ints)) (omega (arith, ints)) made_f numbered_f sets_f, tt),
+              sound_job (106 ∷ 49 ∷ []) 0 late e refl (omega arith) (omega (arith, ints)) (omega (arith, ints)) made_e numbered_e sets_e (λ k m lt. (omega arith, starts_e k m lt)),
+              (sound_job (106 ∷ 50 ∷ []) 1 (pos 0) f refl (omega arith) (omega (arith, ints)) (omega (arith, ints)) made_f numbered_f sets_f (λ k m lt. (arrived_f k m lt, omega (arith, starts_f k m lt))), tt),
             );
         events_ascend =
             pairs (λ a b. a.at ≤ b.at) example.events ((omega arith, (omega arith, (omega arith, tt))), ((omega arith, (omega arith, tt)), ((omega arith, tt), (tt, tt))));
@@ -174,4 +176,4 @@ returns c =
     subst IsSound (sym (same_scenario c.header.ensures (c.in_ok-new.ensures.ok ∙ c.in_ok-sets.ensures) jobs c.in_ok-events.ensures))
     (sound_example c.args.until c.args.late e f x y c.in_ok-cluster.field-0 c.requires.some c.requires.few c.requires.not_early c.requires.not_late c.in_ok-cluster.ensures
     c.happening.ensures c.happening-2.ensures c.requires.first_made c.requires.first_numbered c.requires.first_sets c.requires.second_made c.requires.second_numbered
-    c.requires.second_sets)
+    c.requires.second_sets c.requires.first_starts c.requires.second_arrived c.requires.second_starts)
