@@ -21,7 +21,7 @@ pub use leaves::leaf_of;
 pub use partitions::{available, find_partitions};
 pub use parts::Partitions;
 pub use rules::{Rule, Unlawful, lawful};
-pub use runs::run_len;
+pub use runs::{ascends_by_job, run_len};
 pub use totals::{tops, total};
 
 #[cfg(test)]

@@ -4,6 +4,7 @@ ghost use Rattle.std.specs.List.Sorted.{IsNonDecreasingBy};
 
 use tetri_strl::Grant;
 
+/// Whether the grants ascend by job, so that each job's stand in one run.
 pub fn ascends_by_job(grants: &[Grant]) -> bool
     ensures { IsTrue result ↔ IsNonDecreasingBy (λ g. g.job) grants.now }
 {
