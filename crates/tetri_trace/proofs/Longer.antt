@@ -1,16 +1,15 @@
 -- A sound trace stays sound with one event more, with one job more, and with more sets.
-use Rattle.std.proofs.Common.{◌≡◌, ℕ, ◌+◌, ◌<◌, ◌≤◌, Bool, true, false, not, cond, List, [], ◌∷◌, ◌++◌, map, length, All, get_or, refl, ap, ◌∙◌, sym, subst, None, arith, add-zero, zero-add, length-append}
+use Rattle.std.proofs.Common.{◌≡◌, ℕ, ◌+◌, ◌<◌, ◌≤◌, true, List, [], ◌∷◌, ◌++◌, map, length, All, get_or, refl, ap, ◌∙◌, sym, subst, None, arith, add-zero, zero-add, length-append}
 use Rattle.std.specs.List.{range_with_len, zip, filter_map}
 use Rattle.std.proofs.lemmas.List.{length-map, map-append, append-nil, get_or-map}
 use Rattle.std.proofs.lemmas.List.Elements.{All-nil, All-cons, All-head, All-tail, All-push, All-weaker, filter_map-append}
 use Rattle.std.proofs.lemmas.List.FromFn.{length-range_with_len}
 use Rattle.std.proofs.lemmas.List.Quantifiers.{all_pairs_push}
 use Rattle.std.proofs.lemmas.Slice.Zip.{get_or-zip, length-zip}
-use Rattle.tetri_cluster.specs.Names.{differ, is_among}
+use Rattle.tetri_cluster.specs.Names.{differ}
 use Rattle.tetri_cluster.specs.Sets.{AreSets}
 use Rattle.tetri_parse.specs.TextTree.{AreWithin}
-use Rattle.tetri_trace.specs.Draft.{so_far, with_sets, IsNextSlot, IsSoundDraft}
-use Rattle.tetri_trace.specs.declared.draft.Draft.{Draft}
+use Rattle.tetri_trace.specs.Draft.{with_sets, IsNextSlot}
 use Rattle.tetri_trace.specs.Lines.{with_event, with_job}
 use Rattle.tetri_trace.specs.Scenario.{Scenario, Submission, job_names}
 use Rattle.tetri_trace.specs.Sound.{IsSound, IsSoundSubmission, NamesKnown, CancelsNothingLater, arrival_in}
@@ -182,14 +181,3 @@ module _ (s : Scenario) (job : Submission) (sound : IsSound s) (next : IsNextSlo
     arrivals = arrivals_more;
     cancels = all_pairs_push (λ e f. CancelsNothingLater e.what f.what) s.events event sound.cancels (λ k d lt. cancels_earlier s (get_or s.events k d).what (sound.known k d lt));
   }
-
--- a draft that says a sound trace, whose index has the names of its jobs
-pub sound_draft : (d : Draft) (s : Scenario) → so_far d ≡ s → d.names ≡ job_names s.submissions → IsSound s → IsSoundDraft d
-sound_draft d s same indexed sound = record {
-  indexed = indexed ∙ ap (λ t. job_names t.submissions) (sym same);
-  sound = subst IsSound (sym same) sound;
-}
-
-pub added_name : (old now : List (List ℕ)) (name bytes : List ℕ) (new : Bool) → bytes ≡ name → is_among name old ≡ false → new ≡ not (is_among bytes old) → now ≡ cond new (old ++ bytes ∷ []) old → now ≡ old ++ name ∷ []
-added_name old now name bytes new same none fresh e =
-    e ∙ ap (λ b. cond b (old ++ bytes ∷ []) old) (fresh ∙ ap (λ x. not (is_among x old)) same ∙ ap not none) ∙ ap (λ x. old ++ x ∷ []) same

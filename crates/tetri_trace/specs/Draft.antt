@@ -1,7 +1,7 @@
 -- The trace that is read so far.
-use Rattle.std.specs.Prelude.{◌≡◌, ◌<◌, ◌≤◌, ℕ, List, All, map}
+use Rattle.std.specs.Prelude.{◌<◌, ◌≤◌, ℕ, List, All, map}
 use Rattle.tetri_trace.specs.declared.draft.Draft.{Draft}
-use Rattle.tetri_trace.specs.Scenario.{Scenario, job_names, submission}
+use Rattle.tetri_trace.specs.Scenario.{Scenario, submission}
 use Rattle.tetri_trace.specs.Sound.{IsSound}
 
 -- what a draft says
@@ -10,14 +10,12 @@ so_far d = record {
   header = d.header;
   nodes = d.cluster;
   sets = d.sets;
-  submissions = map submission d.jobs.items;
+  submissions = map submission d.jobs;
   events = d.events.items;
 }
 
--- a sound draft, with an index of its jobs' names
-pub record IsSoundDraft (d : Draft) : Type 0 where
-  pub indexed : d.names ≡ job_names (so_far d).submissions
-  pub sound : IsSound (so_far d)
+abbrev pub IsSoundDraft : Draft → Type 0
+IsSoundDraft d = IsSound (so_far d)
 
 abbrev pub with_sets : Scenario → List (List ℕ) → Scenario
 with_sets s sets = record s { sets = sets }

@@ -39,7 +39,7 @@ scenario t = record {
   header = t.header;
   nodes = t.cluster;
   sets = t.sets.value;
-  submissions = map submission t.jobs.items;
+  submissions = map submission t.jobs;
   events = t.events.items;
 }
 

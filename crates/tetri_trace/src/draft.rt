@@ -5,20 +5,20 @@ ghost use Rattle.tetri_trace.specs.Scenario.{scenario};
 ghost use Rattle.tetri_trace.specs.Sound.{IsSound};
 
 use crate::fault::Stop;
-use crate::trace::{Event, Header, Job, Trace};
+use crate::jobs::Jobs;
+use crate::trace::{Event, Header, Trace};
 use std::alloc::Global;
 use std::rc::Rc;
-use tetri_cluster::{Cluster, NameTable, Sets};
+use tetri_cluster::{Cluster, Sets};
 
-/// The trace that is read so far, with an index of its jobs' names.
+/// The trace that is read so far.
 #[derive(Drop)]
 pub(crate) struct Draft {
     pub(crate) header: Header,
     pub(crate) cluster: Cluster,
     pub(crate) sets: Sets,
-    pub(crate) jobs: Vec<Job>,
+    pub(crate) jobs: Jobs,
     pub(crate) events: Vec<Event>,
-    pub(crate) names: NameTable,
 }
 
 /// The trace that a draft is.

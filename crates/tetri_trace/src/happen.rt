@@ -82,7 +82,6 @@ fn with_job(draft: &mut Draft, job: Job) -> Result<(), Stop>
         at: job.arrival,
         what: Happening::Arrive(draft.jobs.len() as u32),
     };
-    draft.names.add(job.name.bytes())?;
     draft.jobs.push(job)?;
     draft.events.push(arrival)?;
     Ok(())
@@ -134,7 +133,7 @@ fn arrived(
     ensures gives { Gives (λ _. so_far draft.new) result (arrived (so_far draft.old) at name.now late text.now) }
     ensures sound { OnOk result (IsSoundDraft draft.new) }
 {
-    if draft.names.number(name.as_bytes()).is_some() {
+    if draft.jobs.find(name.as_bytes()).is_some() {
         return Err(Stop::Because(TraceWhy::NameTaken));
     }
     let name = read_name(alloc, name)?;
@@ -156,8 +155,8 @@ fn job_named(draft: &Draft, name: &str) -> Result<u32, Stop>
     ensures value { Gives (λ n. n) result (ok_or (number_of name.now (job_names (so_far draft.now).submissions)) whys.NoSuchJob) }
     ensures known { IfOk result (λ n. n < length (so_far draft.now).submissions) }
 {
-    match draft.names.number(name.as_bytes()) {
-        Some(job) => Ok(job as u32),
+    match draft.jobs.find(name.as_bytes()) {
+        Some(job) => Ok(job),
         None => Err(Stop::Because(TraceWhy::NoSuchJob)),
     }
 }

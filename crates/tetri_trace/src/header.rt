@@ -14,10 +14,11 @@ ghost use Rattle.tetri_trace.specs.declared.fault.TraceWhy.TheVariants as whys;
 use crate::draft::Draft;
 use crate::fault::{Field, Stop, TraceWhy};
 use crate::field::{bad, name_in, number_in, optional, read_name, required, unit_in};
+use crate::jobs::Jobs;
 use crate::trace::Header;
 use serde_json::Value;
 use std::alloc::Global;
-use tetri_cluster::{Cluster, ClusterFault, NameList, NameTable, NodeText, Sets};
+use tetri_cluster::{Cluster, ClusterFault, NameList, NodeText, Sets};
 
 const NODES_MOST: usize = 4096;
 
@@ -134,8 +135,7 @@ pub(crate) fn header_in(alloc: Global, object: &Value) -> Result<Draft, Stop>
         },
         cluster,
         sets: Sets::new(alloc),
-        jobs: Vec::new(alloc),
+        jobs: Jobs::new(alloc),
         events: Vec::new(alloc),
-        names: NameTable::new(alloc),
     })
 }

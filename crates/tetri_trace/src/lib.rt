@@ -8,12 +8,14 @@ mod field;
 mod find;
 mod happen;
 mod header;
+mod jobs;
 mod lines;
 mod read;
 mod trace;
 
 pub use fault::{Field, TraceFault, TraceWhy};
 pub use find::job_of;
+pub use jobs::Jobs;
 pub use read::read_trace;
 pub use trace::{Event, Happening, Header, Job, Trace, Work};
 

@@ -131,8 +131,9 @@ fn event(at: u32, what: Happening) -> Event {
 #[test]
 fn jobs_are_read(rt: HostRuntime) -> Result<(), Fail> {
     let trace = answer_to(rt.alloc(), &[HEADER, JOB, SECOND_JOB])??;
-    assert_eq!(rt; trace.jobs.len(), 2);
-    let (first, second) = (&trace.jobs[0], &trace.jobs[1]);
+    let [first, second] = trace.jobs.as_slice() else {
+        return Err(Fail::from("no two jobs"));
+    };
     assert_eq!(rt;
         (first.name.text(), first.arrival, first.late),
         ("j1", 1, 0)

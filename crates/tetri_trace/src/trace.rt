@@ -1,4 +1,5 @@
 // What a trace says.
+use crate::jobs::Jobs;
 use std::rc::Rc;
 use tetri_cluster::{Cluster, Name, Sets};
 use tetri_strl::Expr;
@@ -53,6 +54,6 @@ pub struct Trace {
     pub header: Header,
     pub cluster: Cluster,
     pub sets: Rc<Sets>,
-    pub jobs: Vec<Job>,
+    pub jobs: Jobs,
     pub events: Vec<Event>,
 }
