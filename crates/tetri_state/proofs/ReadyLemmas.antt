@@ -36,10 +36,10 @@ any_job [] job = refl
 any_job (p ∷ ps) job = ap (λ b. p.job == job || b) (any_job ps job)
 
 -- a job of a sound trace
-pub sound_job : (trace : Trace) → IsSound (scenario trace) → (job : ℕ) (j : Job) → job < length (scenario trace).submissions → j ≡ get_or trace.jobs.items job j →
+pub sound_job : (trace : Trace) → IsSound (scenario trace) → (job : ℕ) (j : Job) → job < length (scenario trace).submissions → j ≡ get_or trace.jobs job j →
     IsSoundSubmission (scenario trace) (submission j)
 sound_job trace sound job j known is =
-    subst (IsSoundSubmission (scenario trace)) (get_or-map submission trace.jobs.items job j (submission j) (omega (arith, known, length-map trace.jobs.items submission)) ∙ ap submission (sym is))
+    subst (IsSoundSubmission (scenario trace)) (get_or-map submission trace.jobs job j (submission j) (omega (arith, known, length-map trace.jobs submission)) ∙ ap submission (sym is))
     (sound.jobs job (submission j) known)
 
 module _ {X : Type 0} (p q : X → Bool) where

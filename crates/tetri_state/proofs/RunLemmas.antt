@@ -166,3 +166,32 @@ module _ (s : Space) (os : List Offer) (i : ℕ) (o : Offer) (rest run past : Li
       worth_turn s os i o rest run past n ascending lt is is_run is_past within after
       ∙ ap (λ t. cond t (bid_worth run (bid o)) 0 + sum_by (bid_worth past) (launched_of s past (drop (i + 1) (map bid os)))) waits
       ∙ omega arith
+
+-- the same where a job is held against all grants
+module _ (s : Space) (gs : List Grant) (os : List Offer) (i : ℕ) (o : Offer) (lt : i < length os) (is : o ≡ get_or os i o) where
+  each_turn : launched_of s gs (drop i (map bid os)) ≡
+      cond (starts_now s gs o.job) (bid o ∷ launched_of s gs (drop (i + 1) (map bid os))) (launched_of s gs (drop (i + 1) (map bid os)))
+  each_turn = ap (launched_of s gs) (next_bid os i o lt is)
+
+  each_taken : starts_now s gs o.job ≡ true → launched_of s gs (drop i (map bid os)) ≡ bid o ∷ launched_of s gs (drop (i + 1) (map bid os))
+  each_taken starts = each_turn ∙ ap (λ t. cond t (bid o ∷ launched_of s gs (drop (i + 1) (map bid os))) (launched_of s gs (drop (i + 1) (map bid os)))) starts
+
+  each_passed : starts_now s gs o.job ≡ false → launched_of s gs (drop i (map bid os)) ≡ launched_of s gs (drop (i + 1) (map bid os))
+  each_passed waits = each_turn ∙ ap (λ t. cond t (bid o ∷ launched_of s gs (drop (i + 1) (map bid os))) (launched_of s gs (drop (i + 1) (map bid os)))) waits
+
+  pub each_job_taken : (told : List ℕ) → starts_now s gs o.job ≡ true →
+      (told ++ o.job ∷ []) ++ map (λ b. b.job) (launched_of s gs (drop (i + 1) (map bid os))) ≡ told ++ map (λ b. b.job) (launched_of s gs (drop i (map bid os)))
+  each_job_taken told starts =
+      append_assoc told (o.job ∷ []) (map (λ b. b.job) (launched_of s gs (drop (i + 1) (map bid os)))) ∙ ap (λ bs. told ++ map (λ b. b.job) bs) (sym (each_taken starts))
+
+  pub each_job_passed : (told : List ℕ) → starts_now s gs o.job ≡ false →
+      told ++ map (λ b. b.job) (launched_of s gs (drop (i + 1) (map bid os))) ≡ told ++ map (λ b. b.job) (launched_of s gs (drop i (map bid os)))
+  each_job_passed told waits = ap (λ bs. told ++ map (λ b. b.job) bs) (sym (each_passed waits))
+
+  pub each_worth_taken : starts_now s gs o.job ≡ true →
+      sum_by (bid_worth gs) (launched_of s gs (drop i (map bid os))) ≡ bid_worth gs (bid o) + sum_by (bid_worth gs) (launched_of s gs (drop (i + 1) (map bid os)))
+  each_worth_taken starts = ap (sum_by (bid_worth gs)) (each_taken starts) ∙ sum_by-cons (bid_worth gs) (bid o) (launched_of s gs (drop (i + 1) (map bid os)))
+
+  pub each_worth_passed : starts_now s gs o.job ≡ false →
+      sum_by (bid_worth gs) (launched_of s gs (drop i (map bid os))) ≡ sum_by (bid_worth gs) (launched_of s gs (drop (i + 1) (map bid os)))
+  each_worth_passed waits = ap (sum_by (bid_worth gs)) (each_passed waits)

@@ -18,7 +18,7 @@ pub fn demand(trace: &Trace, job: u32) -> &Expr
     requires { job < length (scenario trace.now).submissions }
     ensures { tree result.now ≡ demanded (scenario trace.now) job }
 {
-    match &trace.jobs[job as usize].work {
+    match &trace.jobs.as_slice()[job as usize].work {
         Work::Strl(expr) => expr,
     }
 }

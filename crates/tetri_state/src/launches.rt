@@ -7,7 +7,7 @@ ghost use Rattle.tetri_space.specs.Space.{space};
 ghost use Rattle.tetri_state.specs.Launch.{launched_in, start_of, starts_now, worth_launched};
 
 use std::alloc::{AllocError, Global};
-use tetri_space::{Instance, leaf_of, run_len};
+use tetri_space::{Instance, ascends_by_job, leaf_of, run_len};
 use tetri_strl::{Grant, worth_among};
 
 /// The slots at which the leaves of the grants start, in their order. Its only error is want of
@@ -54,9 +54,21 @@ pub struct Launch {
     pub worth: u64,
 }
 
-/// What is launched of grants that ascend by job, by one pass over jobs and grants. Its only error is
-/// want of memory.
+/// What is launched of grants. Its only error is want of memory. Where the grants ascend by job it goes once through jobs and
+/// grants. Where they do not, it holds each job against every grant.
 pub fn launch_of(alloc: Global, inst: &Instance, grants: &[Grant]) -> Result<Launch, AllocError>
+    requires { IsSound (space inst.now) }
+    ensures jobs { IfOk result (λ l. l.jobs.items ≡ launched_in (space inst.entry.now) grants.now) }
+    ensures worth { IfOk result (λ l. l.worth ≡ worth_launched (space inst.entry.now) grants.now) }
+{
+    if ascends_by_job(grants) {
+        launched_by_runs(alloc, inst, grants)
+    } else {
+        launched_by_jobs(alloc, inst, grants)
+    }
+}
+
+fn launched_by_runs(alloc: Global, inst: &Instance, grants: &[Grant]) -> Result<Launch, AllocError>
     requires sound { IsSound (space inst.now) }
     requires ascending { IsNonDecreasingBy (λ g. g.job) grants.now }
     ensures jobs { IfOk result (λ l. l.jobs.items ≡ launched_in (space inst.entry.now) grants.now) }
@@ -72,6 +84,22 @@ pub fn launch_of(alloc: Global, inst: &Instance, grants: &[Grant]) -> Result<Lau
             worth += worth_among(&offer.expr, offer.job, run);
         }
         rest = later;
+    }
+    Ok(Launch { jobs, worth })
+}
+
+fn launched_by_jobs(alloc: Global, inst: &Instance, grants: &[Grant]) -> Result<Launch, AllocError>
+    requires { IsSound (space inst.now) }
+    ensures jobs { IfOk result (λ l. l.jobs.items ≡ launched_in (space inst.entry.now) grants.now) }
+    ensures worth { IfOk result (λ l. l.worth ≡ worth_launched (space inst.entry.now) grants.now) }
+{
+    let mut jobs = Vec::new(alloc);
+    let mut worth = 0;
+    for offer in &inst.jobs {
+        if starts_now(inst, grants, offer.job) {
+            jobs.push(offer.job)?;
+            worth += worth_among(&offer.expr, offer.job, grants);
+        }
     }
     Ok(Launch { jobs, worth })
 }

@@ -1,5 +1,5 @@
 // Worked examples: what happens, what is carried and launched, and what runs, cycle by cycle.
-ghost use Rattle.std.specs.Prelude.{◌≡◌, ◌<◌, ◌≤◌, ◌≤ℤ◌, ◌+◌, ◌∷◌, [], ◌⊎◌, ℤ, All, length, pos, false, IfOk, IsTrue, OnOk};
+ghost use Rattle.std.specs.Prelude.{◌≡◌, ◌<◌, ◌≤◌, ◌≤ℤ◌, ◌+◌, ◌∷◌, [], ◌⊎◌, ℤ, All, codes, length, map, pos, false, IfOk, IsTrue, OnOk};
 ghost use Rattle.tetri_cluster.specs.Cluster.{names_of};
 ghost use Rattle.tetri_cluster.specs.declared.cluster.Cluster.{Cluster};
 ghost use Rattle.tetri_cluster.specs.declared.sets.Sets.{Sets};
@@ -27,7 +27,7 @@ use std::test::Fail;
 use tetri_cluster::{Cluster, Name, NameList, NodeSet, NodeText, Sets};
 use tetri_space::{Instance, lawful};
 use tetri_strl::{Allotment, Expr, Grant, Leaf, NodeList, waste};
-use tetri_trace::{Event, Happening, Header, Job, Trace, Work};
+use tetri_trace::{Event, Happening, Header, Job, Jobs, Trace, Work};
 
 fn node(alloc: Global, name: &[u8]) -> Result<NodeText, Fail>
     ensures { IfOk result (λ n. n.name ≡ name.now) }
@@ -142,6 +142,16 @@ fn job(alloc: Global, name: &[u8], arrival: u32, late: i32, demand: Expr) -> Res
     })
 }
 
+fn two_jobs(alloc: Global, late: i32, first: Expr, second: Expr) -> Result<Jobs, Fail>
+    ensures { IfOk result (λ js. map submission js ≡ record { name = codes "j1"; arrival = 0; late = late; demand = strl (tree first) }
+        ∷ record { name = codes "j2"; arrival = 1; late = pos 0; demand = strl (tree second) } ∷ []) }
+{
+    let mut jobs = Jobs::new(alloc);
+    jobs.push(job(alloc, b"j1", 0, late, first)?)?;
+    jobs.push(job(alloc, b"j2", 1, 0, second)?)?;
+    Ok(jobs)
+}
+
 fn events(alloc: Global, second: Happening, fourth: Happening) -> Result<Vec<Event>, AllocError>
     ensures { IfOk result (λ v. v.items ≡ record { at = 0; what = Arrive 0 } ∷ record { at = 1; what = second }
         ∷ record { at = 1; what = Arrive 1 } ∷ record { at = 2; what = fourth } ∷ []) }
@@ -191,14 +201,11 @@ fn example(
     requires second_starts { All (λ l. l.start ≤ 10000) (leaves (tree second)) }
     ensures { IfOk result (λ t. IsSound (scenario t)) }
 {
-    let mut jobs = Vec::new(alloc);
-    jobs.push(job(alloc, b"j1", 0, late, first)?)?;
-    jobs.push(job(alloc, b"j2", 1, 0, second)?)?;
     Ok(Trace {
         header: header(until),
         cluster: cluster(alloc)?,
         sets: Rc::new(alloc, sets(alloc)?)?,
-        jobs,
+        jobs: two_jobs(alloc, late, first, second)?,
         events: events(alloc, happening(early_twist), happening(late_twist))?,
     })
 }

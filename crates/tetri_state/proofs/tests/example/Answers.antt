@@ -1,5 +1,5 @@
 -- The example traces are sound.
-use Rattle.std.proofs.Common.{◌≡◌, ◌≢◌, ◌⊎◌, ℕ, ℤ, pos, negsuc, ◌+◌, ◌<◌, ◌≤◌, ◌≤ℤ◌, true, List, [], ◌∷◌, ◌++◌, length, map, All, AllPairs, None, ⊎_elim, refl, sym, ap, ◌∙◌, subst, arith, zero, suc, w32}
+use Rattle.std.proofs.Common.{◌≡◌, ◌≢◌, ◌⊎◌, ℕ, ℤ, pos, negsuc, ◌+◌, ◌<◌, ◌≤◌, ◌≤ℤ◌, true, List, [], ◌∷◌, length, All, AllPairs, None, ⊎_elim, refl, sym, ap, ◌∙◌, subst, arith, zero, suc, w32}
 use Rattle.std.specs.List.{cons_option, range_with_len}
 use Rattle.std.specs.List.Sorted.{IsStrictlyIncreasing}
 use Rattle.std.proofs.lemmas.Int.{ints, to_z-of_z}
@@ -13,8 +13,7 @@ use Rattle.tetri_trace.specs.declared.trace.Event.{Event}
 use Rattle.tetri_trace.specs.declared.trace.Happening.{Happening}
 use Rattle.tetri_trace.specs.declared.trace.Happening.TheVariants.{Arrive, Cancel, Drain, Undrain}
 use Rattle.tetri_trace.specs.declared.trace.Header.{Header}
-use Rattle.tetri_trace.specs.declared.trace.Job.{Job}
-use Rattle.tetri_trace.specs.Scenario.{Scenario, Submission, strl, submission}
+use Rattle.tetri_trace.specs.Scenario.{Scenario, Submission, strl}
 use Rattle.tetri_trace.specs.Sound.{CancelsNothingLater, IsSound, IsSoundSubmission, NamesKnown, arrival_in}
 use Rattle.tetri_state.proofs.Ascending.{ascend_to}
 use Rattle.tetri_state.proofs.ToldLemmas.{Each, each_at}
@@ -159,20 +158,13 @@ same_scenario : {h i : Header} {nodes : List NodeText} {a b : List (List ℕ)} {
     ◌≡◌ {A = Scenario} (record { header = h; nodes = nodes; sets = a; submissions = c; events = k }) (record { header = i; nodes = nodes; sets = b; submissions = d; events = l })
 same_scenario p q r s = cc
 
-two_jobs : (js ks ms : List Job) (i j : Job) (a b : Submission) → ms ≡ [] → ks ≡ ms ++ i ∷ [] → js ≡ ks ++ j ∷ [] → submission i ≡ a → submission j ≡ b →
-    map submission js ≡ a ∷ b ∷ []
-two_jobs js ks ms i j a b none first second is_a is_b =
-    ap (map submission) (second ∙ ap (λ xs. xs ++ j ∷ []) (first ∙ ap (λ xs. xs ++ i ∷ []) none)) ∙ ap (λ x. x ∷ submission j ∷ []) is_a ∙ ap (λ x. a ∷ x ∷ []) is_b
-
 pub returns : goal.returns
 returns c =
     let x = c.happening.result in
     let y = c.happening-2.result in
     let e = tree c.args.first in
     let f = tree c.args.second in
-    let jobs : map submission c.push-2.new.self.items ≡ job_at (106 ∷ 49 ∷ []) 0 c.args.late e ∷ job_at (106 ∷ 50 ∷ []) 1 (pos 0) f ∷ [] =
-    two_jobs c.push-2.new.self.items c.push.new.self.items c.new-jobs.result.items c.in_ok-job.field-0 c.in_ok-job-2.field-0 (job_at (106 ∷ 49 ∷ []) 0 c.args.late e) (job_at (106 ∷ 50 ∷ []) 1 (pos 0) f) c.new-jobs.ensures.items
-    c.in_ok-push.ensures.items c.in_ok-push-2.ensures.items (c.in_ok-job.ensures ∙ ap (λ z. job_at (106 ∷ 49 ∷ []) 0 z e) (to_z-of_z w32 c.args.late c.ranges.late)) c.in_ok-job-2.ensures in
+    let jobs = c.in_ok-two_jobs.ensures ∙ ap (λ z. job_at (106 ∷ 49 ∷ []) 0 z e ∷ job_at (106 ∷ 50 ∷ []) 1 (pos 0) f ∷ []) (to_z-of_z w32 c.args.late c.ranges.late) in
     subst IsSound (sym (same_scenario c.header.ensures (c.in_ok-new.ensures.ok ∙ c.in_ok-sets.ensures) jobs c.in_ok-events.ensures))
     (sound_example c.args.until c.args.late e f x y c.in_ok-cluster.field-0 c.requires.some c.requires.few c.requires.not_early c.requires.not_late c.in_ok-cluster.ensures
     c.happening.ensures c.happening-2.ensures c.requires.first_made c.requires.first_numbered c.requires.first_sets c.requires.second_made c.requires.second_numbered
