@@ -77,7 +77,7 @@ module _ (t : Scenario) where
   IsPrintableLine (lines.Over piece) = (piece.job < length t.submissions) × (piece.leaf < 2 ^ 32)
   IsPrintableLine (lines.Expire job) = job < length t.submissions
   IsPrintableLine (lines.Plan p) = (p.value < 2 ^ 64) × (p.bound < 2 ^ 64) × (p.nodes < 2 ^ 32)
-  IsPrintableLine (lines.Grant g start) = (g.job < length t.submissions) × (g.leaf < 2 ^ 32) × (start < 2 ^ 32) × (1 ≤ length g.nodes) × All (λ n. n < length t.nodes) g.nodes
+  IsPrintableLine (lines.Grant g start) = (g.job < length t.submissions) × (g.leaf < 2 ^ 32) × (start < 2 ^ 32) × (1 ≤ length g.nodes) × All (λ n. n < length t.nodes) g.nodes × (length g.nodes ≤ 4096)
   IsPrintableLine (lines.Tops columns rows) = (columns < 2 ^ 64) × (rows < 2 ^ 64)
   IsPrintableLine (lines.Launch job) = job < length t.submissions
   IsPrintableLine (lines.Summary s) = (s.cycles < 2 ^ 64) × (s.launched < 2 ^ 64) × (s.ended < 2 ^ 64) × (s.cancelled < 2 ^ 64) × (s.expired < 2 ^ 64) × (s.worth < 2 ^ 127) × (s.optimal < 2 ^ 64)
@@ -155,15 +155,21 @@ module _ (t : Scenario) (sound : IsSound t) where
       ap (λ o. option_and_then (λ m. option_and_then (λ ms. Some (m ∷ ms)) (nodes_in t (map (name_at t.nodes) ns))) o) (node_back n (All-head (λ m. m < length t.nodes) n ns all))
       ∙ ap (λ o. option_and_then (λ ms. Some (n ∷ ms)) o) (nodes_back ns (All-tail (λ m. m < length t.nodes) n ns all))
 
-  -- a name has none of the marks between words and nodes
-  job_avoids : (mark job : ℕ) → mark < 45 → job < length t.submissions → Avoids mark (job_name t job)
-  job_avoids mark job low h = name_avoids mark (job_name t job) low (named job [] (omega (arith, length-map t.submissions (λ j. j.name))))
+  pub job_named : (job : ℕ) → job < length t.submissions → is_name (job_name t job) ≡ true
+  job_named job h = named job [] (omega (arith, length-map t.submissions (λ j. j.name)))
     where
       named : All (λ name. is_name name ≡ true) (job_names t.submissions)
       named = All-map (λ name. is_name name ≡ true) (λ (j : Submission). j.name) t.submissions (All-weaker (IsSoundSubmission t) (λ j. is_name j.name ≡ true) (λ j h. h.named) t.submissions sound.jobs)
 
+  pub node_named : (node : ℕ) → node < length t.nodes → is_name (name_at t.nodes node) ≡ true
+  node_named node h = sound.node_names node [] (omega (arith, length-map t.nodes (λ n. n.name)))
+
+  -- a name has none of the marks between words and nodes
+  job_avoids : (mark job : ℕ) → mark < 45 → job < length t.submissions → Avoids mark (job_name t job)
+  job_avoids mark job low h = name_avoids mark (job_name t job) low (job_named job h)
+
   node_avoids : (mark node : ℕ) → mark < 45 → node < length t.nodes → Avoids mark (name_at t.nodes node)
-  node_avoids mark node low h = name_avoids mark (name_at t.nodes node) low (sound.node_names node [] (omega (arith, length-map t.nodes (λ n. n.name))))
+  node_avoids mark node low h = name_avoids mark (name_at t.nodes node) low (node_named node h)
 
   names_avoid : (mark : ℕ) (ns : List ℕ) → mark < 45 → All (λ n. n < length t.nodes) ns → AllAvoid mark (map (name_at t.nodes) ns)
   names_avoid mark [] low all = tt

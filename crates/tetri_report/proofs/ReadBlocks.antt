@@ -11,6 +11,7 @@ use Rattle.tetri_state.specs.declared.happened.PieceId.{PieceId}
 use Rattle.tetri_trace.specs.Scenario.{Scenario}
 use Rattle.tetri_trace.specs.Sound.{IsSound}
 use Rattle.tetri_report.specs.Block.{Block}
+use Rattle.tetri_report.specs.BlockLines.{certificate_line, grant_line, granted, inner_lines, plan_of}
 use Rattle.tetri_report.specs.Printable.{IsCertificateInRange, IsInRange, IsPrintable, IsPrintableGrant}
 use Rattle.tetri_report.specs.Reading.{Reading, before_cancels, before_ends, before_overs, before_plan, block_of, is_between, is_certified, is_planned, may_follow, report_from, with_line}
 use Rattle.tetri_report.specs.declared.line.PlanLine.{PlanLine}
@@ -20,27 +21,6 @@ use Rattle.tetri_report.specs.declared.line.Stage.{Stage}
 use Rattle.tetri_report.specs.declared.line.Stage.TheVariants as stages
 use Rattle.tetri_report.proofs.PrintedLines.{IsPrintableLine, line_of}
 use Rattle.tetri_report.proofs.ReadSteps.{ReadsTo, and_then, lines_of_kind, one_line, with_lines}
-
--- each grant with its start
-abbrev pub granted : List Grant → List ℕ → List (Grant × ℕ)
-granted [] starts = []
-granted (g ∷ gs) [] = []
-granted (g ∷ gs) (start ∷ starts) = (g, start) ∷ granted gs starts
-
-abbrev pub grant_line : Grant × ℕ → ReportLine
-grant_line p = lines.Grant p.0 p.1
-
-abbrev pub certificate_line : Certificate → ReportLine
-certificate_line (Tops columns rows) = lines.Tops columns rows
-
-abbrev pub plan_of : Block → PlanLine
-plan_of b = record { value = b.value; bound = b.bound; mark = b.mark; nodes = b.nodes }
-
--- the lines of a block behind its first one
-abbrev pub inner_lines : Block → List ReportLine
-inner_lines b =
-    map lines.End b.ended ++ (map lines.Cancel b.cancelled ++ (map lines.Over b.over ++ (map lines.Expire b.expired ++ (lines.Plan (plan_of b) ∷ []
-    ++ (map grant_line (granted b.grants b.starts) ++ (certificate_line b.certificate ∷ [] ++ map lines.Launch b.launched))))))
 
 -- what is in an earlier stage is in a later one
 ends_cancels : (s : Stage) → before_ends s ≡ true → before_cancels s ≡ true
@@ -122,7 +102,7 @@ module _ (t : Scenario) where
   grants_good (g ∷ gs) (s ∷ ss) e good small starts =
       let here = All-head (IsPrintableGrant t) g gs good in
       All-cons (λ p. IsPrintableLine t (grant_line p)) (g, s) (granted gs ss)
-      (here.job, All-head (λ h. h.leaf < 2 ^ 32) g gs small, All-head (λ n. n < 2 ^ 32) s ss starts, here.some, here.nodes)
+      (here.job, All-head (λ h. h.leaf < 2 ^ 32) g gs small, All-head (λ n. n < 2 ^ 32) s ss starts, here.some, here.nodes, here.few)
       (grants_good gs ss (omega (arith, e)) (All-tail (IsPrintableGrant t) g gs good) (All-tail (λ h. h.leaf < 2 ^ 32) g gs small) (All-tail (λ n. n < 2 ^ 32) s ss starts))
 
 -- the block without what its later lines say

@@ -15,6 +15,8 @@ use Rattle.tetri_state.specs.declared.happened.PieceId.{PieceId}
 use Rattle.tetri_trace.specs.Scenario.{Scenario}
 use Rattle.tetri_trace.specs.Sound.{IsSound}
 use Rattle.tetri_report.specs.Block.{Block}
+use Rattle.tetri_report.specs.BlockLines.{block_lines, certificate_line, granted, inner_lines, plan_of}
+use Rattle.tetri_report.specs.BlockLines as read
 use Rattle.tetri_report.specs.Printable.{IsCertificateInRange, IsInRange, IsPrintable, IsSummaryInRange}
 use Rattle.tetri_report.specs.Reading.{Reading, block_before, is_between, is_certified, onto_blocks, opened, report_from, report_in, with_read}
 use Rattle.tetri_report.specs.Text.{after_comma, cycle_line, cycle_text, entry, grant_line, grant_lines, granted_line, happened_text, job_line, job_name, joined, leaf_line, name_line, piece_line, plan_line, summary_text}
@@ -24,13 +26,8 @@ use Rattle.tetri_report.specs.declared.line.ReportLine.TheVariants as lines
 use Rattle.tetri_report.specs.declared.line.Stage.{Stage}
 use Rattle.tetri_report.specs.declared.line.Stage.TheVariants as stages
 use Rattle.tetri_report.proofs.PrintedLines.{IsPrintableLine, line_avoids, line_back, line_of, words}
-use Rattle.tetri_report.proofs.ReadBlocks.{certificate_line, granted, grants_good, inner_lines, plan_of, reads_block}
-use Rattle.tetri_report.proofs.ReadBlocks as read
+use Rattle.tetri_report.proofs.ReadBlocks.{grants_good, reads_block}
 use Rattle.tetri_report.proofs.ReadSteps.{onto_report, step}
-
--- the lines of a block
-abbrev pub block_lines : Block → List ReportLine
-block_lines b = lines.Cycle b.number ∷ inner_lines b
 
 abbrev pub report_lines : List Block → Summary → List ReportLine
 report_lines [] s = lines.Summary s ∷ []
@@ -182,7 +179,7 @@ module _ (t : Scenario) (sound : IsSound t) where
   summary_good : (s : Summary) → IsSummaryInRange s → IsPrintableLine t (lines.Summary s)
   summary_good s range = (range.cycles, range.launched, range.ended, range.cancelled, range.expired, range.worth, range.optimal)
 
-  lines_printable : (bs : List Block) (s : Summary) → All (IsPrintable t) bs → All IsInRange bs → IsSummaryInRange s → All (IsPrintableLine t) (report_lines bs s)
+  pub lines_printable : (bs : List Block) (s : Summary) → All (IsPrintable t) bs → All IsInRange bs → IsSummaryInRange s → All (IsPrintableLine t) (report_lines bs s)
   lines_printable [] s good range small = All-cons (IsPrintableLine t) (lines.Summary s) [] (summary_good s small) (All-nil (IsPrintableLine t))
   lines_printable (b ∷ bs) s good range small =
       All-cons (IsPrintableLine t) (lines.Cycle b.number) _ (All-head IsInRange b bs range).number
@@ -222,8 +219,12 @@ module _ (t : Scenario) (sound : IsSound t) where
       certified_between stages.Certified h = h
       certified_between stages.Closed h = h
 
+  -- the lines of a printed report
+  pub lines_printed : (bs : List Block) (s : Summary) → All (IsPrintable t) bs → All IsInRange bs → IsSummaryInRange s →
+      map (λ l. l.0) (lines_from 0 (flat_map (cycle_text t) bs ++ summary_text s)) ≡ map (line_of t) (report_lines bs s)
+  lines_printed bs s good range small =
+      ap (λ bytes. map (λ l. l.0) (lines_from 0 bytes)) (report_text_is t bs s)
+      ∙ lines_of_text 0 (map (line_of t) (report_lines bs s)) (lines_avoid (report_lines bs s) (lines_printable bs s good range small))
+
   pub report_back : (bs : List Block) (s : Summary) → All (IsPrintable t) bs → All IsInRange bs → IsSummaryInRange s → report_in t (flat_map (cycle_text t) bs ++ summary_text s) ≡ Ok (bs, s)
-  report_back bs s good range small =
-      ap (λ bytes. report_from t opened (map (λ l. l.0) (lines_from 0 bytes))) (report_text_is t bs s)
-      ∙ ap (report_from t opened) (lines_of_text 0 (map (line_of t) (report_lines bs s)) (lines_avoid (report_lines bs s) (lines_printable bs s good range small)))
-      ∙ lines_read bs s good range small opened refl refl
+  report_back bs s good range small = ap (report_from t opened) (lines_printed bs s good range small) ∙ lines_read bs s good range small opened refl refl

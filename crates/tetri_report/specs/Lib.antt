@@ -3,5 +3,6 @@ pub mod PlanOf
 pub mod Printable
 pub mod Text
 pub mod Line
+pub mod BlockLines
 pub mod Reading
 pub mod Answers

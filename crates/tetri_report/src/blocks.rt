@@ -1,11 +1,10 @@
 // A report, read line by line.
-ghost use Rattle.std.specs.Prelude.{◌≡◌, ◌<◌, ◌^◌, ◌++◌, ◌∷◌, [], Some, None, OnOk, OnErr, option_map, true, false};
+ghost use Rattle.std.specs.Prelude.{◌≡◌, ◌<◌, ◌≤◌, ◌+◌, ◌^◌, ◌++◌, ◌∷◌, [], Some, None, OnOk, OnErr, option_map, true, false};
 ghost use Rattle.tetri_report.specs.Answers.{AnswersEnd, AnswersLine, Leaves};
 ghost use Rattle.tetri_report.specs.Block.{block};
 ghost use Rattle.tetri_report.specs.Reading.{before_cancels, before_ends, before_overs, before_plan, behind_line, block_of, block_before, end_answer, ends_block, fitting, is_between, is_certified, is_planned, line_answer, may_follow, opened, stage_behind, summary_of, with_line, with_plan, with_read};
 ghost use Rattle.tetri_report.specs.declared.blocks.ReportFault.TheVariants as faults;
 ghost use Rattle.tetri_trace.specs.Scenario.{scenario};
-ghost use Rattle.tetri_trace.specs.Sound.{IsSound};
 
 use crate::cycle::{Cycle, Summary};
 use crate::line::{ReportLine, Stage};
@@ -313,10 +312,10 @@ impl Blocks {
     /// report, may not stand behind those before it, or names no job or node of the trace; from then on every line and the
     /// end answer the same. Without memory all stays as it was. The trace is the same at each call.
     pub fn feed(&mut self, trace: &Trace, line: &[u8]) -> Result<Option<Cycle>, ReportFault>
-        requires sound { IsSound (scenario trace.now) }
-        requires few { self.old.lines < 2 ^ 63 }
+        requires { self.old.lines < 2 ^ 63 }
         ensures answer { AnswersLine result (line_answer (scenario trace.entry.now) self.old line.now) }
         ensures left { Leaves result self.old (behind_line (scenario trace.entry.now) self.old line.now) self.new }
+        ensures counted { self.new.lines ≤ self.old.lines + 1 }
     {
         if let Some(line) = self.fault {
             return Err(ReportFault::Malformed(line));
@@ -331,6 +330,13 @@ impl Blocks {
         }
         self.add(line)?;
         Ok(None)
+    }
+
+    /// The summary, where the last line that was read is one.
+    pub fn summary(&self) -> Option<Summary>
+        ensures { result ≡ self.now.summary }
+    {
+        self.summary
     }
 
     /// The summary, once all lines were read. `Malformed` comes where a line was refused, or with the number behind the

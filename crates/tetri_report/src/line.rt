@@ -21,16 +21,16 @@ pub(crate) enum Kind {
 
 /// The numbers of a `plan` line.
 #[derive(Clone, Copy, Debug, PartialEq, Eq)]
-pub(crate) struct PlanLine {
-    pub(crate) value: u64,
-    pub(crate) bound: u64,
-    pub(crate) mark: PlanMark,
-    pub(crate) nodes: u32,
+pub struct PlanLine {
+    pub value: u64,
+    pub bound: u64,
+    pub mark: PlanMark,
+    pub nodes: u32,
 }
 
 /// A line of a report, with jobs and nodes by their numbers in the trace.
 #[derive(Drop)]
-pub(crate) enum ReportLine {
+pub enum ReportLine {
     Cycle(u32),
     End(PieceId),
     Cancel(u32),
@@ -43,9 +43,10 @@ pub(crate) enum ReportLine {
     Summary(Summary),
 }
 
-/// How far a report has come: which line was the last one, or that there was none.
+/// How far a report has come: which line was the last one, or that there was none. Events, grants and launches repeat; behind
+/// the certificate stand launches alone, and behind the summary nothing.
 #[derive(Clone, Copy, Debug, PartialEq, Eq)]
-pub(crate) enum Stage {
+pub enum Stage {
     Opened,
     Begun,
     Ends,

@@ -52,7 +52,7 @@ fn name_of(trace: &Trace, job: u32) -> &str
     requires { job < length (scenario trace.now).submissions }
     ensures { result.now ≡ job_name (scenario trace.entry.now) job }
 {
-    trace.jobs[job as usize].name.text()
+    trace.jobs.as_slice()[job as usize].name.text()
 }
 
 pub(crate) fn add_job_lines(

@@ -4,7 +4,6 @@ ghost use Rattle.tetri_io.specs.Numbers.{number_below};
 ghost use Rattle.tetri_report.specs.Line.{cycle_in, entry_in, grant_in, huge_number, kind_in, line_of_kind, job_in, lone_job, summary_of_entries, large_number, line_in, line_of_words, mark_in, node_in, nodes_in, piece_in, plan_in, small_number, summary_in, tops_in};
 ghost use Rattle.tetri_report.specs.declared.line.ReportLine.TheVariants as lines;
 ghost use Rattle.tetri_trace.specs.Scenario.{scenario};
-ghost use Rattle.tetri_trace.specs.Sound.{IsSound};
 
 use crate::cycle::Summary;
 use crate::line::{Kind, PlanLine, ReportLine};
@@ -145,7 +144,6 @@ fn summary_in(words: &[&[u8]]) -> Option<ReportLine>
 
 #[tactic(auto, unfolding(crate::specs::Line::job_in))]
 fn job_in(trace: &Trace, name: &[u8]) -> Option<u32>
-    requires { IsSound (scenario trace.now) }
     ensures { result ≡ job_in (scenario trace.now) name.now }
 {
     job_of(trace, name)
@@ -160,7 +158,6 @@ fn node_in(trace: &Trace, name: &[u8]) -> Option<u32>
 
 // A job by itself.
 fn lone_job(trace: &Trace, words: &[&[u8]]) -> Option<u32>
-    requires { IsSound (scenario trace.now) }
     ensures { result ≡ lone_job (scenario trace.now) (map (λ w. w.now) words.now) }
 {
     match words {
@@ -170,7 +167,6 @@ fn lone_job(trace: &Trace, words: &[&[u8]]) -> Option<u32>
 }
 
 fn piece_in(trace: &Trace, words: &[&[u8]]) -> Option<PieceId>
-    requires { IsSound (scenario trace.now) }
     ensures { result ≡ piece_in (scenario trace.now) (map (λ w. w.now) words.now) }
 {
     let [job, leaf] = words else {
@@ -197,7 +193,6 @@ fn nodes_in(alloc: Global, trace: &Trace, names: &[&[u8]]) -> Result<Option<Node
 
 #[tactic(auto, unfolding(crate::specs::Line::grant_in))]
 fn grant_in(alloc: Global, trace: &Trace, words: &[&[u8]]) -> Result<Option<ReportLine>, AllocError>
-    requires { IsSound (scenario trace.now) }
     ensures { IfOk result (λ o. o ≡ grant_in (scenario trace.entry.now) (map (λ w. w.now) words.now)) }
 {
     let [job, leaf, start, nodes] = words else {
@@ -260,7 +255,6 @@ fn line_of_kind(
     kind: Kind,
     words: &[&[u8]],
 ) -> Result<Option<ReportLine>, AllocError>
-    requires { IsSound (scenario trace.now) }
     ensures { IfOk result (λ o. o ≡ line_of_kind (scenario trace.entry.now) kind (map (λ w. w.now) words.now)) }
 {
     match kind {
@@ -283,7 +277,6 @@ fn line_of_words(
     trace: &Trace,
     words: &[&[u8]],
 ) -> Result<Option<ReportLine>, AllocError>
-    requires { IsSound (scenario trace.now) }
     ensures { IfOk result (λ o. o ≡ line_of_words (scenario trace.entry.now) (map (λ w. w.now) words.now)) }
 {
     let Some((tag, rest)) = words.split_first() else {
@@ -301,7 +294,6 @@ pub(crate) fn line_in(
     trace: &Trace,
     line: &[u8],
 ) -> Result<Option<ReportLine>, AllocError>
-    requires { IsSound (scenario trace.now) }
     ensures { IfOk result (λ o. o ≡ line_in (scenario trace.entry.now) line.now) }
 {
     let words = parts_at(alloc, b' ', line)?;

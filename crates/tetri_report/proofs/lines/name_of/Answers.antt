@@ -1,9 +1,11 @@
-use Rattle.std.proofs.Common.{◌<◌, ◌∙◌, ap, sym, length}
+use Rattle.std.proofs.Common.{◌<◌, ◌∙◌, ap, get_or, sym, length}
 use Rattle.std.proofs.lemmas.List.{length-map}
 use Rattle.tetri_report.proofs.Names.{job_name-at}
 use Rattle.tetri_report.proofs.lines.name_of.Goals as goal
 
 pub returns : goal.returns
 returns c =
-    let inside : c.args.job < length c.args.trace.now.jobs.items = simp length-map at c.requires in
-    c.text.ensures.value ∙ ap (λ j. j.name) c.index.ensures ∙ sym (job_name-at c.args.trace.now.jobs.items c.args.job c.index.result.now inside)
+    let jobs = c.args.trace.now.jobs in
+    let job = c.index-as_slice-job.result in
+    let inside : c.args.job < length jobs = simp length-map at c.requires in
+    c.text.ensures.value ∙ ap (λ js. (get_or js c.args.job job).name) c.as_slice.ensures ∙ sym (job_name-at jobs c.args.job job inside)
