@@ -1,6 +1,8 @@
 pub mod BoxLemmas
+pub mod ByPartLemmas
 pub mod CompileLemmas
 pub mod CountLemmas
+pub mod EntryLemmas
 pub mod Example
 pub mod FairLemmas
 pub mod FitLemmas
@@ -15,6 +17,7 @@ pub mod LawfulLemmas
 pub mod ManyJobs
 pub mod OutlineLemmas
 pub mod ProgramLemmas
+pub mod RoomLemmas
 pub mod SizeLemmas
 pub mod SmallLemmas
 pub mod TallyLemmas

@@ -3,12 +3,14 @@ use Rattle.std.proofs.Common.{◌≡◌, ℕ, zero, suc, ◌+◌, ◌-◌, ◌*�
 use Rattle.std.specs.Prelude.{nat_le, nat_lt}
 use Rattle.std.specs.List.{filter, range_with_len}
 use Rattle.std.proofs.lemmas.Bool.{cond_both}
-use Rattle.std.proofs.lemmas.List.{append_assoc, append-nil, drop_more}
+use Rattle.std.proofs.lemmas.List.{append_assoc, append-nil, drop_more, map-append}
 use Rattle.std.specs.Prelude.{unsigned_abs}
 use Rattle.std.proofs.lemmas.Int.{ints, fits_signed_from_abs, to_z-of_z}
 use lib.IntN.{ℤ, pos, ◌-ℤ◌}
 use mir.Syntax.{w128}
 use mir.Val.{to_z, of_z}
+use Rattle.tetri_ip.specs.declared.programs.Row.{Row}
+use Rattle.tetri_ip.specs.declared.programs.Term.{Term}
 use Rattle.tetri_strl.specs.WellMade.{PEAK}
 use Rattle.tetri_space.specs.Lists.{Each}
 use Rattle.std.proofs.lemmas.Bool.Decides.{nat_tests}
@@ -18,7 +20,7 @@ use Rattle.tetri_compile.specs.declared.outline.Outline.{Outline}
 use Rattle.tetri_compile.specs.declared.outline.Share.{Share}
 use Rattle.tetri_compile.specs.declared.outline.Tally.{Tally}
 use Rattle.tetri_compile.specs.Draft.{is_held, part_supply, supply, supply_row, tally_form}
-use Rattle.tetri_compile.specs.Flat.{coefficient, terms_at}
+use Rattle.tetri_compile.specs.Flat.{FlatRow, coefficient, flat_row, plain_row, terms_at}
 use Rattle.tetri_compile.specs.Forms.{Form, Limit, plain_limit}
 use Rattle.tetri_compile.specs.Sizes.{covers}
 use Rattle.tetri_compile.specs.Small.{IsSmallForm, IsSmallLimit}
@@ -107,6 +109,21 @@ small_at n [] i r lt is h = absurd (omega arith)
 small_at n (q ∷ rs) zero r lt is h = subst (λ x. IsSmallLimit n (plain_limit x)) (sym is) h.0
 small_at n (q ∷ rs) (suc i) r lt is h = small_at n rs i r (omega arith) is h.1
 
+-- a row more
+pub flat_row_next : (n : ℕ) (rs : List Inequality) (i : ℕ) (r : Inequality) (made new : List Row) (row : Row) (all : List FlatRow) → i < length rs → r ≡ get_or rs i r →
+    new ≡ made ++ row ∷ [] → row.terms.items ≡ terms_at r.most.items r.under.items (range_with_len 0 n) → row.right ≡ pos r.plus →
+    map plain_row made ++ map (flat_row n) (map plain_limit (drop i rs)) ≡ all →
+    map plain_row new ++ map (flat_row n) (map plain_limit (drop (i + 1) rs)) ≡ all
+flat_row_next n rs i r made new row all lt is grown terms right h =
+    let rest = map (flat_row n) (map plain_limit (drop (i + 1) rs)) in
+    ap (λ (qs : List Row). map plain_row qs ++ rest) grown
+    ∙ ap (λ (qs : List FlatRow). qs ++ rest) (map-append plain_row made (row ∷ []))
+    ∙ append_assoc (map plain_row made) (plain_row row ∷ []) rest
+    ∙ ap (λ (ts : List Term). map plain_row made ++ (let q : FlatRow = record { terms = ts; right = row.right } in q) ∷ rest) terms
+    ∙ ap (λ (z : ℤ). map plain_row made ++ (let q : FlatRow = record { terms = terms_at r.most.items r.under.items (range_with_len 0 n); right = z } in q) ∷ rest) right
+    ∙ ap (λ (q : Inequality). map plain_row made ++ flat_row n (plain_limit q) ∷ rest) is
+    ∙ ap (λ (qs : List Inequality). map plain_row made ++ map (flat_row n) (map plain_limit qs)) (sym (drop_more rs i r lt)) ∙ h
+
 -- the terms from a column on
 pub terms_skip : (most under : Form) (a m : ℕ) → a < m → coefficient most a ≡ coefficient under a →
     terms_at most under (range_with_len a (m - a)) ≡ terms_at most under (range_with_len (a + 1) (m - (a + 1)))
@@ -147,11 +164,3 @@ read_back z y e lt = ap (λ x. to_z w128 (of_z w128 x)) e ∙ to_z-of_z w128 y (
   where
     wide : (n : ℕ) → n < 2 ^ 62 → n < 2 ^ 127
     wide n h = omega (arith, h)
-
--- a term of a row, as it is written
-pub term_made : (j a b : ℕ) (y z : ℤ) → y ≡ pos a → z ≡ pos b → a < 2 ^ 61 → b < 2 ^ 61 →
-    to_z w128 (of_z w128 (to_z w128 (of_z w128 y) -ℤ to_z w128 (of_z w128 z))) ≡ pos a -ℤ pos b
-term_made j a b y z e f p q =
-    read_back (to_z w128 (of_z w128 y) -ℤ to_z w128 (of_z w128 z)) (pos a -ℤ pos b)
-    (ap (λ x. x -ℤ to_z w128 (of_z w128 z)) (read_back y (pos a) e (omega (arith, p))) ∙ ap (λ x. pos a -ℤ x) (read_back z (pos b) f (omega (arith, q))))
-    (less_of a b p q)

@@ -15,10 +15,12 @@ ghost use Rattle.tetri_compile.specs.Counting.{AreCountsOf};
 ghost use Rattle.tetri_compile.specs.Draft.{bid_rows, bid_tallies, bid_uppers, objective};
 ghost use Rattle.tetri_compile.specs.Flat.{IsCompiled, column_count, row_count};
 ghost use Rattle.tetri_compile.specs.Gain.{most_gain};
+ghost use Rattle.tetri_compile.specs.Room.{AreRooms};
 ghost use Rattle.tetri_compile.specs.Walked.{Grows, IsReady, inside, next_column, room};
 
 use crate::flattening::{counts_from, flatten};
 use crate::outline::{Outline, Share};
+use crate::rooms::{Rooms, rooms_of};
 use crate::supply::add_supply;
 use crate::walking::walk;
 use std::alloc::{AllocError, Global};
@@ -52,10 +54,12 @@ fn walk_bids(
     alloc: Global,
     inst: &Instance,
     parts: &Partitions,
+    rooms: &Rooms,
     out: &mut Outline,
 ) -> Result<Vec<Share>, AllocError>
     requires sound { IsSoundSpace (space inst.now) }
     requires partitions { ArePartitionsOf (space inst.now) (parts_of parts.now) }
+    requires rooms { AreRooms (space inst.now) rooms.now }
     requires ready { Each (λ b. IsSound b.expr × EachLeaf (IsReady (space inst.now) (parts_of parts.now)) b.expr) (parts_of parts.now).bids }
     requires fits { next_column out.old + length (bid_uppers (inside (space inst.now)) (room (space inst.now)) (parts_of parts.now).bids) < 2 ^ 31 }
     ensures form { IfOk result (λ f. f.items ≡ objective (inside (space inst.entry.now)) (room (space inst.entry.now)) (parts_of parts.now).bids (next_column out.old)) }
@@ -68,7 +72,16 @@ fn walk_bids(
     for offer in parts.offers() {
         let indicator = out.uppers.len() as u32;
         out.uppers.push(1)?;
-        let part = walk(alloc, inst, parts, offer.job, &offer.expr, indicator, out)?;
+        let part = walk(
+            alloc,
+            inst,
+            parts,
+            rooms,
+            offer.job,
+            &offer.expr,
+            indicator,
+            out,
+        )?;
         form.extend_from_slice(&part)?;
     }
     Ok(form)
@@ -76,7 +89,9 @@ fn walk_bids(
 
 /// The program of an instance, and its columns that count nodes. Every lawful allotment has a point of
 /// the program at which the program earns no less than the allotment's total. The program is fit, its
-/// lower bounds are 0, and its columns can earn at most 2^64 - 1 together.
+/// lower bounds are 0, and its columns can earn at most 2^64 - 1 together. Linear in the program and in
+/// the nodes of the partitions for each slot of the window and each level of an expression, but for the
+/// sorting of each row's terms and of each partition's nodes.
 pub fn compile(alloc: Global, inst: &Instance, parts: &Partitions) -> Result<Compiled, AllocError>
     requires sound { IsSoundSpace (space inst.now) }
     requires partitions { ArePartitionsOf (space inst.now) (parts_of parts.now) }
@@ -91,13 +106,14 @@ pub fn compile(alloc: Global, inst: &Instance, parts: &Partitions) -> Result<Com
     ensures counts { IfOk result (λ c. AreCountsOf c.program c.counts.items) }
     ensures bounded { IfOk result (λ c. most_gain c.program < 2 ^ 64) }
 {
+    let rooms = rooms_of(alloc, inst, parts)?;
     let mut out = Outline {
         uppers: Vec::new(alloc),
         rows: Vec::new(alloc),
         tallies: Vec::new(alloc),
     };
-    let form = walk_bids(alloc, inst, parts, &mut out)?;
-    add_supply(alloc, inst, parts, &mut out)?;
+    let form = walk_bids(alloc, inst, parts, &rooms, &mut out)?;
+    add_supply(alloc, inst, parts, &rooms, &mut out)?;
     let program = flatten(alloc, &form, &out)?;
     let counts = counts_from(alloc, &out.tallies)?;
     Ok(Compiled { program, counts })

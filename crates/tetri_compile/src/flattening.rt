@@ -2,14 +2,15 @@
 ghost use Rattle.std.specs.Prelude.{◌≡◌, ◌<◌, ◌≤◌, ◌+◌, ◌^◌, ℕ, length, map, pos, slice_index_or, IfOk};
 ghost use Rattle.std.specs.List.{range_with_len};
 ghost use Rattle.tetri_space.specs.Lists.{Each};
-ghost use Rattle.tetri_compile.specs.Flat.{coefficient, count_of, flat, flat_row, plain, plain_row, terms_at};
+ghost use Rattle.tetri_compile.specs.Flat.{coefficient, count_of, flat, flat_row, plain, plain_row};
 ghost use Rattle.tetri_compile.specs.Forms.{plain_limit};
 ghost use Rattle.tetri_compile.specs.Small.{IsSmallForm, IsSmallLimit};
 
 use crate::compiling::Count;
-use crate::outline::{Inequality, Outline, Share, Tally};
+use crate::outline::{Outline, Share, Tally};
+use crate::terms::terms_between;
 use std::alloc::{AllocError, Global};
-use tetri_ip::{Program, Row, Term};
+use tetri_ip::{Program, Row};
 
 // Adds the shares of a form to the numbers of their columns.
 fn add_form(form: &[Share], numbers: &mut Vec<u64>)
@@ -35,41 +36,15 @@ fn numbers_of(alloc: Global, form: &[Share], count: usize) -> Result<Vec<u64>, A
     Ok(numbers)
 }
 
-// The one form less the other, at each column where they differ.
-fn terms_between(
-    alloc: Global,
-    most: &[Share],
-    under: &[Share],
-    count: usize,
-) -> Result<Vec<Term>, AllocError>
-    requires few { count ≤ 2000 }
-    requires most { IsSmallForm count most.now }
-    requires under { IsSmallForm count under.now }
-    ensures { IfOk result (λ ts. ts.items ≡ terms_at most.now under.now (range_with_len 0 count)) }
+fn rows_from(alloc: Global, out: &Outline) -> Result<Vec<Row>, AllocError>
+    requires few { length out.now.uppers.items ≤ 2000 }
+    requires small { Each (IsSmallLimit (length out.now.uppers.items)) (map plain_limit out.now.rows.items) }
+    ensures { IfOk result (λ v. map plain_row v.items ≡ map (flat_row (length out.now.uppers.items)) (map plain_limit out.now.rows.items)) }
 {
-    let plus = numbers_of(alloc, most, count)?;
-    let minus = numbers_of(alloc, under, count)?;
-    let mut terms = Vec::new(alloc);
-    for column in 0..count {
-        if plus[column] != minus[column] {
-            terms.push(Term {
-                column: column as u32,
-                by: i128::from(plus[column]) - i128::from(minus[column]),
-            })?;
-        }
-    }
-    Ok(terms)
-}
-
-fn rows_from(alloc: Global, limits: &[Inequality], count: usize) -> Result<Vec<Row>, AllocError>
-    requires few { count ≤ 2000 }
-    requires small { Each (IsSmallLimit count) (map plain_limit limits.now) }
-    ensures { IfOk result (λ v. map plain_row v.items ≡ map (flat_row count) (map plain_limit limits.now)) }
-{
-    let mut rows = Vec::with_capacity(alloc, limits.len())?;
-    for limit in limits {
+    let mut rows = Vec::with_capacity(alloc, out.rows.len())?;
+    for limit in &out.rows {
         rows.push(Row {
-            terms: terms_between(alloc, &limit.most, &limit.under, count)?,
+            terms: terms_between(alloc, &limit.most, &limit.under)?,
             right: i128::from(limit.plus),
         })?;
     }
@@ -127,7 +102,7 @@ pub fn flatten(alloc: Global, form: &[Share], out: &Outline) -> Result<Program, 
         costs: costs_from(alloc, form, count)?,
         lower: zeros(alloc, &out.uppers)?,
         upper: bounds_from(alloc, &out.uppers)?,
-        rows: rows_from(alloc, &out.rows, count)?,
+        rows: rows_from(alloc, out)?,
     })
 }
 

@@ -6,9 +6,11 @@
 mod compiling;
 mod flattening;
 mod outline;
+mod rooms;
 mod sizes;
 mod supply;
 mod taking;
+mod terms;
 mod walking;
 
 pub use compiling::{Compiled, Count, compile};

@@ -1,29 +1,43 @@
 // The rows that keep each partition within what is free of it.
-ghost use Rattle.std.specs.Prelude.{◌≡◌, ◌<◌, ◌==◌, [], List, length, IfOk, OnOk};
+ghost use Rattle.std.specs.Prelude.{◌≡◌, ◌<◌, ◌==◌, ℕ, [], List, length, map, replicate, IfOk, OnOk};
 ghost use Rattle.std.specs.List.{filter, range_with_len};
 ghost use Rattle.tetri_space.specs.Partitions.{ArePartitionsOf, parts_of, partitions};
 ghost use Rattle.tetri_space.specs.Sound.{IsSound};
 ghost use Rattle.tetri_space.specs.Space.{space};
 ghost use Rattle.tetri_compile.specs.declared.outline.Tally.{Tally as TallyRow};
+ghost use Rattle.tetri_compile.specs.ByPart.{list_at};
 ghost use Rattle.tetri_compile.specs.Draft.{is_held, part_supply, supply, supply_row, tally_form};
+ghost use Rattle.tetri_compile.specs.Room.{AreRooms};
 ghost use Rattle.tetri_compile.specs.Sizes.{covers};
 ghost use Rattle.tetri_compile.specs.Walked.{Grows, inside, room};
 
 use crate::outline::{Inequality, Outline, Share, Tally};
+use crate::rooms::{Rooms, room_at};
 use std::alloc::{AllocError, Global};
-use tetri_space::{Instance, Partitions, available};
+use tetri_space::{Instance, Partitions};
 
-// The columns of one partition.
-fn of_part(alloc: Global, part: u32, tallies: &[Tally]) -> Result<Vec<Tally>, AllocError>
-    ensures { IfOk result (λ v. v.items ≡ filter (λ c. c.part == part) tallies.now) }
+fn empty_lists(alloc: Global, count: u32) -> Result<Vec<Vec<Tally>>, AllocError>
+    ensures { IfOk result (λ v. map (λ x. x.items) v.items ≡ replicate count []) }
 {
-    let mut mine = Vec::new(alloc);
+    let mut lists = Vec::with_capacity(alloc, count as usize)?;
+    for _ in 0..count {
+        lists.push(Vec::new(alloc))?;
+    }
+    Ok(lists)
+}
+
+// The columns of each partition, in their order.
+fn by_part(alloc: Global, count: u32, tallies: &[Tally]) -> Result<Vec<Vec<Tally>>, AllocError>
+    ensures count { IfOk result (λ v. length v.items ≡ count) }
+    ensures parts { IfOk result (λ v. (p : ℕ) → p < count → list_at v.items p ≡ filter (λ c. c.part == p) tallies.now) }
+{
+    let mut lists = empty_lists(alloc, count)?;
     for tally in tallies {
-        if tally.part == part {
-            mine.push(*tally)?;
+        if tally.part < count {
+            lists[tally.part as usize].push(*tally)?;
         }
     }
-    Ok(mine)
+    Ok(lists)
 }
 
 // The columns whose leaves use their nodes in this slot, once each.
@@ -46,15 +60,14 @@ fn held_form(alloc: Global, tallies: &[Tally], slot: u32) -> Result<Vec<Share>, 
 fn add_slot(
     alloc: Global,
     inst: &Instance,
-    parts: &Partitions,
+    rooms: &Rooms,
     part: u32,
     slot: u32,
     tallies: &[Tally],
     out: &mut Outline,
 ) -> Result<(), AllocError>
-    requires sound { IsSound (space inst.now) }
-    requires partitions { ArePartitionsOf (space inst.now) (parts_of parts.now) }
-    requires there { part < length (parts_of parts.now).groups }
+    requires rooms { AreRooms (space inst.now) rooms.now }
+    requires there { part < length (partitions (space inst.now)) }
     ensures { OnOk result ((cs : List TallyRow) → tallies.now ≡ filter (λ c. c.part == part) cs →
         Grows out.old out.new [] (supply_row (filter (is_held part slot) cs) (room (space inst.entry.now) part slot)) []) }
 {
@@ -65,7 +78,7 @@ fn add_slot(
     out.rows.push(Inequality {
         most: form,
         under: Vec::new(alloc),
-        plus: u64::from(available(inst, parts, part, slot)),
+        plus: room_at(inst, rooms, part, slot),
     })?;
     Ok(())
 }
@@ -74,20 +87,20 @@ fn add_slot(
 fn add_part(
     alloc: Global,
     inst: &Instance,
-    parts: &Partitions,
+    rooms: &Rooms,
     part: u32,
     tallies: &[Tally],
     out: &mut Outline,
 ) -> Result<(), AllocError>
     requires sound { IsSound (space inst.now) }
-    requires partitions { ArePartitionsOf (space inst.now) (parts_of parts.now) }
-    requires there { part < length (parts_of parts.now).groups }
+    requires rooms { AreRooms (space inst.now) rooms.now }
+    requires there { part < length (partitions (space inst.now)) }
     ensures { OnOk result ((cs : List TallyRow) → tallies.now ≡ filter (λ c. c.part == part) cs →
         Grows out.old out.new [] (part_supply (inside (space inst.entry.now)) (room (space inst.entry.now)) cs part
         (range_with_len inst.entry.now.now inst.entry.now.window)) []) }
 {
     for slot in inst.now..inst.now + inst.window {
-        add_slot(alloc, inst, parts, part, slot, tallies, out)?;
+        add_slot(alloc, inst, rooms, part, slot, tallies, out)?;
     }
     Ok(())
 }
@@ -98,17 +111,20 @@ pub fn add_supply(
     alloc: Global,
     inst: &Instance,
     parts: &Partitions,
+    rooms: &Rooms,
     out: &mut Outline,
 ) -> Result<(), AllocError>
     requires sound { IsSound (space inst.now) }
     requires partitions { ArePartitionsOf (space inst.now) (parts_of parts.now) }
+    requires rooms { AreRooms (space inst.now) rooms.now }
     ensures { OnOk result (Grows out.old out.new []
         (supply (inside (space inst.entry.now)) (room (space inst.entry.now)) out.old.tallies.items
         (range_with_len inst.entry.now.now inst.entry.now.window) (range_with_len 0 (length (partitions (space inst.entry.now))))) []) }
 {
+    let lists = by_part(alloc, parts.count(), &out.tallies)?;
     for part in 0..parts.count() {
-        let mine = of_part(alloc, part, &out.tallies)?;
-        add_part(alloc, inst, parts, part, &mine, out)?;
+        let mine = lists[part as usize].as_slice();
+        add_part(alloc, inst, rooms, part, mine, out)?;
     }
     Ok(())
 }

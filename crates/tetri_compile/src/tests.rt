@@ -1,7 +1,8 @@
 // Each public call once with ample memory.
-ghost use Rattle.std.specs.Prelude.{◌≡◌, ◌≤◌, ◌∷◌, [], false, true, IfOk};
+ghost use Rattle.std.specs.Prelude.{◌≡◌, ◌≤◌, ◌∷◌, [], false, true, Contains, IfOk};
 ghost use Rattle.tetri_strl.specs.Tree.{added, barrier, greatest, join, least, more, none, one, scale, tree};
 ghost use Rattle.tetri_cluster.specs.declared.sets.Sets.{Sets as SetLists};
+ghost use Rattle.tetri_space.specs.Partitions.{live_bids, sets_in};
 ghost use Rattle.tetri_space.specs.Sound.{IsSound};
 ghost use Rattle.tetri_space.specs.Space.{space};
 ghost use Rattle.tetri_compile.specs.Flat.{column_count, row_count};
@@ -82,6 +83,7 @@ fn usual(alloc: Global) -> Result<Instance, AllocError>
     ensures sound { IfOk result (λ inst. IsSound (space inst)) }
     ensures columns { IfOk result (λ inst. column_count (space inst) ≤ 2000) }
     ensures rows { IfOk result (λ inst. row_count (space inst) ≤ 2000) }
+    ensures tagged { IfOk result (λ inst. Contains (sets_in (live_bids (space inst))) 0) }
 {
     let mut jobs = Vec::new(alloc);
     jobs.push(Offer {
@@ -105,6 +107,7 @@ fn size_of_usual(rt: HostRuntime) -> Result<(), Fail> {
     let inst = usual(alloc)?;
     let parts = find_partitions(alloc, &inst)?;
     assert_eq!(rt; parts.count(), 2);
+    assert_eq!(rt; (parts.in_set(0, 0), parts.in_set(1, 0)), (true, false));
     assert_eq!(rt; size(&inst, &parts), (6, 11));
     Ok(())
 }

@@ -9,12 +9,14 @@ ghost use Rattle.tetri_space.specs.Sound.{IsSound as IsSoundSpace};
 ghost use Rattle.tetri_space.specs.Space.{space};
 ghost use Rattle.tetri_compile.specs.Draft.{leaf_tallies, tallies_of};
 ghost use Rattle.tetri_compile.specs.Forms.{limit, run, share, times};
+ghost use Rattle.tetri_compile.specs.Room.{AreRooms};
 ghost use Rattle.tetri_compile.specs.Walk.{forms, leaf_form, leaf_rows, ones, rows_of, rows_under, uppers_of, width, width_of};
 ghost use Rattle.tetri_compile.specs.Walked.{AreWalked, Grows, IsReady, IsWalked, inside, next_column, room};
 
 use crate::outline::{Inequality, Outline, Share, Tally};
+use crate::rooms::{Rooms, room_at};
 use std::alloc::{AllocError, Global};
-use tetri_space::{Instance, Partitions, available};
+use tetri_space::{Instance, Partitions};
 use tetri_strl::{Expr, Leaf, top_in};
 
 fn one_share(alloc: Global, column: u32, by: u64) -> Result<Vec<Share>, AllocError>
@@ -55,12 +57,14 @@ fn times_of(mut form: Vec<Share>, by: u64) -> Vec<Share>
 fn add_counts(
     inst: &Instance,
     parts: &Partitions,
+    rooms: &Rooms,
     job: u32,
     leaf: &Leaf,
     out: &mut Outline,
 ) -> Result<(), AllocError>
     requires sound { IsSoundSpace (space inst.now) }
     requires partitions { ArePartitionsOf (space inst.now) (parts_of parts.now) }
+    requires rooms { AreRooms (space inst.now) rooms.now }
     requires ready { IsReady (space inst.now) (parts_of parts.now) leaf.now }
     requires fits { next_column out.old + length (parts_found (parts_of parts.now) leaf.now.set) < 2 ^ 32 }
     ensures { OnOk result (Grows out.old out.new
@@ -69,8 +73,8 @@ fn add_counts(
 {
     for part in parts.parts_in(leaf.set) {
         let column = out.uppers.len() as u32;
-        let free = available(inst, parts, *part, leaf.start);
-        out.uppers.push(u64::from(leaf.k.min(free)))?;
+        let free = room_at(inst, rooms, *part, leaf.start);
+        out.uppers.push(u64::from(leaf.k).min(free))?;
         out.tallies.push(Tally {
             column,
             job,
@@ -86,6 +90,7 @@ fn walk_leaf(
     alloc: Global,
     inst: &Instance,
     parts: &Partitions,
+    rooms: &Rooms,
     job: u32,
     leaf: &Leaf,
     indicator: u32,
@@ -93,6 +98,7 @@ fn walk_leaf(
 ) -> Result<Vec<Share>, AllocError>
     requires sound { IsSoundSpace (space inst.now) }
     requires partitions { ArePartitionsOf (space inst.now) (parts_of parts.now) }
+    requires rooms { AreRooms (space inst.now) rooms.now }
     requires ready { IsReady (space inst.now) (parts_of parts.now) leaf.now }
     requires good { IsGoodLeaf leaf.now }
     requires fits { next_column out.old + length (parts_found (parts_of parts.now) leaf.now.set) < 2 ^ 32 }
@@ -105,7 +111,7 @@ fn walk_leaf(
     let first = out.uppers.len() as u32;
     let count = parts.parts_in(leaf.set).len();
     let wanted = u64::from(leaf.k);
-    add_counts(inst, parts, job, leaf, out)?;
+    add_counts(inst, parts, rooms, job, leaf, out)?;
     out.rows.push(Inequality {
         most: run_of(alloc, 1, first, count)?,
         under: one_share(alloc, indicator, wanted)?,
@@ -141,6 +147,7 @@ fn walk_marked(
     alloc: Global,
     inst: &Instance,
     parts: &Partitions,
+    rooms: &Rooms,
     job: u32,
     kids: &[Expr],
     most: u64,
@@ -149,6 +156,7 @@ fn walk_marked(
 ) -> Result<Vec<Share>, AllocError>
     requires sound { IsSoundSpace (space inst.now) }
     requires partitions { ArePartitionsOf (space inst.now) (parts_of parts.now) }
+    requires rooms { AreRooms (space inst.now) rooms.now }
     requires kids_sound { AreSound (trees kids.now) }
     requires ready { EachLeafOf (IsReady (space inst.now) (parts_of parts.now)) (trees kids.now) }
     requires fits { next_column out.old + length (ones (trees kids.now) ++ uppers_of (inside (space inst.now)) (room (space inst.now)) (trees kids.now)) < 2 ^ 31 }
@@ -167,7 +175,7 @@ fn walk_marked(
         under: one_share(alloc, indicator, most)?,
         plus: 0,
     })?;
-    let form = walk_each(alloc, inst, parts, job, kids, first, out)?;
+    let form = walk_each(alloc, inst, parts, rooms, job, kids, first, out)?;
     Ok(form)
 }
 
@@ -177,6 +185,7 @@ fn walk_each(
     alloc: Global,
     inst: &Instance,
     parts: &Partitions,
+    rooms: &Rooms,
     job: u32,
     kids: &[Expr],
     first: u32,
@@ -184,6 +193,7 @@ fn walk_each(
 ) -> Result<Vec<Share>, AllocError>
     requires sound { IsSoundSpace (space inst.now) }
     requires partitions { ArePartitionsOf (space inst.now) (parts_of parts.now) }
+    requires rooms { AreRooms (space inst.now) rooms.now }
     requires kids_sound { AreSound (trees kids.now) }
     requires ready { EachLeafOf (IsReady (space inst.now) (parts_of parts.now)) (trees kids.now) }
     requires fits { next_column out.old + width_of (inside (space inst.now)) (room (space inst.now)) (trees kids.now) < 2 ^ 31 }
@@ -196,6 +206,7 @@ fn walk_each(
             alloc,
             inst,
             parts,
+            rooms,
             job,
             &kids[place],
             first + place as u32,
@@ -213,6 +224,7 @@ fn walk_under(
     alloc: Global,
     inst: &Instance,
     parts: &Partitions,
+    rooms: &Rooms,
     job: u32,
     kids: &[Expr],
     best: u64,
@@ -221,6 +233,7 @@ fn walk_under(
 ) -> Result<Vec<Share>, AllocError>
     requires sound { IsSoundSpace (space inst.now) }
     requires partitions { ArePartitionsOf (space inst.now) (parts_of parts.now) }
+    requires rooms { AreRooms (space inst.now) rooms.now }
     requires kids_sound { AreSound (trees kids.now) }
     requires ready { EachLeafOf (IsReady (space inst.now) (parts_of parts.now)) (trees kids.now) }
     requires fits { next_column out.old + 1 + width_of (inside (space inst.now)) (room (space inst.now)) (trees kids.now) < 2 ^ 31 }
@@ -233,7 +246,7 @@ fn walk_under(
     let column = out.uppers.len() as u32;
     out.uppers.push(best)?;
     for kid in kids {
-        let form = walk(alloc, inst, parts, job, kid, indicator, out)?;
+        let form = walk(alloc, inst, parts, rooms, job, kid, indicator, out)?;
         out.rows.push(Inequality {
             most: one_share(alloc, column, 1)?,
             under: form,
@@ -253,6 +266,7 @@ pub fn walk(
     alloc: Global,
     inst: &Instance,
     parts: &Partitions,
+    rooms: &Rooms,
     job: u32,
     e: &Expr,
     indicator: u32,
@@ -260,6 +274,7 @@ pub fn walk(
 ) -> Result<Vec<Share>, AllocError>
     requires sound { IsSoundSpace (space inst.now) }
     requires partitions { ArePartitionsOf (space inst.now) (parts_of parts.now) }
+    requires rooms { AreRooms (space inst.now) rooms.now }
     requires tree_sound { IsSound (tree e.now) }
     requires ready { EachLeaf (IsReady (space inst.now) (parts_of parts.now)) (tree e.now) }
     requires fits { next_column out.old + width (inside (space inst.now)) (room (space inst.now)) (tree e.now) < 2 ^ 31 }
@@ -267,29 +282,29 @@ pub fn walk(
 {
     match e {
         Expr::One(leaf) => {
-            let form = walk_leaf(alloc, inst, parts, job, leaf, indicator, out)?;
+            let form = walk_leaf(alloc, inst, parts, rooms, job, leaf, indicator, out)?;
             Ok(form)
         }
         Expr::Max(kids) => {
-            let form = walk_marked(alloc, inst, parts, job, kids, 1, indicator, out)?;
+            let form = walk_marked(alloc, inst, parts, rooms, job, kids, 1, indicator, out)?;
             Ok(form)
         }
         Expr::Min(kids) => {
             let best = top_in(e, inst.now, inst.now + inst.window);
-            let form = walk_under(alloc, inst, parts, job, kids, best, indicator, out)?;
+            let form = walk_under(alloc, inst, parts, rooms, job, kids, best, indicator, out)?;
             Ok(form)
         }
         Expr::Sum(kids) => {
             let most = kids.len() as u64;
-            let form = walk_marked(alloc, inst, parts, job, kids, most, indicator, out)?;
+            let form = walk_marked(alloc, inst, parts, rooms, job, kids, most, indicator, out)?;
             Ok(form)
         }
         Expr::Scale(kid, by) => {
-            let form = walk(alloc, inst, parts, job, kid, indicator, out)?;
+            let form = walk(alloc, inst, parts, rooms, job, kid, indicator, out)?;
             Ok(times_of(form, *by))
         }
         Expr::Barrier(kid, least) => {
-            let form = walk(alloc, inst, parts, job, kid, indicator, out)?;
+            let form = walk(alloc, inst, parts, rooms, job, kid, indicator, out)?;
             out.rows.push(Inequality {
                 most: one_share(alloc, indicator, *least)?,
                 under: form,

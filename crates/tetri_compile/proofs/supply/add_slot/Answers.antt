@@ -23,11 +23,11 @@ returns c = λ cs e.
     let m = room (space c.args.inst.now) c.args.part c.args.slot in
     let form : c.in_ok-form.form.items ≡ tally_form held = c.in_ok-form.ensures ∙ held_are c.args.part c.args.slot c.args.tallies.now cs e in
     let some = supply_some held m (λ z. is_some (sym c.in_ok-form.form.ok.0) (sym c.if-is_empty.false ∙ c.is_empty.ensures) (ap length form ∙ z)) in
-    let row : Inequality = record { most = c.in_ok-form.form; under = c.new.result; plus = c.from.result } in
+    let row : Inequality = record { most = c.in_ok-form.form; under = c.new.result; plus = c.room_at.result } in
     let said : plain_limit row ≡ record { most = tally_form held; under = []; plus = m } =
-    ap (λ (f : Form). record { most = f; under = c.new.result.items; plus = c.from.result }) form
-    ∙ ap (λ (f : Form). record { most = tally_form held; under = f; plus = c.from.result }) c.new.ensures.items
-    ∙ ap (λ n. record { most = tally_form held; under = []; plus = n }) (c.from.ensures ∙ c.available.ensures) in
+    ap (λ (f : Form). record { most = f; under = c.new.result.items; plus = c.room_at.result }) form
+    ∙ ap (λ (f : Form). record { most = tally_form held; under = f; plus = c.room_at.result }) c.new.ensures.items
+    ∙ ap (λ n. record { most = tally_form held; under = []; plus = n }) c.room_at.ensures in
     record {
       uppers = sym (append-nil c.args.out.now.uppers.items);
       rows = row_last c.args.out.now.rows.items c.push.new.self.items row c.in_ok-push.ensures.items

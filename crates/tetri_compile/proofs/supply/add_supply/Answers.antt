@@ -1,10 +1,11 @@
-use Rattle.std.proofs.Common.{◌<◌, ◌==◌, List, length, ap, ◌∙◌, arith}
+use Rattle.std.proofs.Common.{◌<◌, ◌==◌, List, length, ap, sym, ◌∙◌, arith}
 use Rattle.std.specs.List.{filter, range_with_len}
 use Rattle.std.proofs.lemmas.List.{append-nil}
 use Rattle.tetri_space.specs.Partitions.{partitions}
 use Rattle.tetri_space.specs.Space.{space}
 use Rattle.tetri_compile.specs.declared.outline.Tally.{Tally}
 use Rattle.tetri_compile.specs.Walked.{inside, room}
+use Rattle.tetri_compile.proofs.ByPartLemmas.{list_is}
 use Rattle.tetri_compile.proofs.ProgramLemmas.{supply_next}
 use Rattle.tetri_compile.proofs.supply.add_supply.Goals as goal
 
@@ -14,11 +15,15 @@ loop-part-preserved c =
     let h = c.loop-part.invariant in
     let cs : List Tally = c.args.out.now.tallies.items in
     let m = length (partitions s) in
-    let lt : c.loop-part.part < m = omega (arith, c.loop-part-test.true, c.count-part-end.ensures, ap length c.requires.partitions.groups) in
-    let mine = c.deref-in-loop-part.ensures.value ∙ c.in_ok-mine.ensures ∙ ap (λ (ds : List Tally). filter (λ (d : Tally). d.part == c.loop-part.part) ds) (c.deref.ensures.value ∙ h.tallies) in
+    let p = c.loop-part.part in
+    let lists = c.in_ok-lists.lists.items in
+    let lt : p < m = omega (arith, c.loop-part-test.true, c.count-part-end.ensures, ap length c.requires.partitions.groups) in
+    let within : p < length lists = omega (arith, c.in_ok-lists.ensures.count, c.count.ensures, lt, ap length c.requires.partitions.groups) in
+    let mine = c.as_slice-mine.ensures.value ∙ sym (list_is lists p c.index.result.now within c.index.ensures) ∙ c.in_ok-lists.ensures.parts p (omega (arith, c.count.ensures, lt, ap length c.requires.partitions.groups))
+    ∙ ap (λ (ds : List Tally). filter (λ (d : Tally). d.part == p) ds) c.deref.ensures.value in
     let g = c.in_ok-add_part.ensures cs mine in
     record {
       uppers = g.uppers ∙ append-nil c.loop-part.out.uppers.items ∙ h.uppers;
-      rows = supply_next (inside s) (room s) cs (range_with_len s.now s.window) c.args.out.now c.loop-part.out c.add_part.new.out c.loop-part.part m _ lt g h.rows;
+      rows = supply_next (inside s) (room s) cs (range_with_len s.now s.window) c.args.out.now c.loop-part.out c.add_part.new.out p m _ lt g h.rows;
       tallies = g.tallies ∙ append-nil c.loop-part.out.tallies.items ∙ h.tallies;
     }

@@ -164,12 +164,15 @@ walk_marked-walk_each-requires t c =
         (
           c.requires.partitions,
           (
-            c.requires.kids_sound,
+            c.requires.rooms,
             (
-              c.requires.ready,
+              c.requires.kids_sound,
               (
-                omega (arith, c.requires.fits, long, more),
-                omega (arith, c.len-first.ensures, c.args.out.now.uppers.ok.0, c.requires.fits, long, ones_long c.args.kids.now),
+                c.requires.ready,
+                (
+                  omega (arith, c.requires.fits, long, more),
+                  omega (arith, c.len-first.ensures, c.args.out.now.uppers.ok.0, c.requires.fits, long, ones_long c.args.kids.now),
+                ),
               ),
             ),
           ),

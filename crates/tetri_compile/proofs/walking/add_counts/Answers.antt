@@ -4,10 +4,10 @@ use Rattle.tetri_space.specs.Space.{space}
 use Rattle.tetri_compile.proofs.OutlineLemmas.{inside_below}
 use Rattle.tetri_compile.proofs.walking.add_counts.Goals as goal
 
-pub available-free-requires-clause-there : goal.available-free-requires-clause-there
-available-free-requires-clause-there c =
+pub room_at-free-requires-clause-there : goal.room_at-free-requires-clause-there
+room_at-free-requires-clause-there c =
     let s = space c.args.inst.now in
     let k = c.loop-part.part-index in
     let same = c.parts_in-part-items.ensures ∙ c.requires.ready.parts in
     let lt : k < length (parts_in s (partitions s) c.args.leaf.now.set) = omega (arith, ap length same, c.loop-part-test.true) in
-    omega (arith, inside_below s (partitions s) c.args.leaf.now.set k lt, ap (λ (ps : List ℕ). get_or ps k 0) same, ap length c.requires.partitions.groups)
+    omega (arith, inside_below s (partitions s) c.args.leaf.now.set k lt, ap (λ (ps : List ℕ). get_or ps k 0) same)

@@ -1,0 +1,10 @@
+use Rattle.std.proofs.Common.{◌≡◌, ◌<◌, ◌==◌, ◌++◌, ℕ, length, drop}
+use Rattle.std.specs.List.{filter}
+use Rattle.tetri_compile.specs.ByPart.{list_at}
+use Rattle.tetri_compile.proofs.supply.by_part.Given as goal
+
+abbrev pub invariant-loop-tally : goal.invariant-loop-tally
+invariant-loop-tally l = record {
+  count : length l.lists.items ≡ l.count;
+  parts : (p : ℕ) → p < l.count → list_at l.lists.items p ++ filter (λ c. c.part == p) (drop l.tally-index l.tallies) ≡ filter (λ c. c.part == p) l.tallies;
+}

@@ -1,0 +1,71 @@
+// How many nodes of a partition are free in a slot, without a scan of its nodes.
+ghost use Rattle.std.specs.Prelude.{◌≡◌, ◌<◌, ℕ, false, length, nat_le, IfNone, IfOk, IfSome};
+ghost use Rattle.std.specs.List.Sorted.{IsNonDecreasing};
+ghost use Rattle.tetri_space.specs.Lists.{count};
+ghost use Rattle.tetri_space.specs.Partitions.{ArePartitionsOf, available, is_free, partitions, parts_of};
+ghost use Rattle.tetri_space.specs.Sound.{IsSound};
+ghost use Rattle.tetri_space.specs.Space.{space};
+ghost use Rattle.tetri_compile.specs.Room.{AreRooms};
+
+use std::alloc::{AllocError, Global};
+use tetri_space::{Instance, Partitions};
+
+// By partition, the slots from which its nodes are free, ascending. A drained node has none.
+#[derive(Drop)]
+pub struct Rooms {
+    pub since: Vec<Vec<u32>>,
+}
+
+// The slot from which a node is free, if it ever is.
+fn free_since(inst: &Instance, node: u32) -> Option<u32>
+    requires { IsSound (space inst.now) }
+    ensures never { IfNone result ((t : ℕ) → is_free (space inst.entry.now) node t ≡ false) }
+    ensures since { IfSome result (λ b. (t : ℕ) → is_free (space inst.entry.now) node t ≡ nat_le b t) }
+{
+    if node >= inst.nodes || inst.drained[node as usize] {
+        return None;
+    }
+    Some(inst.busy_until[node as usize])
+}
+
+// The slots from which these nodes are free, ascending.
+fn slots_of(alloc: Global, inst: &Instance, nodes: &[u32]) -> Result<Vec<u32>, AllocError>
+    requires { IsSound (space inst.now) }
+    ensures ascending { IfOk result (λ v. IsNonDecreasing v.items) }
+    ensures free { IfOk result (λ v. (t : ℕ) → count (λ b. nat_le b t) v.items ≡ count (λ n. is_free (space inst.entry.now) n t) nodes.now) }
+{
+    let mut slots = Vec::new(alloc);
+    for node in nodes {
+        if let Some(slot) = free_since(inst, *node) {
+            slots.push(slot)?;
+        }
+    }
+    slots.sort()?;
+    Ok(slots)
+}
+
+/// The rooms of an instance: sorts the nodes of each partition once.
+pub fn rooms_of(alloc: Global, inst: &Instance, parts: &Partitions) -> Result<Rooms, AllocError>
+    requires sound { IsSound (space inst.now) }
+    requires partitions { ArePartitionsOf (space inst.now) (parts_of parts.now) }
+    ensures { IfOk result (λ r. AreRooms (space inst.entry.now) r) }
+{
+    let mut since = Vec::with_capacity(alloc, parts.count() as usize)?;
+    for part in 0..parts.count() {
+        let slots = slots_of(alloc, inst, parts.nodes_of(part).as_slice())?;
+        since.push(slots)?;
+    }
+    Ok(Rooms { since })
+}
+
+/// How many nodes of a partition of the instance are free in a slot: a binary search.
+pub fn room_at(inst: &Instance, rooms: &Rooms, part: u32, slot: u32) -> u64
+    requires rooms { AreRooms (space inst.now) rooms.now }
+    requires there { part < length (partitions (space inst.now)) }
+    ensures { result ≡ available (space inst.entry.now) (partitions (space inst.entry.now)) part slot }
+{
+    // The clauses alone speak of the instance.
+    let _ = inst;
+    let since = rooms.since[part as usize].as_slice();
+    since.partition_point(|from| *from <= slot) as u64
+}
