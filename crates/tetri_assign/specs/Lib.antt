@@ -1,0 +1,5 @@
+pub mod Assigned
+pub mod Gathering
+pub mod Granting
+pub mod Order
+pub mod Taking
