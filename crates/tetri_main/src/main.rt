@@ -1,4 +1,5 @@
-//! `tetri plan TRACE` plans the trace in a file and writes its report to standard output.
+//! `tetri plan TRACE` plans the trace in a file and writes its report to standard output. `tetri check TRACE REPORT` checks a report
+//! in a file against its trace.
 #![tactic(auto)]
 
 use std::process::ExitCode;
@@ -10,6 +11,7 @@ use tetri_run::{Status, run, say};
 fn exit_number(status: &Status) -> u8 {
     match status {
         Status::Done => 0,
+        Status::Refused { .. } => 1,
         Status::Usage => 2,
         Status::ReadFault => 3,
         Status::WriteFault => 4,

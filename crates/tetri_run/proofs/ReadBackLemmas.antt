@@ -1,10 +1,10 @@
 -- The report of a run reads back as the run.
-use Rattle.std.proofs.Common.{◌≡◌, ◌<◌, List, [], ◌∷◌, ◌++◌, length, All, refl, sym, ap, ◌∙◌, subst}
+use Rattle.std.proofs.Common.{◌≡◌, ◌<◌, ◌≤◌, List, [], ◌∷◌, ◌++◌, length, All, refl, sym, ap, ◌∙◌, subst}
 use Rattle.std.specs.Prelude.{ℕ, Ok, Option, flat_map}
 use Rattle.std.specs.Io.KnownBytes.{append_known}
 use Rattle.std.proofs.lemmas.Grind.{flat_map-append}
 use Rattle.std.proofs.lemmas.List.{append-nil}
-use Rattle.std.proofs.lemmas.List.Elements.{All-append, All-cons, All-nil}
+use Rattle.std.proofs.lemmas.List.Elements.{All-append, All-cons, All-map, All-nil}
 use Rattle.tetri_report.specs.Block.{Block}
 use Rattle.tetri_report.specs.Printable.{IsInRange, IsPrintable, IsSummaryInRange}
 use Rattle.tetri_report.specs.Reading.{report_in}
@@ -13,6 +13,7 @@ use Rattle.tetri_io.proofs.Known.{append_known-append}
 use Rattle.tetri_run.specs.Progress.{RanAll, WroteReport}
 use Rattle.tetri_report.specs.Text.{cycle_text, summary_text}
 use Rattle.tetri_report.proofs.ReadReports.{report_back}
+use Rattle.tetri_report.proofs.ShortLines.{lines_short}
 use Rattle.tetri_space.specs.Space.{Space}
 use Rattle.tetri_state.specs.Begin.{Occurrences, begin}
 use Rattle.tetri_state.specs.Known.{AreOfJobs}
@@ -23,10 +24,12 @@ use Rattle.tetri_state.proofs.KnownLemmas.{begun_bids, occurring_known}
 use Rattle.tetri_state.proofs.ReachedLemmas.{begin_reached, stands_begun, early_begun}
 use Rattle.tetri_trace.specs.Scenario.{Scenario}
 use Rattle.tetri_trace.specs.Sound.{IsSound}
+use Rattle.tetri_io.specs.Lines.{lines_from}
+use Rattle.tetri_run.specs.Check.{IsAccepted, IsShort, lines_in}
 use Rattle.tetri_run.specs.Cycle.{IsPlannedCycle, instance_at, occurrences_in}
-use Rattle.tetri_run.specs.Run.{IsRun, cycles_text, in_order, report_text, state_behind, summary_of}
+use Rattle.tetri_run.specs.Run.{IsPlannedRun, cycles_text, in_order, report_text, state_behind, summary_of}
 use Rattle.tetri_run.proofs.PrintLemmas.{cycle_printable}
-use Rattle.tetri_run.proofs.RunLemmas.{run_reaches}
+use Rattle.tetri_run.proofs.RunLemmas.{run_of, run_reaches}
 
 cycles_text-in_order : (t : Scenario) (past : List Block) → cycles_text t past ≡ flat_map (cycle_text t) (in_order past)
 cycles_text-in_order t [] = refl
@@ -43,20 +46,36 @@ module _ (t : Scenario) (sound : IsSound t) where
       (record { sound = instance_sound t (begin t s) sound (stands_begun t (begin t s) sound there) (early_begun t (begin t s) sound there); nodes = refl; jobs = begun_bids t sound (begin t s) there })
       (subst (AreOfJobs t) (sym planned.cycle.happened) (occurring_known t sound s reached)) planned.cycle.plan
 
-  run_printable : (past : List Block) → IsRun t past → All (IsPrintable t) (in_order past)
+  run_printable : (past : List Block) → IsPlannedRun t past → All (IsPrintable t) (in_order past)
   run_printable [] run = All-nil (IsPrintable t)
   run_printable (b ∷ past) run =
       All-append (IsPrintable t) (in_order past) (b ∷ []) (run_printable past run.2)
-      (All-cons (IsPrintable t) b [] (run_cycle_printable (state_behind t past) b (run_reaches t past run.2) run.0 run.1) (All-nil (IsPrintable t)))
+      (All-cons (IsPrintable t) b [] (run_cycle_printable (state_behind t past) b (run_reaches t past (run_of t past run.2)) run.0 run.1) (All-nil (IsPrintable t)))
 
-  run_in_range : (past : List Block) → IsRun t past → All IsInRange (in_order past)
+  run_in_range : (past : List Block) → IsPlannedRun t past → All IsInRange (in_order past)
   run_in_range [] run = All-nil IsInRange
   run_in_range (b ∷ past) run = All-append IsInRange (in_order past) (b ∷ []) (run_in_range past run.2) (All-cons IsInRange b [] run.1.in_range (All-nil IsInRange))
 
-  pub run_reads_back : (past : List Block) → IsRun t past → IsSummaryInRange (summary_of t past) → report_in t (report_text t past) ≡ Ok (in_order past, summary_of t past)
+  pub run_reads_back : (past : List Block) → IsPlannedRun t past → IsSummaryInRange (summary_of t past) → report_in t (report_text t past) ≡ Ok (in_order past, summary_of t past)
   run_reads_back past run small =
       ap (λ l. report_in t (l ++ summary_text (summary_of t past))) (cycles_text-in_order t past)
       ∙ report_back t sound (in_order past) (summary_of t past) (run_printable past run) (run_in_range past run) small
+
+  run_lines_short : (past : List Block) → IsPlannedRun t past → IsSummaryInRange (summary_of t past) → All IsShort (lines_in (report_text t past))
+  run_lines_short past run small =
+      All-map IsShort (λ (l : List ℕ × ℕ). l.0) (lines_from 0 (report_text t past))
+      (subst (λ bytes. All (λ (l : List ℕ × ℕ). length l.0 ≤ 1048576) (lines_from 0 bytes)) (ap (λ l. l ++ summary_text (summary_of t past)) (sym (cycles_text-in_order t past)))
+      (lines_short t sound (in_order past) (summary_of t past) (run_printable past run) (run_in_range past run) small))
+
+  -- what this planner writes is accepted
+  pub run_accepted : (past : List Block) → IsPlannedRun t past → length past ≡ t.header.until → IsSummaryInRange (summary_of t past) → IsAccepted t (report_text t past)
+  run_accepted past run whole small = record {
+    past = past;
+    reads = run_reads_back past run small;
+    run = run_of t past run;
+    whole = whole;
+    short = run_lines_short past run small;
+  }
 
 pub wrote_report : (t : Scenario) → IsSound t → (m : Summary) (before middle now : Option (List ℕ)) → RanAll t m before middle → IsSummaryInRange m → now ≡ append_known middle (summary_text m) → WroteReport t before now
 wrote_report t sound m before middle now ran small e = record {
@@ -66,4 +85,5 @@ wrote_report t sound m before middle now ran small e = record {
   written = e ∙ ap (λ k. append_known k (summary_text m)) ran.written ∙ append_known-append before (cycles_text t ran.past) (summary_text m)
       ∙ ap (λ (s : Summary). append_known before (cycles_text t ran.past ++ summary_text s)) ran.counted;
   reads = run_reads_back t sound ran.past ran.run (subst IsSummaryInRange ran.counted small);
+  accepted = run_accepted t sound ran.past ran.run ran.whole (subst IsSummaryInRange ran.counted small);
 }

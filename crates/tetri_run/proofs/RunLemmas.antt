@@ -16,14 +16,19 @@ use Rattle.tetri_state.specs.Reached.{ArePlans, IsReached, between, state_after}
 use Rattle.tetri_state.specs.Snapshot.{Snapshot}
 use Rattle.tetri_trace.specs.Scenario.{Scenario}
 use Rattle.tetri_run.specs.Cycle.{ComesBefore, IsPlannedCycle, instance_at}
-use Rattle.tetri_run.specs.Run.{IsRun, NextText, cycle, summary, cycles_text, optimal_count, optimal_cycles, plans_of, report_text, state_behind, summary_of, worth_of_run}
-use Rattle.tetri_run.specs.Progress.{RanAll, RanSlot, RanSlots, StoppedBetween, StoppedInSlot, StoppedInText, WroteReport}
+use Rattle.tetri_run.specs.Run.{IsPlannedRun, IsRun, NextText, cycle, summary, cycles_text, optimal_count, optimal_cycles, plans_of, report_text, state_behind, summary_of, worth_of_run}
+use Rattle.tetri_run.specs.Progress.{RanAll, RanSlot, RanSlots, StoppedBetween, StoppedInSlot, StoppedInText, WroteReport, summary_at}
 use Rattle.tetri_run.specs.declared.cycles.RunTally.{RunTally}
 use Rattle.tetri_run.specs.declared.slot.SlotTally.{SlotTally}
 
 pub run_plans : (t : Scenario) (past : List Block) → IsRun t past → ArePlans t (plans_of past)
 run_plans t [] run = tt
-run_plans t (b ∷ past) run = (run.0, record { lawful = run.1.cycle.plan.good.lawful; thrifty = run.1.cycle.plan.good.thrifty }, run_plans t past run.2)
+run_plans t (b ∷ past) run = (run.0, record { lawful = run.1.plan.good.lawful; thrifty = run.1.plan.good.thrifty }, run_plans t past run.2)
+
+-- what this planner plans is a run
+pub run_of : (t : Scenario) (past : List Block) → IsPlannedRun t past → IsRun t past
+run_of t [] run = tt
+run_of t (b ∷ past) run = (run.0, run.1.cycle, run_of t past run.2)
 
 -- the states of a run are reached
 pub run_reaches : (t : Scenario) (past : List Block) → IsRun t past → IsReached t between (state_behind t past)
@@ -34,7 +39,7 @@ now_behind t [] = refl
 now_behind t (b ∷ past) = omega (arith, now_behind t past)
 
 -- the last plan is in order
-pub last_ordered : (t : Scenario) (past : List Block) → IsRun t past → AllPairs ComesBefore (state_behind t past).plan
+pub last_ordered : (t : Scenario) (past : List Block) → IsPlannedRun t past → AllPairs ComesBefore (state_behind t past).plan
 last_ordered t [] run = λ i j d lt within. absurd (omega (arith, within))
 last_ordered t (b ∷ past) run = run.1.kept_for.ordered
 
@@ -70,7 +75,7 @@ one_more_slot t i old new tally more slot before middle now in_run ran step w o 
     }
 
 -- a proper front of what comes next, behind what was written
-in_text : (t : Scenario) (past : List Block) (run : IsRun t past) (text : List ℕ) (before middle now : Option (List ℕ)) → NextText t past text →
+in_text : (t : Scenario) (past : List Block) (run : IsPlannedRun t past) (text : List ℕ) (before middle now : Option (List ℕ)) → NextText t past text →
     middle ≡ append_known before (cycles_text t past) → AppendsPart middle now text → StoppedInText t before now
 in_text t past run text before middle now next e part = record {
   past = past;
@@ -96,3 +101,12 @@ stopped_between t i old tally before middle now ran e = record { past = ran.past
 pub stopped_in_summary : (t : Scenario) (m : Summary) (before middle now : Option (List ℕ)) → RanAll t m before middle → AppendsPart middle now (summary_text m) → StoppedInText t before now
 stopped_in_summary t m before middle now ran part =
     in_text t ran.past ran.run (summary_text (summary_of t ran.past)) before middle now (summary ran.whole) ran.written (subst (λ (s : Summary). AppendsPart middle now (summary_text s)) ran.counted part)
+
+-- what is added up over a run are its numbers
+pub summary_is : (t : Scenario) (past : List Block) (s : Snapshot) (tally : RunTally) → s ≡ state_behind t past → tally.worth ≡ worth_of_run t past → tally.optimal ≡ optimal_cycles past →
+    summary_at s tally ≡ summary_of t past
+summary_is t past s tally state worth optimal = ap (λ q. summary_at q tally) state ∙ counted (now_behind t past) worth optimal
+  where
+    counted : (state_behind t past).now ≡ length past → tally.worth ≡ worth_of_run t past → tally.optimal ≡ optimal_cycles past →
+        summary_at (state_behind t past) tally ≡ summary_of t past
+    counted a b c = cc

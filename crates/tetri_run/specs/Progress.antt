@@ -12,8 +12,9 @@ use Rattle.tetri_state.specs.Begin.{begin}
 use Rattle.tetri_state.specs.Launch.{worth_launched}
 use Rattle.tetri_state.specs.Snapshot.{Snapshot}
 use Rattle.tetri_trace.specs.Scenario.{Scenario}
+use Rattle.tetri_run.specs.Check.{IsAccepted}
 use Rattle.tetri_run.specs.Cycle.{IsPlannedCycle, instance_at}
-use Rattle.tetri_run.specs.Run.{IsRun, NextText, cycles_text, in_order, optimal_count, optimal_cycles, report_text, state_behind, summary_of, worth_of_run}
+use Rattle.tetri_run.specs.Run.{IsPlannedRun, NextText, cycles_text, in_order, optimal_count, optimal_cycles, report_text, state_behind, summary_of, worth_of_run}
 use Rattle.tetri_run.specs.declared.slot.Ready.{Ready}
 use Rattle.tetri_run.specs.declared.slot.SlotTally.{SlotTally}
 use Rattle.tetri_run.specs.declared.cycles.RunTally.{RunTally}
@@ -46,7 +47,7 @@ pub record StoppedInSlot (t : Scenario) (old : Snapshot) (before now : Option (L
 -- So many slots were run from the opening state on.
 pub record RanSlots (t : Scenario) (slots : ℕ) (new : Snapshot) (tally : RunTally) (before now : Option (List ℕ)) : Type 0 where
   pub past : List Block
-  pub run : IsRun t past
+  pub run : IsPlannedRun t past
   pub as_many : length past ≡ slots
   pub state : new ≡ state_behind t past
   pub worth : tally.worth ≡ worth_of_run t past
@@ -56,7 +57,7 @@ pub record RanSlots (t : Scenario) (slots : ℕ) (new : Snapshot) (tally : RunTa
 -- The run stopped behind some cycles, in their next text.
 pub record StoppedInText (t : Scenario) (before now : Option (List ℕ)) : Type 0 where
   pub past : List Block
-  pub run : IsRun t past
+  pub run : IsPlannedRun t past
   pub text : List ℕ
   pub next : NextText t past text
   pub part : ℕ
@@ -66,21 +67,34 @@ pub record StoppedInText (t : Scenario) (before now : Option (List ℕ)) : Type 
 -- The run stopped between two texts.
 pub record StoppedBetween (t : Scenario) (before now : Option (List ℕ)) : Type 0 where
   pub past : List Block
-  pub run : IsRun t past
+  pub run : IsPlannedRun t past
   pub written : now ≡ append_known before (cycles_text t past)
 
--- The report of a whole run was written, and its lines read as the cycles and the summary of the run.
+-- The report of a whole run was written, which is an accepted report: its lines read as the cycles and the summary of the run.
 pub record WroteReport (t : Scenario) (before now : Option (List ℕ)) : Type 0 where
   pub past : List Block
-  pub run : IsRun t past
+  pub run : IsPlannedRun t past
   pub whole : length past ≡ t.header.until
   pub written : now ≡ append_known before (report_text t past)
   pub reads : report_in t (report_text t past) ≡ Ok (in_order past, summary_of t past)
+  pub accepted : IsAccepted t (report_text t past)
 
 -- All slots were run, and the summary is theirs.
 pub record RanAll (t : Scenario) (summary : Summary) (before now : Option (List ℕ)) : Type 0 where
   pub past : List Block
-  pub run : IsRun t past
+  pub run : IsPlannedRun t past
   pub whole : length past ≡ t.header.until
   pub counted : summary ≡ summary_of t past
   pub written : now ≡ append_known before (cycles_text t past)
+
+-- what is added up, as the numbers of a run
+abbrev pub summary_at : Snapshot → RunTally → Summary
+summary_at s tally = record {
+  cycles = s.now;
+  launched = length s.launched;
+  ended = length s.ended;
+  cancelled = length s.cancelled;
+  expired = length s.expired;
+  worth = tally.worth;
+  optimal = tally.optimal;
+}

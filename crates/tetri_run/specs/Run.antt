@@ -10,7 +10,7 @@ use Rattle.tetri_state.specs.Launch.{worth_launched}
 use Rattle.tetri_state.specs.Reached.{state_after}
 use Rattle.tetri_state.specs.Snapshot.{Snapshot}
 use Rattle.tetri_trace.specs.Scenario.{Scenario}
-use Rattle.tetri_run.specs.Cycle.{IsPlannedCycle, instance_at}
+use Rattle.tetri_run.specs.Cycle.{IsCycle, IsPlannedCycle, instance_at}
 
 abbrev pub plans_of : List Block → List (List Grant)
 plans_of past = map (λ b. b.grants) past
@@ -19,10 +19,18 @@ plans_of past = map (λ b. b.grants) past
 abbrev pub state_behind : Scenario → List Block → Snapshot
 state_behind t past = state_after t (plans_of past)
 
--- each of the cycles follows from the earlier ones
+-- each of the cycles begins before the end of the trace, and is such a cycle in the state that the earlier ones leave
+abbrev pub IsRunOf : (Scenario → Snapshot → Block → Type 0) → Scenario → List Block → Type 0
+IsRunOf IsSuch t [] = Unit {0}
+IsRunOf IsSuch t (b ∷ past) = ((state_behind t past).now < t.header.until) × IsSuch t (state_behind t past) b × IsRunOf IsSuch t past
+
+-- a run, whoever planned it
 abbrev pub IsRun : Scenario → List Block → Type 0
-IsRun t [] = Unit {0}
-IsRun t (b ∷ past) = ((state_behind t past).now < t.header.until) × IsPlannedCycle t (state_behind t past) b × IsRun t past
+IsRun = IsRunOf IsCycle
+
+-- a run that this planner plans
+abbrev pub IsPlannedRun : Scenario → List Block → Type 0
+IsPlannedRun = IsRunOf IsPlannedCycle
 
 abbrev pub optimal_count : PlanMark → ℕ
 optimal_count Optimal = 1
@@ -69,5 +77,5 @@ report_text t past = cycles_text t past ++ summary_text (summary_of t past)
 
 -- The next text of a report: the cycle that follows, or the summary behind the last one.
 pub data NextText (t : Scenario) (past : List Block) : List ℕ → Type 0 where
-  cycle : (b : Block) → IsRun t (b ∷ past) → NextText t past (cycle_text t b)
+  cycle : (b : Block) → IsPlannedRun t (b ∷ past) → NextText t past (cycle_text t b)
   summary : length past ≡ t.header.until → NextText t past (summary_text (summary_of t past))

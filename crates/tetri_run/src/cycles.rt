@@ -2,7 +2,7 @@
 ghost use Rattle.std.specs.Prelude.{◌≡◌, ◌≤◌, ◌<◌, ◌^◌, IfOk, IsErrOf, OnOk};
 ghost use Rattle.tetri_algebra.specs.Counts.{Rose};
 ghost use Rattle.tetri_report.specs.Printable.{IsSummaryInRange};
-ghost use Rattle.tetri_run.specs.Progress.{RanAll, StoppedBetween, StoppedInText, WroteReport};
+ghost use Rattle.tetri_run.specs.Progress.{RanAll, StoppedBetween, StoppedInText, WroteReport, summary_at};
 ghost use Rattle.tetri_run.specs.Status.{IsRunAnswer};
 ghost use Rattle.tetri_trace.specs.Scenario.{scenario};
 ghost use Rattle.tetri_trace.specs.Sound.{IsSound};
@@ -21,6 +21,21 @@ use tetri_trace::Trace;
 pub(crate) struct RunTally {
     pub(crate) worth: u128,
     pub(crate) optimal: u64,
+}
+
+/// The run so far in numbers: its state, and what was added up over its cycles.
+pub(crate) fn summary_at(state: &State, tally: &RunTally) -> Summary
+    ensures { result ≡ summary_at state.entry.now tally.entry.now }
+{
+    Summary {
+        cycles: u64::from(state.now()),
+        launched: state.launched_count() as u64,
+        ended: state.ended_count() as u64,
+        cancelled: state.cancelled_count() as u64,
+        expired: state.expired_count() as u64,
+        worth: tally.worth,
+        optimal: tally.optimal,
+    }
 }
 
 // Runs all slots, from the opening state on.
@@ -43,15 +58,7 @@ fn run_slots<K: Sink>(alloc: Global, trace: &Trace, sink: &mut K) -> Result<Summ
         tally.worth += u128::from(slot.worth);
         tally.optimal += slot.optimal;
     }
-    Ok(Summary {
-        cycles: u64::from(trace.header.until),
-        launched: state.launched_count() as u64,
-        ended: state.ended_count() as u64,
-        cancelled: state.cancelled_count() as u64,
-        expired: state.expired_count() as u64,
-        worth: tally.worth,
-        optimal: tally.optimal,
-    })
+    Ok(summary_at(&state, &tally))
 }
 
 fn number_is_large(number: u64)

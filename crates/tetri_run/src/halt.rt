@@ -1,4 +1,5 @@
-// Why a run stops before its end.
+// Why a run, or the check of a report, stops before its end.
+use crate::why::Why;
 use std::alloc::AllocError;
 use tetri_io::Failed;
 
@@ -28,5 +29,24 @@ impl From<AllocError> for Halt {
 
     fn from(_: AllocError) -> Self {
         Halt::NoMemory
+    }
+}
+
+/// Why the check of a report stops before its end. Lines count from 1.
+#[derive(Clone, Copy, Debug, PartialEq, Eq)]
+pub(crate) enum CheckHalt {
+    Refused { line: u64, why: Why },
+    ReadFault,
+    NoMemory,
+}
+
+impl From<AllocError> for CheckHalt {
+    ghost use Rattle.std.specs.Prelude.{◌≡◌};
+    ghost use Rattle.tetri_run.specs.declared.halt.CheckHalt.TheVariants as halts;
+
+    ghost from_gives = { λ _ e. e ≡ halts.NoMemory };
+
+    fn from(_: AllocError) -> Self {
+        CheckHalt::NoMemory
     }
 }

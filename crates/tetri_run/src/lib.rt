@@ -1,7 +1,11 @@
-//! The top call: plans a trace and writes the report.
+//! The top call: plans a trace and writes its report, or checks a report against its trace.
 #![tactic(auto)]
 
+mod accepted;
+mod check;
+mod cycle_check;
 mod cycles;
+mod differences;
 mod first_fit;
 mod halt;
 mod planner;
@@ -9,10 +13,14 @@ mod slot;
 mod spoken;
 mod status;
 mod top;
+mod why;
 
 pub use spoken::{SayFault, say};
 pub use status::Status;
-pub use top::{run, run_plan};
+pub use top::{run, run_check, run_plan};
+pub use why::Why;
 
+#[cfg(test)]
+mod check_tests;
 #[cfg(test)]
 mod tests;

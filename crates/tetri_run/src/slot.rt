@@ -28,7 +28,8 @@ pub(crate) struct SlotTally {
     pub(crate) optimal: u64,
 }
 
-fn optimal_count(mark: PlanMark) -> u64
+/// 1 where a plan is optimal, else 0.
+pub(crate) fn optimal_count(mark: PlanMark) -> u64
     ensures value { result ≡ optimal_count mark }
     ensures most { result ≤ 1 }
 {

@@ -3,14 +3,18 @@ ghost use Rattle.std.specs.Prelude.{◌≡◌, ◌≤◌, ◌++◌, IfOk, OnOk, 
 ghost use Rattle.std.specs.Io.KnownBytes.{append_known};
 ghost use Rattle.tetri_algebra.specs.Counts.{Rose};
 ghost use Rattle.tetri_io.specs.Sink.{AppendsPart};
-ghost use Rattle.tetri_run.specs.Status.{bad_trace_words, fault_words, field_words, status_words, why_name, why_values, why_words};
+ghost use Rattle.tetri_run.specs.Status.{bad_trace_words, fault_words, field_words, refusal_name, refusal_values, refused_words, rule_name, rule_values, status_words, tree_words, why_name, why_values, why_words};
+ghost use Rattle.tetri_run.specs.declared.why.Why.TheVariants as whys;
 ghost use Rattle.tetri_trace.specs.declared.fault.TraceWhy.{TraceWhy};
 
 use crate::status::Status;
+use crate::why::Why;
 use std::alloc::{AllocError, Global};
 use std::fmt::Write;
+use tetri_cert::TreeWhy;
 use tetri_io::{Failed, Sink, send_all};
 use tetri_parse::Fault;
+use tetri_space::{Rule, Unlawful};
 use tetri_trace::{Field, TraceWhy};
 use thiserror::Error;
 
@@ -154,6 +158,97 @@ fn bad_trace_line(alloc: Global, line: u64, why: TraceWhy) -> Result<String, All
     Ok(out)
 }
 
+// A rule of lawful allotments.
+fn rule_name(rule: Rule) -> &'static str
+    ensures { result.now ≡ rule_name rule }
+{
+    match rule {
+        Rule::NotPending => "not-pending",
+        Rule::NotLive => "not-live",
+        Rule::Doubled(_) => "doubled",
+        Rule::BadNodes => "bad-nodes",
+        Rule::TooMany => "too-many",
+        Rule::Outside(_) => "outside",
+        Rule::NotFree(_) => "not-free",
+        Rule::Clash(..) => "clash",
+    }
+}
+
+// Adds what shows that a rule is broken, each after a space.
+fn add_rule_values(out: &mut String, rule: Rule) -> Result<(), AllocError>
+    ensures { OnOk result (string_bytes out.new ≡ string_bytes out.old ++ rule_values rule) }
+{
+    match rule {
+        Rule::Doubled(earlier) => write!(out, " {earlier}"),
+        Rule::Outside(node) | Rule::NotFree(node) => write!(out, " {node}"),
+        Rule::Clash(earlier, node) => write!(out, " {earlier} {node}"),
+        _ => Ok(()),
+    }
+}
+
+// What is wrong with a certificate.
+fn tree_word(why: TreeWhy) -> &'static str
+    ensures { result.now ≡ tree_words why }
+{
+    match why {
+        TreeWhy::Kind => "kind",
+    }
+}
+
+// The name of a test that a report fails.
+fn refusal_name(why: Why) -> &'static str
+    ensures { result.now ≡ refusal_name why }
+{
+    match why {
+        Why::Malformed => "malformed",
+        Why::LineTooLong => "line-too-long",
+        Why::Unlawful(_) => "unlawful",
+        Why::WrongValue { .. } => "wrong-value",
+        Why::WasteGrant(_) => "waste-grant",
+        Why::BelowCarry { .. } => "below-carry",
+        Why::BadTree { .. } => "bad-tree",
+        Why::WrongBound { .. } => "wrong-bound",
+        Why::WrongMark => "wrong-mark",
+        Why::WrongEvents => "wrong-events",
+    }
+}
+
+// Adds the grant that is not lawful, and the rule that it breaks.
+fn add_unlawful(out: &mut String, unlawful: Unlawful) -> Result<(), AllocError>
+    ensures { OnOk result (string_bytes out.new ≡ string_bytes out.old ++ refusal_values (whys.Unlawful unlawful)) }
+{
+    write!(out, " {} {}", unlawful.grant, rule_name(unlawful.rule))?;
+    add_rule_values(out, unlawful.rule)
+}
+
+// Adds the values that show it, each after a space.
+fn add_refusal_values(out: &mut String, why: Why) -> Result<(), AllocError>
+    ensures { OnOk result (string_bytes out.new ≡ string_bytes out.old ++ refusal_values why) }
+{
+    match why {
+        Why::Unlawful(unlawful) => add_unlawful(out, unlawful),
+        Why::WrongValue { printed, found } | Why::WrongBound { printed, found } => {
+            write!(out, " {printed} {found}")
+        }
+        Why::WasteGrant(place) => write!(out, " {place}"),
+        Why::BelowCarry { printed, carry } => write!(out, " {printed} {carry}"),
+        Why::BadTree { node, why } => write!(out, " {node} {}", tree_word(why)),
+        _ => Ok(()),
+    }
+}
+
+#[tactic(auto, unfolding(crate::specs::Status::refused_words))]
+fn refused_line(alloc: Global, line: u64, why: Why) -> Result<String, AllocError>
+    ensures { IfOk result (λ s. string_bytes s ≡ refused_words line why) }
+{
+    let mut out = String::new(alloc);
+    write!(out, "refused: line {line}: ")?;
+    out.push_str(refusal_name(why))?;
+    add_refusal_values(&mut out, why)?;
+    out.push_str("\n")?;
+    Ok(out)
+}
+
 /// Writes the line of a status, and nothing for `Done`. `Failed` comes only where the count of faults rose, and then a
 /// proper prefix was written.
 pub fn say<K: Sink>(alloc: Global, status: &Status, sink: &mut K) -> Result<(), SayFault>
@@ -166,6 +261,10 @@ pub fn say<K: Sink>(alloc: Global, status: &Status, sink: &mut K) -> Result<(), 
 {
     match status {
         Status::Done => send_all(sink, b"")?,
+        Status::Refused { line, why } => {
+            let text = refused_line(alloc, *line, *why)?;
+            send_all(sink, text.as_bytes())?;
+        }
         Status::Usage => send_all(
             sink,
             b"usage: tetri plan TRACE | check TRACE REPORT | load N\n",

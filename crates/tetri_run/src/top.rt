@@ -1,63 +1,107 @@
 // The words of the command line, and what is done for them.
 ghost use Rattle.std.specs.Prelude.{◌≡◌, ◌≢◌, ◌↔◌, ◌≤◌, ◌⊎◌, List, ℕ, Some, None, Ok, Err, ◌++◌, option_map};
 ghost use Rattle.tetri_algebra.specs.Counts.{Rose};
-ghost use Rattle.tetri_run.specs.Status.{IsPromised, WritesNothingElse};
+ghost use Rattle.tetri_run.specs.Check.{IsAccepted};
+ghost use Rattle.tetri_run.specs.Status.{IsCheckPromised, IsPromised, IsSilent, RoseOf, status_of, trace_of};
+ghost use Rattle.tetri_run.specs.declared.why.Why.{Why};
 ghost use Rattle.tetri_trace.specs.declared.fault.TraceWhy.{TraceWhy};
-ghost use Rattle.tetri_run.specs.Words.{trace_asked, texts};
+ghost use Rattle.tetri_run.specs.Words.{Asked, asked, asked_of, texts, to_check, to_plan};
 ghost use Rattle.tetri_trace.specs.Lines.{scenario_in};
 ghost use Rattle.tetri_trace.specs.Scenario.{Scenario};
 
+use crate::accepted::check_trace;
 use crate::cycles::run_cycles;
 use crate::status::Status;
 use std::alloc::Global;
 use tetri_io::{Shelf, Sink};
 use tetri_trace::{TraceFault, read_trace};
 
-// The trace's name, where the words are `plan` and one more.
-fn trace_asked(words: &[String]) -> Option<&str>
-    ensures { option_map (λ s. s.now) result ≡ trace_asked (texts words.now) }
+/// What the words ask for, by names.
+#[derive(Clone, Copy, Debug)]
+pub(crate) enum Request<'a> {
+    Plan { trace: &'a str },
+    Check { trace: &'a str, report: &'a str },
+}
+
+// What is asked for: `plan` and one more word, or `check` and two more.
+fn asked(words: &[String]) -> Option<Request<'_>>
+    ensures { option_map asked_of result ≡ asked (texts words.now) }
 {
     match words {
-        [verb, name] if verb.as_str() == "plan" => Some(name.as_str()),
+        [verb, trace] if verb.as_str() == "plan" => Some(Request::Plan {
+            trace: trace.as_str(),
+        }),
+        [verb, trace, report] if verb.as_str() == "check" => Some(Request::Check {
+            trace: trace.as_str(),
+            report: report.as_str(),
+        }),
         _ => None,
     }
 }
 
-/// Does what the words ask: `plan TRACE` plans the trace of that name and writes its report.
+/// Does what the words ask: `plan TRACE` plans the trace of that name and writes its report, and `check TRACE REPORT` checks the
+/// report of that name against the trace, and writes that it is accepted, where it is.
 pub fn run<S: Shelf, K: Sink>(
     alloc: Global,
     words: &[String],
     shelf: &mut S,
     sink: &mut K,
 ) -> Status
-    ensures usage { (result ≡ Status.Usage) ↔ (trace_asked (texts words.now) ≡ None) }
-    ensures promise { (name content : List ℕ) → trace_asked (texts words.now) ≡ Some name
+    ensures usage { (result ≡ Status.Usage) ↔ (asked (texts words.now) ≡ None) }
+    ensures promise { (name content : List ℕ) → asked (texts words.now) ≡ Some (to_plan name)
         → S.told shelf.old name ≡ Some content
         → IsPromised result (scenario_in content) (K.written sink.old) (K.written sink.new) }
-    ensures silent { WritesNothingElse result (K.written sink.old) (K.written sink.new) }
+    ensures check { (trace report content lines : List ℕ) → asked (texts words.now) ≡ Some (to_check trace report)
+        → S.told shelf.old trace ≡ Some content → S.told shelf.old report ≡ Some lines
+        → IsCheckPromised result (scenario_in content) lines (K.written sink.old) (K.written sink.new) }
+    ensures refused { (name : List ℕ) (line : ℕ) (why : Why) → asked (texts words.now) ≡ Some (to_plan name) → result ≢ Status.Refused line why }
+    ensures bad_trace { (trace report content : List ℕ) (line : ℕ) (why : TraceWhy) → asked (texts words.now) ≡ Some (to_check trace report)
+        → S.told shelf.old trace ≡ Some content → result ≡ Status.BadTrace line why → scenario_in content ≡ Err (line, why) }
+    ensures silent { IsSilent result (K.written sink.old) (K.written sink.new) }
+    ensures check_silent { (trace report : List ℕ) → asked (texts words.now) ≡ Some (to_check trace report)
+        → result ≢ Status.Done → result ≢ Status.WriteFault → K.written sink.new ≡ K.written sink.old }
 
     // A fault comes only where it was counted.
-    ensures read { (name : List ℕ) → trace_asked (texts words.now) ≡ Some name → result ≡ Status.ReadFault
-        → Rose (S.faults shelf.old name) (S.faults shelf.new name) }
+    ensures read { (a : Asked) → asked (texts words.now) ≡ Some a → result ≡ Status.ReadFault
+        → RoseOf a (S.faults shelf.old) (S.faults shelf.new) }
     ensures write { result ≡ Status.WriteFault → Rose (K.faults sink.old) (K.faults sink.new) }
 
-    // A trace that is accepted is planned, and any other one is refused, but for want of memory.
-    ensures complete { (name content : List ℕ) (t : Scenario) → trace_asked (texts words.now) ≡ Some name
+    // A trace that is accepted is planned, a report that is accepted is told so, and a trace that is not accepted is refused,
+    // but for want of memory.
+    ensures complete { (name content : List ℕ) (t : Scenario) → asked (texts words.now) ≡ Some (to_plan name)
         → S.told shelf.old name ≡ Some content → scenario_in content ≡ Ok t
         → ¬ Rose (S.faults shelf.old name) (S.faults shelf.new name)
         → ¬ Rose (K.faults sink.old) (K.faults sink.new)
         → (result ≡ Status.Done) ⊎ (result ≡ Status.NoMemory) }
-    ensures refuses { (name content : List ℕ) (line : ℕ) (why : TraceWhy) → trace_asked (texts words.now) ≡ Some name
-        → S.told shelf.old name ≡ Some content → scenario_in content ≡ Err (line, why)
-        → ¬ Rose (S.faults shelf.old name) (S.faults shelf.new name)
+    ensures accepts { (trace report content lines : List ℕ) (t : Scenario) → asked (texts words.now) ≡ Some (to_check trace report)
+        → S.told shelf.old trace ≡ Some content → scenario_in content ≡ Ok t
+        → S.told shelf.old report ≡ Some lines → IsAccepted t lines
+        → ¬ RoseOf (to_check trace report) (S.faults shelf.old) (S.faults shelf.new)
+        → ¬ Rose (K.faults sink.old) (K.faults sink.new)
+        → (result ≡ Status.Done) ⊎ (result ≡ Status.NoMemory) }
+    ensures refuses { (a : Asked) (content : List ℕ) (line : ℕ) (why : TraceWhy) → asked (texts words.now) ≡ Some a
+        → S.told shelf.old (trace_of a) ≡ Some content → scenario_in content ≡ Err (line, why)
+        → ¬ RoseOf a (S.faults shelf.old) (S.faults shelf.new)
         → (result ≡ Status.BadTrace line why) ⊎ (result ≡ Status.NoMemory) }
     ensures same { S.told shelf.new ≡ S.told shelf.old }
     ensures later_reads { (other : List ℕ) → S.faults shelf.old other ≤ S.faults shelf.new other }
     ensures later_writes { K.faults sink.old ≤ K.faults sink.new }
 {
-    match trace_asked(words) {
-        Some(name) => run_plan(alloc, name, shelf, sink),
+    match asked(words) {
+        Some(Request::Plan { trace }) => run_plan(alloc, trace, shelf, sink),
+        Some(Request::Check { trace, report }) => run_check(alloc, trace, report, shelf, sink),
         None => Status::Usage,
+    }
+}
+
+// The status of a trace that is not read.
+fn status_of(fault: TraceFault) -> Status
+    ensures { result ≡ status_of fault }
+{
+    match fault {
+        TraceFault::Read => Status::ReadFault,
+        TraceFault::Bad { line, why } => Status::BadTrace { line, why },
+        TraceFault::NoMemory => Status::NoMemory,
     }
 }
 
@@ -65,9 +109,10 @@ pub fn run<S: Shelf, K: Sink>(
 /// one more.
 pub fn run_plan<S: Shelf, K: Sink>(alloc: Global, name: &str, shelf: &mut S, sink: &mut K) -> Status
     ensures usage { result ≢ Status.Usage }
+    ensures refused { (line : ℕ) (why : Why) → result ≢ Status.Refused line why }
     ensures promise { (content : List ℕ) → S.told shelf.old name.now ≡ Some content
         → IsPromised result (scenario_in content) (K.written sink.old) (K.written sink.new) }
-    ensures silent { WritesNothingElse result (K.written sink.old) (K.written sink.new) }
+    ensures silent { IsSilent result (K.written sink.old) (K.written sink.new) }
     ensures read { result ≡ Status.ReadFault
         → Rose (S.faults shelf.old name.now) (S.faults shelf.new name.now) }
     ensures write { result ≡ Status.WriteFault → Rose (K.faults sink.old) (K.faults sink.new) }
@@ -84,11 +129,44 @@ pub fn run_plan<S: Shelf, K: Sink>(alloc: Global, name: &str, shelf: &mut S, sin
     ensures later_reads { (other : List ℕ) → S.faults shelf.old other ≤ S.faults shelf.new other }
     ensures later_writes { K.faults sink.old ≤ K.faults sink.new }
 {
-    let trace = match read_trace(alloc, shelf, name) {
-        Ok(trace) => trace,
-        Err(TraceFault::Read) => return Status::ReadFault,
-        Err(TraceFault::Bad { line, why }) => return Status::BadTrace { line, why },
-        Err(TraceFault::NoMemory) => return Status::NoMemory,
-    };
-    run_cycles(alloc, &trace, sink)
+    match read_trace(alloc, shelf, name) {
+        Ok(trace) => run_cycles(alloc, &trace, sink),
+        Err(fault) => status_of(fault),
+    }
+}
+
+/// Checks the report that a name holds against the trace that another one holds, and writes how many cycles it has where it is
+/// accepted. Nothing that the report says is trusted.
+pub fn run_check<S: Shelf, K: Sink>(
+    alloc: Global,
+    trace: &str,
+    report: &str,
+    shelf: &mut S,
+    sink: &mut K,
+) -> Status
+    ensures usage { result ≢ Status.Usage }
+    ensures check { (content lines : List ℕ) → S.told shelf.old trace.now ≡ Some content → S.told shelf.old report.now ≡ Some lines
+        → IsCheckPromised result (scenario_in content) lines (K.written sink.old) (K.written sink.new) }
+    ensures bad_trace { (content : List ℕ) (line : ℕ) (why : TraceWhy) → S.told shelf.old trace.now ≡ Some content
+        → result ≡ Status.BadTrace line why → scenario_in content ≡ Err (line, why) }
+    ensures silent { result ≢ Status.Done → result ≢ Status.WriteFault → K.written sink.new ≡ K.written sink.old }
+    ensures read { result ≡ Status.ReadFault → RoseOf (to_check trace.now report.now) (S.faults shelf.old) (S.faults shelf.new) }
+    ensures write { result ≡ Status.WriteFault → Rose (K.faults sink.old) (K.faults sink.new) }
+    ensures accepts { (content lines : List ℕ) (t : Scenario) → S.told shelf.old trace.now ≡ Some content → scenario_in content ≡ Ok t
+        → S.told shelf.old report.now ≡ Some lines → IsAccepted t lines
+        → ¬ RoseOf (to_check trace.now report.now) (S.faults shelf.old) (S.faults shelf.new)
+        → ¬ Rose (K.faults sink.old) (K.faults sink.new)
+        → (result ≡ Status.Done) ⊎ (result ≡ Status.NoMemory) }
+    ensures refuses { (content : List ℕ) (line : ℕ) (why : TraceWhy) → S.told shelf.old trace.now ≡ Some content
+        → scenario_in content ≡ Err (line, why)
+        → ¬ Rose (S.faults shelf.old trace.now) (S.faults shelf.new trace.now)
+        → (result ≡ Status.BadTrace line why) ⊎ (result ≡ Status.NoMemory) }
+    ensures same { S.told shelf.new ≡ S.told shelf.old }
+    ensures later_reads { (other : List ℕ) → S.faults shelf.old other ≤ S.faults shelf.new other }
+    ensures later_writes { K.faults sink.old ≤ K.faults sink.new }
+{
+    match read_trace(alloc, shelf, trace) {
+        Ok(trace) => check_trace(alloc, &trace, report, shelf, sink),
+        Err(fault) => status_of(fault),
+    }
 }

@@ -1,4 +1,4 @@
-use Rattle.std.proofs.Common.{◌≡◌, ◌+◌, ◌<◌, ap, sym, subst, refl, arith, rules, AllPairs}
+use Rattle.std.proofs.Common.{◌≡◌, ◌∙◌, ◌+◌, ◌<◌, ap, sym, subst, refl, arith, rules, AllPairs}
 use Rattle.std.specs.Prelude.{IsErrOf}
 use Rattle.tetri_state.specs.Reached.{IsReached, between}
 use Rattle.tetri_state.specs.Snapshot.{Snapshot}
@@ -7,14 +7,14 @@ use Rattle.tetri_run.specs.Cycle.{ComesBefore}
 use Rattle.tetri_run.specs.Progress.{StoppedInSlot}
 use Rattle.tetri_run.specs.declared.cycles.RunTally.{RunTally}
 use Rattle.tetri_run.specs.declared.halt.Halt.TheVariants.{WriteFault}
-use Rattle.tetri_run.proofs.RunLemmas.{last_ordered, now_behind, one_more_slot, run_reaches, stopped_in_slot}
+use Rattle.tetri_run.proofs.RunLemmas.{last_ordered, now_behind, one_more_slot, run_of, run_reaches, stopped_in_slot, summary_is}
 use Rattle.tetri_run.proofs.cycles.run_slots.Goals as goal
 
 pub run_slot-requires-clause-reached : goal.run_slot-requires-clause-reached
 run_slot-requires-clause-reached g c =
     let t = scenario c.args.trace.now in
     let ran = c.loop-number.invariant.ran in
-    subst (λ (s : Snapshot). IsReached t between s) (sym ran.state) (run_reaches t ran.past ran.run)
+    subst (λ (s : Snapshot). IsReached t between s) (sym ran.state) (run_reaches t ran.past (run_of t ran.past ran.run))
 
 pub run_slot-requires-clause-in_run : goal.run_slot-requires-clause-in_run
 run_slot-requires-clause-in_run g c =
@@ -52,4 +52,16 @@ loop-number-preserved g c =
       small_worth = omega (arith, c.loop-number.invariant.small_worth, c.from.ensures, c.in_ok-slot.ensures.small);
       small_optimal = omega (arith, c.loop-number.invariant.small_optimal, c.in_ok-slot.ensures.most);
       later = omega (arith, c.loop-number.invariant.later, c.in_ok-slot.ensures.later);
+    }
+
+pub returns-clause-ok : goal.returns-clause-ok
+returns-clause-ok g c =
+    let t = scenario c.args.trace.now in
+    let ran = c.loop-number.invariant.ran in
+    record {
+      past = ran.past;
+      run = ran.run;
+      whole = omega (arith, ran.as_many, c.loop-number.auto.number-end, c.loop-number-test.false);
+      counted = c.summary_at.ensures ∙ summary_is t ran.past c.loop-number.state c.loop-number.tally ran.state ran.worth ran.optimal;
+      written = ran.written;
     }

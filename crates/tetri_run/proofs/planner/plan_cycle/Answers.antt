@@ -9,13 +9,6 @@ use Rattle.tetri_run.proofs.FirstFitLaw.{by_job}
 use Rattle.tetri_run.proofs.KeptLemmas.{IsFair, kept_bounds, kept_is_fair}
 use Rattle.tetri_run.proofs.planner.plan_cycle.Goals as goal
 
-pub launch_of-requires-clause-ascending : goal.launch_of-requires-clause-ascending
-launch_of-requires-clause-ascending c =
-    subst (IsNonDecreasingBy (λ (g : Grant). g.job)) (sym (c.as_slice-2.ensures))
-    (by_job c.in_ok-grants.grants (subst (IsFair (space c.args.inst.now)) (sym c.in_ok-grants.ensures)
-    (kept_is_fair (space c.args.inst.now) c.args.carry c.requires.sound c.requires.sets c.requires.numbered
-    (record { lawful = c.requires.lawful; thrifty = c.requires.thrifty; ordered = c.requires.ordered }))).ordered)
-
 pub returns-clause-plan : goal.returns-clause-plan
 returns-clause-plan c =
     let s = space c.args.inst.now in

@@ -1,0 +1,85 @@
+-- What is found of a cycle, as what it says of the run.
+use Rattle.std.proofs.Common.{◌≡◌, ℕ, ◌+◌, List, map, refl, sym, ap, ◌∙◌, subst}
+use Rattle.std.specs.Prelude.{Err}
+use Rattle.tetri_claims.specs.Certified.{IsBoundedByTops}
+use Rattle.tetri_claims.specs.Good.{IsGood}
+use Rattle.tetri_judge.specs.Verdict.{IsFirstFailed}
+use Rattle.tetri_judge.proofs.VerdictLemmas.{good_passes}
+use Rattle.tetri_report.specs.Block.{Block}
+use Rattle.tetri_report.specs.BlockLines.{block_lines}
+use Rattle.tetri_report.specs.PlanOf.{planned}
+use Rattle.tetri_space.specs.Space.{Space}
+use Rattle.tetri_space.specs.Total.{total_in}
+use Rattle.tetri_state.specs.Begin.{Occurrences, occurring}
+use Rattle.tetri_state.specs.Launch.{launched_in, start_of}
+use Rattle.tetri_state.specs.Planning.{IsCarry}
+use Rattle.tetri_state.specs.Snapshot.{Snapshot}
+use Rattle.tetri_strl.specs.declared.grants.Grant.{Grant}
+use Rattle.tetri_trace.specs.Scenario.{Scenario}
+use Rattle.tetri_run.specs.Checked.{AnswersCycle, AnswersPlan}
+use Rattle.tetri_run.specs.Cycle.{IsCycle, instance_at, occurrences_in}
+use Rattle.tetri_run.specs.Faulty.{IsFaulty, place_of, planned_badly, rightly_told, told_badly, why_of}
+use Rattle.tetri_run.specs.Told.{DifferFirstAt, retold}
+use Rattle.tetri_run.specs.declared.halt.CheckHalt.{CheckHalt}
+use Rattle.tetri_run.specs.declared.halt.CheckHalt.TheVariants.{Refused, ReadFault, NoMemory}
+use Rattle.tetri_run.specs.declared.why.Why.TheVariants.{WrongEvents}
+
+-- a cycle that is held against this instance, which is that of the state, and beside this carry
+module _ (t : Scenario) (s : Snapshot) (b : Block) (i : Space) (is : i ≡ instance_at t s) (carry : List Grant) (carried : IsCarry i s.plan carry) (low : ℕ)
+    (low_is : low ≡ total_in i carry) where
+  carry_here : IsCarry (instance_at t s) s.plan carry
+  carry_here = subst (λ j. IsCarry j s.plan carry) is carried
+
+  low_here : low ≡ total_in (instance_at t s) carry
+  low_here = low_is ∙ ap (λ j. total_in j carry) is
+
+  pub plan_refused : (new : Snapshot) (first : ℕ) (h : CheckHalt) → AnswersPlan {U = Unit {0}} (Err h) i low first b → AnswersCycle (Err h) t s new first b
+  plan_refused new first (Refused line why) found =
+      let failed : IsFirstFailed (instance_at t s) (total_in (instance_at t s) carry) (planned b) found.0 =
+      subst (λ n. IsFirstFailed (instance_at t s) n (planned b) found.0) low_here (subst (λ j. IsFirstFailed j low (planned b) found.0) is found.1) in
+      (place_of b found.0, found.2, subst (IsFaulty t s b (place_of b found.0)) (sym found.3) (planned_badly carry found.0 carry_here failed))
+  plan_refused new first ReadFault found = absurd found
+  plan_refused new first NoMemory found = absurd found
+
+  module _ (good : IsGood i low (planned b)) (tops : IsBoundedByTops i (planned b)) (o : Occurrences) (starts launched : List ℕ) (happened : o ≡ occurring t s)
+      (starts_are : starts ≡ map (start_of i) b.grants) (launched_are : launched ≡ launched_in i b.grants) where
+    good_here : IsGood (instance_at t s) (total_in (instance_at t s) carry) (planned b)
+    good_here = subst (λ n. IsGood (instance_at t s) n (planned b)) low_here (subst (λ j. IsGood j low (planned b)) is good)
+
+    tops_here : IsBoundedByTops (instance_at t s) (planned b)
+    tops_here = subst (λ j. IsBoundedByTops j (planned b)) is tops
+
+    starts_here : starts ≡ map (start_of (instance_at t s)) b.grants
+    starts_here = starts_are ∙ ap (λ j. map (start_of j) b.grants) is
+
+    launched_here : launched ≡ launched_in (instance_at t s) b.grants
+    launched_here = launched_are ∙ ap (λ j. launched_in j b.grants) is
+
+    number_here : i.now ≡ s.now
+    number_here = ap (λ (j : Space). j.now) is
+
+    retold_is : retold b i.now o starts launched ≡ rightly_told t s b
+    retold_is =
+        ap (λ n. retold b n o starts launched) number_here
+        ∙ ap (λ q. retold b s.now q starts launched) happened
+        ∙ ap (λ l. retold b s.now (occurring t s) l launched) starts_here
+        ∙ ap (retold b s.now (occurring t s) (map (start_of (instance_at t s)) b.grants)) launched_here
+
+    pub line_refused : (place : ℕ) → DifferFirstAt (block_lines b) (block_lines (retold b i.now o starts launched)) place → IsFaulty t s b place WrongEvents
+    line_refused place differ =
+        told_badly carry place carry_here (good_passes (instance_at t s) (total_in (instance_at t s) carry) (planned b) good_here tops_here)
+        (subst (λ c. DifferFirstAt (block_lines b) (block_lines c) place) retold_is differ)
+
+    pub cycle_right : b ≡ retold b i.now o starts launched → IsCycle t s b
+    cycle_right same = record {
+      number = ap (λ (c : Block). c.number) same ∙ number_here;
+      happened = ap occurrences_in same ∙ happened;
+      carry = carry;
+      carried = carry_here;
+      plan = record {
+        good = good_here;
+        tops = tops_here;
+        starts = ap (λ (c : Block). c.starts) same ∙ starts_here;
+        launched = ap (λ (c : Block). c.launched) same ∙ launched_here;
+      };
+    }

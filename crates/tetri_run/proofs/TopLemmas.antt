@@ -1,0 +1,37 @@
+-- What the check of a report says once its trace was read.
+use Rattle.std.proofs.Common.{◌≡◌, ◌∙◌, ℕ, List, sym}
+use Rattle.std.specs.Prelude.{Option, Some, Result, Ok}
+use Rattle.tetri_trace.specs.Lines.{scenario_in}
+use Rattle.tetri_trace.specs.Scenario.{Scenario}
+use Rattle.tetri_trace.specs.declared.fault.TraceWhy.{TraceWhy}
+use Rattle.tetri_run.specs.Status.{IsCheckAnswer, IsCheckPromised}
+use Rattle.tetri_run.specs.Words.{Asked, to_check}
+use Rattle.tetri_run.specs.declared.status.Status.{Status}
+use Rattle.tetri_run.specs.declared.status.Status.TheVariants.{Done, Refused, Usage, ReadFault, WriteFault, BadTrace, NoMemory}
+
+pub check_promised : (status : Status) (trace : Result Scenario (ℕ × TraceWhy)) (t : Scenario) (report : List ℕ) (before after : Option (List ℕ)) → trace ≡ Ok t →
+    IsCheckAnswer status t report before after → IsCheckPromised status trace report before after
+check_promised Done trace t report before after is answer = (t, is, answer)
+check_promised (Refused line why) trace t report before after is answer = (t, is, answer)
+check_promised Usage trace t report before after is answer = tt
+check_promised ReadFault trace t report before after is answer = tt
+check_promised WriteFault trace t report before after is answer = (t, is, answer)
+check_promised (BadTrace line why) trace t report before after is answer = absurd answer
+check_promised NoMemory trace t report before after is answer = tt
+
+-- a content is one trace
+pub same_scenario : (content : List ℕ) (t s : Scenario) → scenario_in content ≡ Ok t → scenario_in content ≡ Ok s → t ≡ s
+same_scenario content t s e f = ok_same (sym e ∙ f)
+  where
+    ok_same : ◌≡◌ {A = Result Scenario (ℕ × TraceWhy)} (Ok t) (Ok s) → t ≡ s
+    ok_same e = cc
+
+-- the words name one trace and one report
+pub same_names : (a b trace report : List ℕ) (o : Option Asked) → Some (to_check a b) ≡ o → o ≡ Some (to_check trace report) → (a ≡ trace) × (b ≡ report)
+same_names a b trace report o e f = (first (e ∙ f), second (e ∙ f))
+  where
+    first : Some (to_check a b) ≡ Some (to_check trace report) → a ≡ trace
+    first e = cc
+
+    second : Some (to_check a b) ≡ Some (to_check trace report) → b ≡ report
+    second e = cc

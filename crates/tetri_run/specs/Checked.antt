@@ -1,0 +1,131 @@
+-- What checking a cycle, a line and a report answers.
+use Rattle.std.specs.Prelude.{◌≡◌, ◌<◌, ◌≤◌, ◌*◌, ◌^◌, ℕ, ◌+◌, List, length, Option, Some, None, Result, Ok, Err}
+use Rattle.tetri_claims.specs.Certified.{IsBoundedByTops}
+use Rattle.tetri_claims.specs.Good.{IsGood}
+use Rattle.tetri_judge.specs.Verdict.{IsFirstFailed}
+use Rattle.tetri_judge.specs.declared.verdict.Verdict.{Verdict}
+use Rattle.tetri_report.specs.Block.{Block}
+use Rattle.tetri_report.specs.BlockLines.{events}
+use Rattle.tetri_report.specs.PlanOf.{planned}
+use Rattle.tetri_report.specs.declared.blocks.ReportFault.{ReportFault}
+use Rattle.tetri_report.specs.declared.blocks.ReportFault.TheVariants as faults
+use Rattle.tetri_report.specs.Reading.{Reading, behind_line, line_answer}
+use Rattle.tetri_report.specs.declared.cycle.Summary.{Summary}
+use Rattle.tetri_report.specs.declared.line.Stage.TheVariants.{Closed}
+use Rattle.tetri_space.specs.Space.{Space}
+use Rattle.tetri_state.specs.After.{after}
+use Rattle.tetri_state.specs.Begin.{begin}
+use Rattle.tetri_state.specs.Launch.{worth_launched}
+use Rattle.tetri_state.specs.Snapshot.{Snapshot}
+use Rattle.tetri_trace.specs.Scenario.{Scenario}
+use Rattle.tetri_run.specs.Check.{Checking, FitsRun, IsInPlace, IsPassed, IsRefused, IsShort}
+use Rattle.tetri_run.specs.Cycle.{IsCycle, instance_at}
+use Rattle.tetri_run.specs.Faulty.{IsFaulty, place_of, why_of}
+use Rattle.tetri_run.specs.Run.{IsRun, optimal_count, optimal_cycles, state_behind, worth_of_run}
+use Rattle.tetri_run.specs.declared.halt.CheckHalt.{CheckHalt}
+use Rattle.tetri_run.specs.declared.halt.CheckHalt.TheVariants.{Refused, ReadFault, NoMemory}
+use Rattle.tetri_run.specs.declared.slot.SlotTally.{SlotTally}
+use Rattle.tetri_run.specs.declared.check.Progress.{Progress}
+use Rattle.tetri_run.specs.declared.cycles.RunTally.{RunTally}
+use Rattle.tetri_run.specs.declared.why.Why.{Why}
+use Rattle.tetri_run.specs.declared.why.Why.TheVariants.{Malformed, WrongEvents}
+
+-- What the tests of a plan answer, where the cycle's first line has this number: it is good, and bounded by the tops, or the
+-- first test that it fails refuses the line at its place.
+abbrev pub AnswersPlan : {U : Type 0} → Result U CheckHalt → Space → ℕ → ℕ → Block → Type 0
+AnswersPlan (Ok u) i carried first b = IsGood i carried (planned b) × IsBoundedByTops i (planned b)
+AnswersPlan (Err (Refused line why)) i carried first b =
+    (v : Verdict) × IsFirstFailed i carried (planned b) v × (line ≡ first + place_of b v) × (why ≡ why_of v)
+AnswersPlan (Err ReadFault) i carried first b = ⊥
+AnswersPlan (Err NoMemory) i carried first b = ⊥
+
+-- The cycle is one of the run, and what it launches is launched.
+pub record IsDone (t : Scenario) (old new : Snapshot) (b : Block) (tally : SlotTally) : Type 0 where
+  pub cycle : IsCycle t old b
+  pub state : new ≡ after t (begin t old) b.grants
+  pub worth : tally.worth ≡ worth_launched (instance_at t old) b.grants
+  pub optimal : tally.optimal ≡ optimal_count b.mark
+
+-- what checking a cycle answers that begins in this state, and whose first line has this number
+abbrev pub AnswersCycle : Result SlotTally CheckHalt → Scenario → Snapshot → Snapshot → ℕ → Block → Type 0
+AnswersCycle (Ok tally) t old new first b = IsDone t old new b tally
+AnswersCycle (Err (Refused line why)) t old new first b = (place : ℕ) × (line ≡ first + place) × IsFaulty t old b place why
+AnswersCycle (Err ReadFault) t old new first b = ⊥
+AnswersCycle (Err NoMemory) t old new first b = Unit {0}
+
+-- a fault of a report's text as the end of its check
+abbrev pub halt_of : ReportFault → CheckHalt
+halt_of (faults.Malformed line) = Refused line Malformed
+halt_of faults.NoMemory = NoMemory
+
+-- Cycles of a run were checked, and this is kept for them: the state that they leave, and what is added up over them.
+pub record IsBehind (t : Scenario) (past : List Block) (s : Snapshot) (tally : RunTally) : Type 0 where
+  pub run : IsRun t past
+  pub state : s ≡ state_behind t past
+  pub worth : tally.worth ≡ worth_of_run t past
+  pub optimal : tally.optimal ≡ optimal_cycles past
+  pub small_worth : tally.worth ≤ length past * 2 ^ 64
+  pub small_optimal : tally.optimal ≤ length past
+
+-- The lines so far may stand. A cycle has no more events, grants and launches than there are lines from its first one on, and a
+-- start for each grant. Where a summary was read, the report is closed.
+pub record IsInOrder (first : ℕ) (r : Reading) : Type 0 where
+  pub sane : r.fault ≡ None
+  pub paged : first + (events r.block + length r.block.grants + length r.block.launched) ≤ r.lines + 1
+  pub starts : length r.block.starts ≡ length r.block.grants
+  pub closed : (s : Summary) → r.summary ≡ Some s → r.stage ≡ Closed
+
+-- The check has come this far, with what is kept for it.
+pub record IsAt (t : Scenario) (c : Checking) (p : Progress) : Type 0 where
+  pub behind : IsBehind t c.past p.state p.tally
+  pub reading : p.blocks ≡ c.reading
+  pub first : p.first ≡ c.first
+  pub in_order : IsInOrder c.first c.reading
+  pub in_place : IsInPlace t c
+
+-- A cycle is one of the run, and the check goes on behind it: the next one begins at this line.
+pub record WentOn (t : Scenario) (old new : Progress) (number : ℕ) (b : Block) : Type 0 where
+  pub slot : SlotTally
+  pub done : IsDone t old.state new.state b slot
+  pub small : slot.worth < 2 ^ 64
+  pub most : slot.optimal ≤ 1
+  pub worth : new.tally.worth ≡ old.tally.worth + slot.worth
+  pub optimal : new.tally.optimal ≡ old.tally.optimal + slot.optimal
+  pub first : new.first ≡ number
+  pub blocks : new.blocks ≡ old.blocks
+
+-- what the end of a cycle answers
+abbrev pub AnswersEnded : {U : Type 0} → Result U CheckHalt → Scenario → Progress → Progress → ℕ → Block → Type 0
+AnswersEnded (Ok u) t old new number b = WentOn t old new number b
+AnswersEnded (Err (Refused line why)) t old new number b = (place : ℕ) × (line ≡ old.first + place) × IsFaulty t old.state b place why
+AnswersEnded (Err ReadFault) t old new number b = ⊥
+AnswersEnded (Err NoMemory) t old new number b = Unit {0}
+
+-- A line was read, which ended this cycle, if it ended one, and what is kept of the run is as before.
+pub record IsFed (t : Scenario) (c : Checking) (p : Progress) (line : List ℕ) (ended : Option Block) : Type 0 where
+  pub short : IsShort line
+  pub behind : IsBehind t c.past p.state p.tally
+  pub first : p.first ≡ c.first
+  pub in_order : IsInOrder c.first c.reading
+  pub in_place : IsInPlace t c
+  pub reads : line_answer t c.reading line ≡ Ok ended
+  pub blocks : p.blocks ≡ behind_line t c.reading line
+
+-- what testing the place of the last line answers, which has this number
+abbrev pub AnswersPlace : {U : Type 0} → Result U CheckHalt → Scenario → List Block → Option Summary → ℕ → Type 0
+AnswersPlace (Ok u) t past summary number = FitsRun t past summary
+AnswersPlace (Err halt) t past summary number = (halt ≡ Refused number WrongEvents) × (FitsRun t past summary → ⊥)
+
+-- a line was checked: how far the check has come, or the fault that the line shows
+abbrev pub AnswersLine : {U : Type 0} → Result U CheckHalt → Scenario → Checking → Progress → List ℕ → Type 0
+AnswersLine (Ok u) t c new line = (behind : Checking) × IsPassed t c line behind × IsAt t behind new
+AnswersLine (Err (Refused number why)) t c new line = IsRefused t c line number why
+AnswersLine (Err ReadFault) t c new line = ⊥
+AnswersLine (Err NoMemory) t c new line = Unit {0}
+
+-- what the check of a whole report answers, which comes to such outcomes
+abbrev pub AnswersReport : Result ℕ CheckHalt → (Result ℕ (ℕ × Why) → Type 0) → Type 0
+AnswersReport (Ok cycles) Comes = Comes (Ok cycles)
+AnswersReport (Err (Refused line why)) Comes = Comes (Err (line, why))
+AnswersReport (Err ReadFault) Comes = Unit {0}
+AnswersReport (Err NoMemory) Comes = Unit {0}

@@ -1,0 +1,53 @@
+-- What is wrong with a cycle of a report.
+use Rattle.std.specs.Prelude.{ℕ, ◌+◌, List, map}
+use Rattle.tetri_strl.specs.declared.grants.Grant.{Grant}
+use Rattle.tetri_judge.specs.Verdict.{IsFirstFailed, Passes, Test}
+use Rattle.tetri_judge.specs.declared.verdict.Verdict.{Verdict}
+use Rattle.tetri_judge.specs.declared.verdict.Verdict.TheVariants as verdicts
+use Rattle.tetri_report.specs.Block.{Block}
+use Rattle.tetri_report.specs.BlockLines.{block_lines, certificate_place, grant_place, plan_place}
+use Rattle.tetri_report.specs.PlanOf.{planned}
+use Rattle.tetri_space.specs.Total.{total_in}
+use Rattle.tetri_state.specs.Begin.{occurring}
+use Rattle.tetri_state.specs.Launch.{launched_in, start_of}
+use Rattle.tetri_state.specs.Planning.{IsCarry}
+use Rattle.tetri_state.specs.Snapshot.{Snapshot}
+use Rattle.tetri_trace.specs.Scenario.{Scenario}
+use Rattle.tetri_run.specs.Cycle.{instance_at}
+use Rattle.tetri_run.specs.Told.{DifferFirstAt, retold}
+use Rattle.tetri_run.specs.declared.why.Why.{Why}
+use Rattle.tetri_run.specs.declared.why.Why.TheVariants as whys
+
+-- a verdict on a plan as a cause
+abbrev pub why_of : Verdict → Why
+why_of (verdicts.Unlawful u) = whys.Unlawful u
+why_of (verdicts.WrongValue printed found) = whys.WrongValue printed found
+why_of (verdicts.WasteGrant place) = whys.WasteGrant place
+why_of (verdicts.BelowCarry printed carry) = whys.BelowCarry printed carry
+why_of (verdicts.BadTree node why) = whys.BadTree node why
+why_of (verdicts.WrongBound printed found) = whys.WrongBound printed found
+why_of verdicts.WrongMark = whys.WrongMark
+
+-- the place of the line, counted from the cycle's first one, at which a verdict refuses its plan
+abbrev pub place_of : Block → Verdict → ℕ
+place_of b (verdicts.Unlawful u) = grant_place b u.grant
+place_of b (verdicts.WrongValue printed found) = plan_place b
+place_of b (verdicts.WasteGrant place) = grant_place b place
+place_of b (verdicts.BelowCarry printed carry) = plan_place b
+place_of b (verdicts.BadTree node why) = certificate_place b + node
+place_of b (verdicts.WrongBound printed found) = plan_place b
+place_of b verdicts.WrongMark = plan_place b
+
+-- the cycle as it has to be told in this state, with its own plan
+abbrev pub rightly_told : Scenario → Snapshot → Block → Block
+rightly_told t s b = retold b s.now (occurring t s) (map (start_of (instance_at t s)) b.grants) (launched_in (instance_at t s) b.grants)
+
+-- The cycle, which begins in this state, fails a test, which refuses the line at this place, counted from its first one. First
+-- come the tests of its plan. Then its lines are held against those that the state and the plan make: the first that differs is
+-- refused, or the one that stands where a line is missing, which may be the line behind the cycle.
+pub data IsFaulty (t : Scenario) (s : Snapshot) (b : Block) : ℕ → Why → Type 0 where
+  planned_badly : (carry : List Grant) (v : Verdict) → IsCarry (instance_at t s) s.plan carry
+      → IsFirstFailed (instance_at t s) (total_in (instance_at t s) carry) (planned b) v → IsFaulty t s b (place_of b v) (why_of v)
+  told_badly : (carry : List Grant) (place : ℕ) → IsCarry (instance_at t s) s.plan carry
+      → ((test : Test) → Passes (instance_at t s) (total_in (instance_at t s) carry) (planned b) test)
+      → DifferFirstAt (block_lines b) (block_lines (rightly_told t s b)) place → IsFaulty t s b place whys.WrongEvents
