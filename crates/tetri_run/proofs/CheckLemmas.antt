@@ -1,6 +1,6 @@
 -- What is accepted comes to no refusal, and what comes to no refusal is accepted.
-use Rattle.std.proofs.Common.{◌≡◌, ◌≢◌, ℕ, ◌+◌, ◌<◌, ◌≤◌, List, [], ◌∷◌, ◌++◌, length, Bool, true, false, cond, All, refl, sym, ap, ◌∙◌, subst, arith, inl, inr, ⊎_elim}
-use Rattle.std.specs.Prelude.{◌⊎◌, ◌&&◌, Option, Some, None, Result, Ok, Err, ok_or, slice_get}
+use Rattle.std.proofs.Common.{◌≡◌, ℕ, ◌+◌, ◌<◌, ◌≤◌, List, [], ◌∷◌, ◌++◌, length, Bool, true, false, cond, All, refl, sym, ap, ◌∙◌, subst, arith, inl, inr, ⊎_elim}
+use Rattle.std.specs.Prelude.{◌⊎◌, Option, Some, None, Result, Ok, Err, ok_or, slice_get}
 use Rattle.std.proofs.lemmas.List.{append-nil, append_assoc, length-append}
 use Rattle.std.proofs.lemmas.List.Elements.{All-cons, All-head, All-nil, All-tail}
 use Rattle.tetri_strl.specs.declared.grants.Grant.{Grant}
@@ -17,12 +17,11 @@ use Rattle.tetri_report.specs.declared.line.ReportLine.{ReportLine}
 use Rattle.tetri_report.specs.declared.line.ReportLine.TheVariants as lines
 use Rattle.tetri_report.specs.declared.line.Stage.{Stage}
 use Rattle.tetri_report.specs.declared.line.Stage.TheVariants as stages
-use Rattle.tetri_space.specs.Lawful.{IsLawful}
 use Rattle.tetri_space.specs.Space.{Space}
 use Rattle.tetri_space.specs.Sound.{IsSound as IsSoundSpace}
 use Rattle.tetri_space.specs.Total.{total_in}
 use Rattle.tetri_state.specs.Begin.{begin}
-use Rattle.tetri_state.specs.Planning.{IsCarry, still_pending}
+use Rattle.tetri_state.specs.Planning.{IsCarry}
 use Rattle.tetri_state.specs.Reached.{IsReached, between}
 use Rattle.tetri_state.specs.Snapshot.{Snapshot}
 use Rattle.tetri_state.proofs.InstanceLemmas.{instance_sound}
@@ -30,7 +29,7 @@ use Rattle.tetri_state.proofs.ReachedLemmas.{begin_reached, stands_begun, early_
 use Rattle.tetri_trace.specs.Scenario.{Scenario}
 use Rattle.tetri_trace.specs.Sound.{IsSound}
 use Rattle.tetri_report.proofs.ReadSteps.{onto_report}
-use Rattle.tetri_run.specs.Check.{Checking, ComesTo, EndsAs, FitsRun, IsAccepted, IsInPlace, IsPassed, IsRefused, IsRight, IsShort, RefusesAs, checked_behind, faulty, lines_in, malformed, out_of_place, too_long, unchecked}
+use Rattle.tetri_run.specs.Check.{Checking, ComesTo, FitsRun, IsAccepted, IsInPlace, IsRefused, IsRight, IsShort, checked_behind, faulty, lines_in, malformed, out_of_place, too_long, unchecked}
 use Rattle.tetri_run.specs.Cycle.{IsCycle, instance_at}
 use Rattle.tetri_run.specs.Faulty.{IsFaulty, planned_badly, rightly_told, told_badly}
 use Rattle.tetri_run.specs.Run.{IsRun, in_order, state_behind, summary_of}

@@ -1,5 +1,5 @@
 -- What is found of a cycle, as what it says of the run.
-use Rattle.std.proofs.Common.{◌≡◌, ℕ, ◌+◌, List, map, refl, sym, ap, ◌∙◌, subst}
+use Rattle.std.proofs.Common.{◌≡◌, ℕ, List, map, sym, ap, ◌∙◌, subst}
 use Rattle.std.specs.Prelude.{Err}
 use Rattle.tetri_claims.specs.Certified.{IsBoundedByTops}
 use Rattle.tetri_claims.specs.Good.{IsGood}
@@ -18,7 +18,7 @@ use Rattle.tetri_strl.specs.declared.grants.Grant.{Grant}
 use Rattle.tetri_trace.specs.Scenario.{Scenario}
 use Rattle.tetri_run.specs.Checked.{AnswersCycle, AnswersPlan}
 use Rattle.tetri_run.specs.Cycle.{IsCycle, instance_at, occurrences_in}
-use Rattle.tetri_run.specs.Faulty.{IsFaulty, place_of, planned_badly, rightly_told, told_badly, why_of}
+use Rattle.tetri_run.specs.Faulty.{IsFaulty, place_of, planned_badly, rightly_told, told_badly}
 use Rattle.tetri_run.specs.Told.{DifferFirstAt, retold}
 use Rattle.tetri_run.specs.declared.halt.CheckHalt.{CheckHalt}
 use Rattle.tetri_run.specs.declared.halt.CheckHalt.TheVariants.{Refused, ReadFault, NoMemory}

@@ -1,5 +1,5 @@
 -- What is planned for an instance of a trace may be printed.
-use Rattle.std.proofs.Common.{◌≡◌, ℕ, ◌+◌, ◌<◌, Bool, true, false, cond, List, [], ◌∷◌, length, map, All, Contains, refl, sym, ap, ◌∙◌, subst, arith}
+use Rattle.std.proofs.Common.{◌≡◌, ℕ, ◌<◌, Bool, true, false, cond, List, [], ◌∷◌, length, map, All, Contains, refl, sym, ap, ◌∙◌, subst, arith}
 use Rattle.std.specs.Prelude.{filter, Option, Some, None}
 use Rattle.std.specs.Option.{IsSomeAnd}
 use Rattle.std.proofs.lemmas.List.{length-map}
@@ -10,14 +10,14 @@ use Rattle.tetri_strl.specs.Tree.{Tree, one, join, scale, barrier, Trees, none, 
 use Rattle.tetri_strl.specs.WellMade.{IsGoodLeaf, AreSound}
 use Rattle.tetri_strl.specs.WellMade as well_made
 use Rattle.tetri_space.specs.Space.{Bid, Space, set_of, leaf_in}
-use Rattle.tetri_space.specs.Lawful.{MayBeGranted, IsLawfulGrant, IsLawful}
+use Rattle.tetri_space.specs.Lawful.{MayBeGranted, IsLawfulGrant}
 use Rattle.tetri_space.specs.Sound.{HasKnownSet, IsSoundBid, IsSound}
 use Rattle.tetri_space.proofs.LeafLemmas.{leaf_in-within, IsOffered}
 use Rattle.tetri_state.specs.Known.{AreOfJobs}
 use Rattle.tetri_state.specs.Launch.{start_of, starts_now}
 use Rattle.tetri_trace.specs.Scenario.{Scenario}
 use Rattle.tetri_report.specs.Block.{Block}
-use Rattle.tetri_report.specs.Printable.{AreJobs, ArePieces, IsPrintable, IsPrintableGrant}
+use Rattle.tetri_report.specs.Printable.{AreJobs, IsPrintable, IsPrintableGrant}
 use Rattle.tetri_run.specs.Cycle.{IsPlanFor, occurrences_in}
 
 mutual

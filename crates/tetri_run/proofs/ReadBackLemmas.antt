@@ -14,10 +14,9 @@ use Rattle.tetri_run.specs.Progress.{RanAll, WroteReport}
 use Rattle.tetri_report.specs.Text.{cycle_text, summary_text}
 use Rattle.tetri_report.proofs.ReadReports.{report_back}
 use Rattle.tetri_report.proofs.ShortLines.{lines_short}
-use Rattle.tetri_space.specs.Space.{Space}
-use Rattle.tetri_state.specs.Begin.{Occurrences, begin}
+use Rattle.tetri_state.specs.Begin.{begin}
 use Rattle.tetri_state.specs.Known.{AreOfJobs}
-use Rattle.tetri_state.specs.Reached.{IsReached, begun, between}
+use Rattle.tetri_state.specs.Reached.{IsReached, between}
 use Rattle.tetri_state.specs.Snapshot.{Snapshot}
 use Rattle.tetri_state.proofs.InstanceLemmas.{instance_sound}
 use Rattle.tetri_state.proofs.KnownLemmas.{begun_bids, occurring_known}
@@ -26,7 +25,7 @@ use Rattle.tetri_trace.specs.Scenario.{Scenario}
 use Rattle.tetri_trace.specs.Sound.{IsSound}
 use Rattle.tetri_io.specs.Lines.{lines_from}
 use Rattle.tetri_run.specs.Check.{IsAccepted, IsShort, lines_in}
-use Rattle.tetri_run.specs.Cycle.{IsPlannedCycle, instance_at, occurrences_in}
+use Rattle.tetri_run.specs.Cycle.{IsPlannedCycle, instance_at}
 use Rattle.tetri_run.specs.Run.{IsPlannedRun, cycles_text, in_order, report_text, state_behind, summary_of}
 use Rattle.tetri_run.proofs.PrintLemmas.{cycle_printable}
 use Rattle.tetri_run.proofs.RunLemmas.{run_of, run_reaches}

@@ -1,23 +1,22 @@
 -- How a run grows by a slot, and where it stops.
-use Rattle.std.proofs.Common.{◌≡◌, ℕ, ◌+◌, ◌*◌, ◌^◌, ◌<◌, ◌≤◌, List, [], ◌∷◌, ◌++◌, length, take, AllPairs, refl, sym, ap, ◌∙◌, subst, arith}
+use Rattle.std.proofs.Common.{◌≡◌, ℕ, ◌+◌, ◌<◌, List, [], ◌∷◌, length, take, AllPairs, refl, sym, ap, ◌∙◌, subst, arith}
 use Rattle.std.specs.Prelude.{Option, Some, None}
 use Rattle.std.proofs.lemmas.List.{append-nil}
 use Rattle.std.specs.Io.KnownBytes.{append_known}
 use Rattle.tetri_io.specs.Sink.{AppendsPart}
 use Rattle.tetri_io.proofs.Known.{append_known-append}
-use Rattle.tetri_strl.specs.declared.grants.Grant.{Grant}
 use Rattle.tetri_report.specs.Block.{Block}
 use Rattle.tetri_report.specs.Text.{cycle_text, summary_text}
 use Rattle.tetri_report.specs.declared.cycle.Summary.{Summary}
 use Rattle.tetri_state.specs.After.{after}
 use Rattle.tetri_state.specs.Begin.{begin}
 use Rattle.tetri_state.specs.Launch.{worth_launched}
-use Rattle.tetri_state.specs.Reached.{ArePlans, IsReached, between, state_after}
+use Rattle.tetri_state.specs.Reached.{ArePlans, IsReached, between}
 use Rattle.tetri_state.specs.Snapshot.{Snapshot}
 use Rattle.tetri_trace.specs.Scenario.{Scenario}
 use Rattle.tetri_run.specs.Cycle.{ComesBefore, IsPlannedCycle, instance_at}
-use Rattle.tetri_run.specs.Run.{IsPlannedRun, IsRun, NextText, cycle, summary, cycles_text, optimal_count, optimal_cycles, plans_of, report_text, state_behind, summary_of, worth_of_run}
-use Rattle.tetri_run.specs.Progress.{RanAll, RanSlot, RanSlots, StoppedBetween, StoppedInSlot, StoppedInText, WroteReport, summary_at}
+use Rattle.tetri_run.specs.Run.{IsPlannedRun, IsRun, NextText, cycle, summary, cycles_text, optimal_cycles, plans_of, state_behind, summary_of, worth_of_run}
+use Rattle.tetri_run.specs.Progress.{RanAll, RanSlot, RanSlots, StoppedBetween, StoppedInSlot, StoppedInText, summary_at}
 use Rattle.tetri_run.specs.declared.cycles.RunTally.{RunTally}
 use Rattle.tetri_run.specs.declared.slot.SlotTally.{SlotTally}
 

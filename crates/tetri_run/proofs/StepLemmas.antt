@@ -1,5 +1,5 @@
 -- How a check goes on by a line.
-use Rattle.std.proofs.Common.{◌≡◌, ◌≢◌, ℕ, ◌+◌, ◌*◌, ◌^◌, ◌<◌, ◌≤◌, ◌==◌, List, [], ◌∷◌, ◌++◌, length, map, drop, Bool, true, false, not, cond, min, nat_eq, refl, sym, ap, ◌∙◌, subst, arith, inl}
+use Rattle.std.proofs.Common.{◌≡◌, ◌≢◌, ℕ, ◌+◌, ◌^◌, ◌<◌, ◌≤◌, ◌==◌, List, [], ◌∷◌, ◌++◌, length, map, drop, Bool, true, false, not, cond, min, nat_eq, refl, sym, ap, ◌∙◌, subst, arith, inl}
 use Rattle.std.specs.Prelude.{◌&&◌, ◌↔◌, Option, Some, None, Result, Ok, Err, slice_get}
 use Rattle.std.specs.Option.{IsSomeAnd}
 use Rattle.std.proofs.lemmas.Option.{slice_get_within}
@@ -34,7 +34,6 @@ use Rattle.tetri_report.specs.declared.line.Stage.TheVariants as stages
 use Rattle.tetri_state.specs.Reached.{IsReached, between}
 use Rattle.tetri_state.specs.Snapshot.{Snapshot}
 use Rattle.tetri_trace.specs.Scenario.{Scenario}
-use Rattle.tetri_trace.specs.Sound.{IsSound}
 use Rattle.tetri_run.specs.Check.{Checking, ComesTo, EndsAs, FitsRun, IsInPlace, IsPassed, IsRefused, IsRight, IsShort, checked_behind, faulty, first_behind, malformed, out_of_place, too_long}
 use Rattle.tetri_run.specs.Checked.{AnswersEnded, AnswersLine, AnswersPlace, AnswersReport, IsAt, IsBehind, IsFed, IsInOrder, WentOn, halt_of}
 use Rattle.tetri_run.specs.Cycle.{IsCycle, instance_at}
@@ -46,7 +45,7 @@ use Rattle.tetri_run.specs.declared.halt.CheckHalt.{CheckHalt}
 use Rattle.tetri_run.specs.declared.halt.CheckHalt.TheVariants.{Refused, ReadFault, NoMemory}
 use Rattle.tetri_run.specs.declared.why.Why.{Why}
 use Rattle.tetri_run.specs.declared.why.Why.TheVariants.{LineTooLong, Malformed, WrongEvents}
-use Rattle.tetri_run.proofs.CheckLemmas.{ReadLine, closed_blocks, read_line, true_not_false}
+use Rattle.tetri_run.proofs.CheckLemmas.{closed_blocks, read_line, true_not_false}
 use Rattle.tetri_run.proofs.RunLemmas.{now_behind, run_reaches, summary_is}
 
 -- how many events, grants and launches a cycle has

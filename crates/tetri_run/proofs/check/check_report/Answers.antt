@@ -1,4 +1,4 @@
-use Rattle.std.proofs.Common.{◌≡◌, ◌<◌, ◌≤◌, ◌∙◌, drop, length, map, ap, inr, subst, sym, arith}
+use Rattle.std.proofs.Common.{◌<◌, ◌≤◌, ◌∙◌, drop, length, map, ap, inr, subst, sym, arith}
 use Rattle.std.specs.Prelude.{Ok, Err}
 use Rattle.tetri_io.specs.Line.{IsLineAt, IsPlacedAfter}
 use Rattle.tetri_io.specs.Lines.{line_of}

@@ -1,5 +1,5 @@
-use Rattle.std.proofs.Common.{◌≡◌, ◌∷◌, subst}
-use Rattle.std.specs.Prelude.{Some, None, option_map}
+use Rattle.std.proofs.Common.{◌∷◌, subst}
+use Rattle.std.specs.Prelude.{option_map}
 use Rattle.tetri_report.specs.Block.{block}
 use Rattle.tetri_trace.specs.Scenario.{scenario}
 use Rattle.tetri_run.specs.Checked.{IsFed}

@@ -1,5 +1,4 @@
-use Rattle.std.proofs.Common.{◌≡◌, ◌∙◌, length, Some, ap, sym, subst, arith}
-use Rattle.std.specs.Prelude.{None}
+use Rattle.std.proofs.Common.{◌∙◌, Some, sym, subst}
 use Rattle.tetri_trace.specs.Scenario.{scenario}
 use Rattle.tetri_run.specs.Check.{FitsRun}
 use Rattle.tetri_run.proofs.StepLemmas.{before_end, behind_now, same_summary, summary_counts, summary_tested, tested_equal}

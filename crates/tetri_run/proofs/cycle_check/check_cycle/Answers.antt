@@ -1,9 +1,8 @@
-use Rattle.std.proofs.Common.{◌≡◌, ◌∙◌, map, ap, refl, subst}
-use Rattle.std.specs.Prelude.{List}
+use Rattle.std.proofs.Common.{◌∙◌, map, ap, refl, subst}
 use Rattle.tetri_report.specs.Block.{block}
 use Rattle.tetri_space.specs.Space.{Space, space}
 use Rattle.tetri_state.specs.After.{after}
-use Rattle.tetri_state.specs.Begin.{begin, occurrences}
+use Rattle.tetri_state.specs.Begin.{occurrences}
 use Rattle.tetri_state.specs.Launch.{launched_in, start_of, worth_launched}
 use Rattle.tetri_state.specs.Planning.{IsCarry, instance_of}
 use Rattle.tetri_state.specs.Snapshot.{Snapshot}

@@ -1,4 +1,4 @@
-use Rattle.std.proofs.Common.{◌≡◌, ◌∙◌, sym, arith}
+use Rattle.std.proofs.Common.{◌∙◌, sym, arith}
 use Rattle.tetri_state.specs.Begin.{occurrences}
 use Rattle.tetri_run.proofs.DifferLemmas.{differ_at, differ_same, other_cancel, other_end, other_expire, other_over}
 use Rattle.tetri_run.proofs.differences.first_other_event.Goals as goal

@@ -1,4 +1,4 @@
-use Rattle.std.proofs.Common.{◌≡◌, ◌∙◌, length, refl, sym, ap, arith}
+use Rattle.std.proofs.Common.{◌∙◌, length, refl, sym, ap, arith}
 use Rattle.tetri_report.specs.Block.{block}
 use Rattle.tetri_report.specs.BlockLines.{plan_of}
 use Rattle.tetri_state.specs.Begin.{occurrences}

@@ -1,11 +1,9 @@
 use Rattle.std.proofs.Common.{◌≤◌, List, ◌∙◌, ap, refl, sym, subst, arith, map}
-use Rattle.std.specs.List.Sorted.{IsNonDecreasingBy}
 use Rattle.tetri_space.specs.Space.{space}
 use Rattle.tetri_space.specs.Total.{total_in}
 use Rattle.tetri_strl.specs.declared.grants.Grant.{Grant}
 use Rattle.tetri_state.specs.Launch.{start_of, launched_in}
 use Rattle.tetri_run.specs.FirstFit.{first_fit}
-use Rattle.tetri_run.proofs.FirstFitLaw.{by_job}
 use Rattle.tetri_run.proofs.KeptLemmas.{IsFair, kept_bounds, kept_is_fair}
 use Rattle.tetri_run.proofs.planner.plan_cycle.Goals as goal
 

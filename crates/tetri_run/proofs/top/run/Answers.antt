@@ -1,7 +1,7 @@
-use Rattle.std.proofs.Common.{◌≡◌, ◌∙◌, ap, subst, sym}
-use Rattle.std.specs.Prelude.{Some, option_map}
+use Rattle.std.proofs.Common.{◌≡◌, ◌∙◌, ap, subst}
+use Rattle.std.specs.Prelude.{Some}
 use Rattle.tetri_run.specs.Status.{RoseOf}
-use Rattle.tetri_run.specs.Words.{asked, asked_of, texts, to_check}
+use Rattle.tetri_run.specs.Words.{asked, texts, to_check}
 use Rattle.tetri_run.proofs.TopLemmas.{same_names}
 use Rattle.tetri_run.proofs.top.run.Goals as goal
 

@@ -1,6 +1,5 @@
-use Rattle.std.proofs.Common.{◌≡◌, ◌∙◌, ap, inr, subst, sym, arith}
-use Rattle.std.specs.Prelude.{Result, Ok}
-use Rattle.tetri_trace.specs.Scenario.{Scenario, scenario}
+use Rattle.std.proofs.Common.{◌∙◌, ap, inr, subst, arith}
+use Rattle.tetri_trace.specs.Scenario.{scenario}
 use Rattle.tetri_trace.specs.Lines.{scenario_in}
 use Rattle.tetri_run.specs.Check.{IsAccepted}
 use Rattle.tetri_run.proofs.TopLemmas.{check_promised, same_scenario}
