@@ -6,6 +6,7 @@ mod Examples
 pub mod Pending
 pub mod Steps
 pub mod ProperLemmas
+pub mod ShapeLemmas
 pub mod PointLemmas
 pub mod NumbersSigned
 pub mod NumbersBack

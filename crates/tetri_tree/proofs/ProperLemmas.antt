@@ -183,7 +183,7 @@ AreTrees p [] (t ∷ ts) = ⊥
 AreTrees p (b ∷ bs) [] = ⊥
 AreTrees p (b ∷ bs) (t ∷ ts) = IsProper p b t × AreTrees p bs ts
 
-abbrev preorders : List Tree → List Node
+abbrev pub preorders : List Tree → List Node
 preorders [] = []
 preorders (t ∷ ts) = preorder t ++ preorders ts
 
@@ -224,7 +224,7 @@ forest_of p (m ∷ ms) (b ∷ bs) node most t f h =
     let g : fills (length (sides_before b m bs)) ms ≡ true = ap (λ k. fills k ms) (length_sides b bs m) ∙ f in
     one_more p b bs m ms most r.0 t s.0 s.1 (forest_of p ms (sides_before b m bs) (node + 1) (max most r.0) t g r.2)
 
-append_nil : (ms : List Node) → ms ++ [] ≡ ms
+pub append_nil : (ms : List Node) → ms ++ [] ≡ ms
 append_nil [] = refl
 append_nil (m ∷ ms) = ap (λ ns. m ∷ ns) (append_nil ms)
 

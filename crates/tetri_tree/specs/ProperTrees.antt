@@ -1,5 +1,5 @@
 -- Proper trees: binary trees over the regions of a program, whose nodes pass their tests.
-use Rattle.std.specs.Prelude.{◌≡◌, ℕ, ◌<◌, ◌++◌, List, [], ◌∷◌, length, max, if◌then◌else◌, Ok, pos, ◌≤ℤ◌, ◌<ℤ◌, ◌↔◌}
+use Rattle.std.specs.Prelude.{◌≡◌, ℕ, ◌<◌, ◌++◌, List, [], ◌∷◌, length, max, if◌then◌else◌, Ok, Err, pos, ◌≤ℤ◌, ◌<ℤ◌, ◌↔◌}
 use Rattle.std.specs.Int.{int_div_euclid}
 use lib.IntN.{ℤ}
 use lib.Signed.{lt_z}
@@ -8,6 +8,8 @@ use Rattle.tetri_ip.specs.declared.programs.Weight.{Weight}
 use Rattle.tetri_ip.specs.Forming.{weigh_answer}
 use Rattle.tetri_ip.specs.Points.{Bounds, IsFit, IsPoint, box_of, number_at, objective}
 use Rattle.tetri_ip.specs.Weighed.{AreNotNegative, AreOfRows, weighed}
+use Rattle.tetri_tree.specs.declared.faults.NodeWhy.TheVariants as why
+use Rattle.tetri_tree.specs.declared.faults.TreeFault.TheVariants.{Bad}
 use Rattle.tetri_tree.specs.declared.marks.Cell.{Cell}
 use Rattle.tetri_tree.specs.Cells.{AreOfColumns, point_of}
 use Rattle.tetri_tree.specs.Node.{Node, Reason, split, closed, whole, rest}
@@ -73,3 +75,18 @@ greatest p b (splits j at reason high low) = max (greatest p (high_side b j at) 
 abbrev pub BoundsProperTrees : Type 0
 BoundsProperTrees = (p : Program) (ms : List Node) (t : ℕ) → IsFit p →
     (tree_bound p ms ≡ Ok t) ↔ ((tree : Tree) × (preorder tree ≡ ms) × IsProper p (box_of p) tree × (greatest p (box_of p) tree ≡ t))
+
+-- a node that can end a region, its tests aside
+abbrev pub IsLeaf : Node → Type 0
+IsLeaf (split j at reason) = ⊥
+IsLeaf (closed q ws) = Unit {0}
+IsLeaf (whole q ws worth cells) = Unit {0}
+IsLeaf (rest q ws) = Unit {0}
+
+abbrev pub IsShaped : Tree → Type 0
+IsShaped (ends m) = IsLeaf m
+IsShaped (splits j at reason high low) = IsShaped high × IsShaped low
+
+-- the fault of shape stands exactly where the nodes are no tree in preorder
+abbrev pub ShapeIsOfTrees : Type 0
+ShapeIsOfTrees = (p : Program) (ms : List Node) → (tree_bound p ms ≡ Err (Bad 0 why.Shape)) ↔ (((tree : Tree) × (preorder tree ≡ ms) × IsShaped tree) → ⊥)

@@ -1,6 +1,6 @@
 // What the bound of a tree says of the points of its program.
 
-ghost use Rattle.tetri_tree.specs.ProperTrees.{BoundsProperTrees};
+ghost use Rattle.tetri_tree.specs.ProperTrees.{BoundsProperTrees, ShapeIsOfTrees};
 ghost use Rattle.tetri_tree.specs.TreeLaws.{TreeBoundHolds};
 
 /// No point of a program has an objective above the bound of a proper tree over it, where that bound is below 2^64 - 1
@@ -13,4 +13,9 @@ pub fn tree_bounds_points()
 /// 0 and of the floors of the tree's nodes.
 pub fn proper_trees_have_bounds()
     ensures { BoundsProperTrees }
+{}
+
+/// Nodes have the fault of shape exactly where they are no tree in preorder whose inner nodes are the splits.
+pub fn shape_is_of_trees()
+    ensures { ShapeIsOfTrees }
 {}

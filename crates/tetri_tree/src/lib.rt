@@ -14,7 +14,7 @@ mod walk;
 mod words;
 
 pub use faults::{NodeWhy, TreeFault};
-pub use laws::{proper_trees_have_bounds, tree_bounds_points};
+pub use laws::{proper_trees_have_bounds, shape_is_of_trees, tree_bounds_points};
 pub use marks::{Cell, FracCell, Licence, Mark};
 pub use points::objective_at;
 pub use text::{MarkFault, marks_are_short_lines, marks_read_back, print_mark, read_mark};
