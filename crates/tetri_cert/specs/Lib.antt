@@ -1,1 +1,13 @@
+pub mod NodeBounds
+pub mod Cells
+pub mod Trees
+pub mod ProperTrees
+pub mod TreeLaws
+pub mod Turns
+pub mod Walks
+pub mod NumbersLowest
+pub mod Numbers
+pub mod Lists
+pub mod Pairs
+pub mod NodeText
 pub mod Text

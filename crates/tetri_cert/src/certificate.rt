@@ -1,16 +1,32 @@
 // The certificate of a plan's bound.
-ghost use Rattle.std.specs.Prelude.{◌≡◌, ◌++◌, OnOk, string_bytes};
+ghost use Rattle.std.specs.Prelude.{◌≡◌, ◌++◌, IfOk, OnOk, flat_map, string_bytes};
+ghost use Rattle.tetri_cert.specs.NodeText.{node_line};
 ghost use Rattle.tetri_cert.specs.Text.{certificate_text};
 
-use std::alloc::AllocError;
+use crate::items::Items;
+use crate::marks::Mark;
+use crate::text::print_mark;
+use std::alloc::{AllocError, Global};
 use std::fmt::Write;
 
 /// Why no plan is worth more than the bound.
-#[derive(Debug, Drop, PartialEq, Eq)]
+#[derive(Drop)]
 pub enum Certificate {
     /// The bound is the sum of the tops. Beside it stands the size of the instance's program, or 0 and 0 where
     /// none is built.
     Tops { columns: u64, rows: u64 },
+    /// The bound is that of a tree over the instance's program, its marks in preorder.
+    Tree(Items<Mark>),
+}
+
+// Adds the lines of marks.
+fn print_marks(out: &mut String, marks: &[Mark]) -> Result<(), AllocError>
+    ensures { OnOk result (string_bytes out.new ≡ string_bytes out.old ++ flat_map node_line marks.now) }
+{
+    for mark in marks {
+        print_mark(out, mark)?;
+    }
+    Ok(())
 }
 
 /// Adds the lines of a certificate to a text. After want of memory a front of them may stand there.
@@ -20,5 +36,15 @@ pub fn print_onto(out: &mut String, certificate: &Certificate) -> Result<(), All
 {
     match certificate {
         Certificate::Tops { columns, rows } => write!(out, "tops {columns} {rows}\n"),
+        Certificate::Tree(marks) => print_marks(out, marks.as_slice()),
     }
+}
+
+/// The lines of a certificate.
+pub fn print(alloc: Global, certificate: &Certificate) -> Result<Vec<u8>, AllocError>
+    ensures { IfOk result (λ v. v.items ≡ certificate_text certificate.now) }
+{
+    let mut out = String::new(alloc);
+    print_onto(&mut out, certificate)?;
+    Ok(out.into_bytes())
 }

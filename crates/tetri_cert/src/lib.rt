@@ -1,13 +1,35 @@
-//! How good a plan is known to be: its mark, and the certificate of its bound.
-#![tactic(auto)]
+//! Certificates of a plan's bound: the sum of the tops, or a tree of marks in preorder whose bound holds for every point of an
+//! integer program; their text, and the mark of a plan.
+#![tactic(auto, using(crate::proofs::Signed::signed))]
 
 mod certificate;
-mod mark;
-mod tree_why;
+mod faults;
+mod items;
+mod laws;
+mod lists;
+mod marks;
+mod nodes;
+mod plan_mark;
+mod points;
+mod text;
+mod text_words;
+mod turns;
+mod walk;
+mod words;
 
-pub use certificate::{Certificate, print_onto};
-pub use mark::PlanMark;
-pub use tree_why::TreeWhy;
+pub use certificate::{Certificate, print, print_onto};
+pub use faults::{TreeFault, TreeWhy};
+pub use items::Items;
+pub use laws::{proper_trees_have_bounds, shape_is_of_trees, tree_bounds_points};
+pub use marks::{Cell, FracCell, Licence, Mark};
+pub use plan_mark::PlanMark;
+pub use points::objective_at;
+pub use text::{MarkFault, marks_are_short_lines, marks_read_back, print_mark, read_mark};
+pub use walk::{Walk, bound};
 
 #[cfg(test)]
+mod certificate_tests;
+#[cfg(test)]
 mod tests;
+#[cfg(test)]
+mod text_tests;

@@ -1,6 +1,6 @@
 -- Which certificate stands with a plan.
 use Rattle.std.specs.Prelude.{◌≡◌, ◌⊎◌}
-use Rattle.tetri_cert.specs.declared.mark.PlanMark.TheVariants.{Optimal, Wide}
+use Rattle.tetri_cert.specs.declared.plan_mark.PlanMark.TheVariants.{Optimal, Wide}
 use Rattle.tetri_cert.specs.declared.certificate.Certificate.TheVariants.{Tops}
 use Rattle.tetri_space.specs.Space.{Space}
 use Rattle.tetri_space.specs.Total.{tops_in}

@@ -1,8 +1,8 @@
 -- What the judge says of a plan.
 use Rattle.std.specs.Prelude.{◌≡◌, ◌≢◌, ◌<◌, ◌≤◌, ◌↔◌, ◌⊎◌, ℕ, Some, Result, Ok, Err}
-use Rattle.tetri_cert.specs.declared.mark.PlanMark.TheVariants.{Optimal, Wide}
+use Rattle.tetri_cert.specs.declared.plan_mark.PlanMark.TheVariants.{Optimal, Wide}
 use Rattle.tetri_cert.specs.declared.certificate.Certificate.TheVariants.{Tops}
-use Rattle.tetri_cert.specs.declared.tree_why.TreeWhy.TheVariants.{Kind}
+use Rattle.tetri_cert.specs.declared.faults.TreeWhy.TheVariants.{Kind}
 use Rattle.tetri_claims.specs.Good.{IsThriftyForAll}
 use Rattle.tetri_claims.specs.Planned.{Planned}
 use Rattle.tetri_space.specs.Broken.{IsFirstBroken}

@@ -9,8 +9,8 @@ use Rattle.std.proofs.lemmas.List.Elements.{All-append, All-cons, All-head, All-
 use Rattle.std.proofs.lemmas.Slice.Eq.{bytes_eq-Decides}
 use Rattle.tetri_strl.specs.declared.grants.Grant.{Grant}
 use Rattle.tetri_cert.specs.Text.{mark_text}
-use Rattle.tetri_cert.specs.declared.mark.PlanMark.{PlanMark}
-use Rattle.tetri_cert.specs.declared.mark.PlanMark.TheVariants.{Optimal, Spent, Wide}
+use Rattle.tetri_cert.specs.declared.plan_mark.PlanMark.{PlanMark}
+use Rattle.tetri_cert.specs.declared.plan_mark.PlanMark.TheVariants.{Optimal, Spent, Wide}
 use Rattle.tetri_cluster.specs.Cluster.{name_at, names_of}
 use Rattle.tetri_cluster.specs.Names.{differ, is_name, number_of}
 use Rattle.tetri_cluster.proofs.NamesBack.{name_avoids, number_back}

@@ -4,7 +4,7 @@ use Rattle.std.specs.Prelude.{Option, Some, None, Result, Ok, Err}
 use Rattle.std.proofs.lemmas.List.{append-nil, append_assoc}
 use Rattle.std.proofs.lemmas.List.Elements.{All-cons, All-head, All-nil, All-tail}
 use Rattle.tetri_strl.specs.declared.grants.Grant.{Grant}
-use Rattle.tetri_cert.specs.declared.mark.PlanMark.TheVariants.{Wide}
+use Rattle.tetri_cert.specs.declared.plan_mark.PlanMark.TheVariants.{Wide}
 use Rattle.tetri_cert.specs.declared.certificate.Certificate.{Certificate}
 use Rattle.tetri_cert.specs.declared.certificate.Certificate.TheVariants.{Tops}
 use Rattle.tetri_state.specs.declared.happened.PieceId.{PieceId}

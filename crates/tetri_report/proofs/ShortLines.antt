@@ -8,8 +8,8 @@ use Rattle.std.proofs.lemmas.Fmt.{length-decimal-le_wide}
 use Rattle.std.proofs.lemmas.List.{get_or-map, length-map}
 use Rattle.std.proofs.lemmas.List.Elements.{All-head, All-map, All-tail, All-weaker}
 use Rattle.tetri_cert.specs.Text.{mark_text}
-use Rattle.tetri_cert.specs.declared.mark.PlanMark.{PlanMark}
-use Rattle.tetri_cert.specs.declared.mark.PlanMark.TheVariants.{Optimal, Spent, Wide}
+use Rattle.tetri_cert.specs.declared.plan_mark.PlanMark.{PlanMark}
+use Rattle.tetri_cert.specs.declared.plan_mark.PlanMark.TheVariants.{Optimal, Spent, Wide}
 use Rattle.tetri_cluster.specs.Cluster.{name_at}
 use Rattle.tetri_cluster.specs.Names.{is_name, is_name_byte}
 use Rattle.tetri_io.specs.Lines.{lines_from}

@@ -1,7 +1,7 @@
 -- A cycle of a report as plain data.
 use Rattle.std.specs.Prelude.{ℕ, List}
 use Rattle.tetri_strl.specs.declared.grants.Grant.{Grant}
-use Rattle.tetri_cert.specs.declared.mark.PlanMark.{PlanMark}
+use Rattle.tetri_cert.specs.declared.plan_mark.PlanMark.{PlanMark}
 use Rattle.tetri_cert.specs.declared.certificate.Certificate.{Certificate}
 use Rattle.tetri_state.specs.declared.happened.PieceId.{PieceId}
 use Rattle.tetri_report.specs.declared.cycle.Cycle.{Cycle}

@@ -1,7 +1,7 @@
 -- What the lines of a report read as.
 use Rattle.std.specs.Prelude.{ℕ, ◌+◌, ◌&&◌, List, [], ◌∷◌, ◌++◌, map, Bool, true, false, if◌then◌else◌, Option, Some, None, ok_or, Result, Ok, Err}
 use Rattle.tetri_strl.specs.declared.grants.Grant.{Grant}
-use Rattle.tetri_cert.specs.declared.mark.PlanMark.TheVariants.{Wide}
+use Rattle.tetri_cert.specs.declared.plan_mark.PlanMark.TheVariants.{Wide}
 use Rattle.tetri_cert.specs.declared.certificate.Certificate.TheVariants.{Tops}
 use Rattle.tetri_io.specs.Lines.{lines_from}
 use Rattle.tetri_trace.specs.Scenario.{Scenario}

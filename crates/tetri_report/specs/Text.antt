@@ -1,7 +1,7 @@
 -- The text of a report.
 use Rattle.std.specs.Prelude.{ℕ, List, [], ◌∷◌, ◌++◌, map, flat_map, slice_index_or, codes, decimal}
 use Rattle.tetri_strl.specs.declared.grants.Grant.{Grant}
-use Rattle.tetri_cert.specs.declared.mark.PlanMark.{PlanMark}
+use Rattle.tetri_cert.specs.declared.plan_mark.PlanMark.{PlanMark}
 use Rattle.tetri_cert.specs.Text.{mark_text, certificate_text}
 use Rattle.tetri_cluster.specs.Cluster.{name_at}
 use Rattle.tetri_state.specs.declared.happened.PieceId.{PieceId}

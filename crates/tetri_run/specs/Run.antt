@@ -1,8 +1,8 @@
 -- A run: one cycle a slot, from the opening state on. Lists of cycles have the last one first.
 use Rattle.std.specs.Prelude.{◌≡◌, ◌<◌, ℕ, ◌+◌, List, [], ◌∷◌, ◌++◌, map, length}
 use Rattle.tetri_strl.specs.declared.grants.Grant.{Grant}
-use Rattle.tetri_cert.specs.declared.mark.PlanMark.{PlanMark}
-use Rattle.tetri_cert.specs.declared.mark.PlanMark.TheVariants.{Optimal, Spent, Wide}
+use Rattle.tetri_cert.specs.declared.plan_mark.PlanMark.{PlanMark}
+use Rattle.tetri_cert.specs.declared.plan_mark.PlanMark.TheVariants.{Optimal, Spent, Wide}
 use Rattle.tetri_report.specs.Block.{Block}
 use Rattle.tetri_report.specs.Text.{cycle_text, summary_text}
 use Rattle.tetri_report.specs.declared.cycle.Summary.{Summary}

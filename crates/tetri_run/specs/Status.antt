@@ -9,8 +9,8 @@ use Rattle.tetri_trace.specs.declared.fault.Field.TheVariants as fields
 use Rattle.tetri_parse.specs.declared.fault.Fault.{Fault}
 use Rattle.tetri_parse.specs.declared.fault.Fault.TheVariants.{Unexpected, Ended, Trailing, NumberRange, UnknownSet, Uneven, Mixed, TooDeep, TooManyLeaves, TooRich, TooManySets}
 use Rattle.tetri_algebra.specs.Counts.{Rose}
-use Rattle.tetri_cert.specs.declared.tree_why.TreeWhy.{TreeWhy}
-use Rattle.tetri_cert.specs.declared.tree_why.TreeWhy.TheVariants.{Kind}
+use Rattle.tetri_cert.specs.declared.faults.TreeWhy.{TreeWhy}
+use Rattle.tetri_cert.specs.declared.faults.TreeWhy.TheVariants.{Kind}
 use Rattle.tetri_io.specs.Sink.{AppendsPart}
 use Rattle.tetri_space.specs.declared.rules.Rule.{Rule}
 use Rattle.tetri_space.specs.declared.rules.Rule.TheVariants as rules

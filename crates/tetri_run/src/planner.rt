@@ -1,7 +1,7 @@
 // The plan of one cycle, until an exact planner is built.
 ghost use Rattle.std.specs.Prelude.{◌≡◌, ◌↔◌, ◌⊎◌, All, AllPairs, IfOk};
 ghost use Rattle.std.specs.List.Sorted.{IsStrictlyIncreasing};
-ghost use Rattle.tetri_cert.specs.declared.mark.PlanMark.TheVariants as marks;
+ghost use Rattle.tetri_cert.specs.declared.plan_mark.PlanMark.TheVariants as marks;
 ghost use Rattle.tetri_claims.specs.Good.{IsThriftyForAll};
 ghost use Rattle.tetri_run.specs.Cycle.{ComesBefore, IsKeptFor, IsPlanFor};
 ghost use Rattle.tetri_run.specs.FirstFit.{HasAscendingLeaves};

@@ -1,0 +1,10 @@
+use Rattle.std.proofs.Common.{map, refl, ap}
+use Rattle.tetri_ip.proofs.FitTests.{fit_written, plain}
+use Rattle.tetri_cert.proofs.Rows.{one_row_more}
+use Rattle.tetri_cert.proofs.tests.linear.Goals as goal
+
+pub returns : goal.returns
+returns c =
+    let r1 = one_row_more c.new-rows.result.items c.add_row.new.rows.items _ _ (ap (map plain) c.new-rows.ensures.items) c.in_ok-add_row.ensures in
+    let r2 = one_row_more c.add_row.new.rows.items c.add_row-2.new.rows.items _ _ r1 c.in_ok-add_row-2.ensures in
+    fit_written _ _ _ _ _ c.in_ok-costs.ensures.items c.in_ok-lower.ensures.items c.in_ok-upper.ensures.items r2 refl

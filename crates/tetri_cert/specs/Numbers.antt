@@ -1,0 +1,45 @@
+-- Numbers of certificates as text.
+use Rattle.std.proofs.Common.{◌≡◌, refl}
+use Rattle.std.specs.Prelude.{ℕ, ◌^◌, ◌==◌, ◌++◌, List, [], ◌∷◌, Bool, true, false, take, drop, Option, Some, None, if◌then◌else◌, option_and_then, option_map, bytes_eq, codes}
+use Rattle.std.specs.Fmt.{signed_decimal}
+use lib.IntN.{ℤ, pos, neg_ℤ}
+use Rattle.tetri_io.specs.Numbers.{number_below}
+use Rattle.tetri_io.specs.Words.{parts_at}
+use Rattle.tetri_num.specs.declared.fractions.Frac.{Frac}
+use Rattle.tetri_cert.specs.NumbersLowest.{is_lowest, lowest_from}
+
+infixl 10 ◌>>=◌
+abbrev pub ◌>>=◌ : {A B : Type 0} → Option A → (A → Option B) → Option B
+o >>= f = option_and_then f o
+
+-- the number of a row, a column or a step
+abbrev pub small_number : List ℕ → Option ℕ
+small_number word = number_below (2 ^ 32) word
+
+-- the number below 0 whose digits stand behind a minus sign
+unfoldable pub negative_number : List ℕ → Option ℤ
+negative_number digits = number_below (2 ^ 127) digits >>= λ n. if n == 0 then None else Some (neg_ℤ (pos n))
+
+-- The number from -(2^127 - 1) to 2^127 - 1 whose decimal digits these bytes are, without a leading zero, behind a minus sign where it is below 0.
+unfoldable pub whole_number : List ℕ → Option ℤ
+whole_number word = if bytes_eq (take 1 word) (codes "-") then negative_number (drop 1 word) else option_map pos (number_below (2 ^ 127) word)
+
+-- ---- fractions
+abbrev pub frac_text : Frac → List ℕ
+frac_text x = signed_decimal x.num ++ (codes "/" ++ signed_decimal x.den)
+
+abbrev pub frac_by_test : (num den : ℤ) (t : Bool) → is_lowest num den ≡ t → Option Frac
+frac_by_test num den true e = Some (record { num = num; den = den; lowest = lowest_from num den e })
+frac_by_test num den false e = None
+
+-- the fraction of these parts, where they are in lowest terms
+unfoldable pub frac_of : ℤ → ℤ → Option Frac
+frac_of num den = frac_by_test num den (is_lowest num den) refl
+
+abbrev pub frac_of_parts : List (List ℕ) → Option Frac
+frac_of_parts (num ∷ den ∷ []) = whole_number num >>= λ num. whole_number den >>= λ den. frac_of num den
+frac_of_parts parts = None
+
+-- the fraction whose parts stand around a slash
+unfoldable pub frac_in : List ℕ → Option Frac
+frac_in word = frac_of_parts (parts_at 47 word)

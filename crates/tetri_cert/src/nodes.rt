@@ -1,0 +1,179 @@
+// What one node bounds over its region.
+
+ghost use Rattle.std.specs.Prelude.{◌≡◌, ℕ, ◌<◌, length, false, true, MatchResult};
+ghost use Rattle.std.specs.List.{list_any};
+ghost use Rattle.tetri_ip.specs.ColumnIndex.{IsIndexOf, WeightsAscend};
+ghost use Rattle.tetri_ip.specs.Forming.{weigh_answer};
+ghost use Rattle.tetri_ip.specs.Points.{IsFit, IsInBox, bounds_of};
+ghost use Rattle.tetri_ip.specs.Weighed.{AreOfRows};
+ghost use Rattle.tetri_cert.specs.Cells.{is_whole_point};
+ghost use Rattle.tetri_cert.specs.NodeBounds.{capped, is_negative, is_past_row, node_bound, split_bound, weights_bound};
+ghost use Rattle.tetri_cert.specs.Trees.{Gives};
+
+use crate::faults::{TreeFault, TreeWhy};
+use crate::marks::Mark;
+use crate::points::is_whole_point;
+use std::alloc::Global;
+use tetri_ip::{ColumnIndex, Program, Region, WeighFault, Weight, weigh, weigh_by};
+
+fn has_past_row(rows: usize, weights: &[Weight]) -> bool
+    ensures { result ≡ list_any (is_past_row rows) weights.now }
+{
+    for w in weights {
+        if w.row as usize >= rows {
+            return true;
+        }
+    }
+    false
+}
+
+fn has_negative(weights: &[Weight]) -> bool
+    ensures { result ≡ list_any (λ w. is_negative w.by) weights.now }
+{
+    for w in weights {
+        if w.by < 0 {
+            return true;
+        }
+    }
+    false
+}
+
+fn do_ascend(weights: &[Weight]) -> bool
+    ensures { result ≡ true → WeightsAscend weights.now }
+{
+    for k in 1..weights.len() {
+        if weights[k].row <= weights[k - 1].row {
+            return false;
+        }
+    }
+    true
+}
+
+// Weighs by the program's index where the weights ascend, and row by row where they do not.
+fn weigh_any(
+    index: &ColumnIndex,
+    p: &Program,
+    r: &Region,
+    q: i128,
+    weights: &[Weight],
+) -> Result<i128, WeighFault>
+    requires fit { IsFit p.now }
+    requires in_box { IsInBox p.now (bounds_of r.now) }
+    requires index { IsIndexOf p.now index.now }
+    requires rows { AreOfRows p.now weights.now }
+    ensures { result ≡ weigh_answer p.now (bounds_of r.now) q weights.now }
+{
+    if do_ascend(weights) {
+        weigh_by(index, p, r, q, weights)
+    } else {
+        weigh(p, r, q, weights)
+    }
+}
+
+fn cap(z: i128) -> u64
+    ensures { result ≡ capped z }
+{
+    if z < 0 {
+        0
+    } else if z > 18_446_744_073_709_551_615 {
+        18_446_744_073_709_551_615
+    } else {
+        z as u64
+    }
+}
+
+#[tactic(auto, using(crate::proofs::Signed::signed), unfolding(crate::specs::NodeBounds::weights_bound))]
+fn test_weights(
+    index: &ColumnIndex,
+    p: &Program,
+    r: &Region,
+    node: u64,
+    q: i128,
+    weights: &[Weight],
+) -> Result<u64, TreeFault>
+    requires fit { IsFit p.now }
+    requires in_box { IsInBox p.now (bounds_of r.now) }
+    requires index { IsIndexOf p.now index.now }
+    ensures { Gives result (weights_bound p.now (bounds_of r.now) node q weights.now) }
+{
+    if has_past_row(p.rows.len(), weights) {
+        return bad(node, TreeWhy::Row);
+    }
+    if has_negative(weights) {
+        return bad(node, TreeWhy::Negative);
+    }
+    if q < 0 {
+        return bad(node, TreeWhy::Denominator);
+    }
+    let weighed = match weigh_any(index, p, r, q, weights) {
+        Ok(weighed) => weighed,
+        Err(WeighFault::Past(column)) => return Err(TreeFault::Past { node, column }),
+        Err(WeighFault::Negative(_)) => return bad(node, TreeWhy::Negative),
+    };
+    if q > 0 {
+        return Ok(cap(weighed.div_euclid(q)));
+    }
+    if weighed < 0 {
+        return Ok(0);
+    }
+    bad(node, TreeWhy::Denominator)
+}
+
+fn bad(node: u64, why: TreeWhy) -> Result<u64, TreeFault>
+    ensures { result ≡ Err (TreeFault.Bad node why) }
+{
+    Err(TreeFault::Bad { node, why })
+}
+
+#[tactic(auto, using(crate::proofs::Signed::signed), unfolding(crate::specs::NodeBounds::split_bound))]
+fn test_split(p: &Program, r: &Region, node: u64, column: u32, at: i128) -> Result<u64, TreeFault>
+    requires in_box { IsInBox p.now (bounds_of r.now) }
+    ensures { Gives result (split_bound p.now (bounds_of r.now) node column at) }
+{
+    let place = column as usize;
+    if place >= p.costs.len() {
+        return bad(node, TreeWhy::Column);
+    }
+    if at < r.lower[place] {
+        return bad(node, TreeWhy::At);
+    }
+    if at >= r.upper[place] {
+        return bad(node, TreeWhy::At);
+    }
+    Ok(0)
+}
+
+/// What a node bounds over its region, or its first fault.
+#[tactic(auto, using(crate::proofs::Signed::signed), unfolding(crate::specs::NodeBounds::node_bound))]
+pub(crate) fn test_node(
+    alloc: Global,
+    index: &ColumnIndex,
+    p: &Program,
+    r: &Region,
+    node: u64,
+    mark: &Mark,
+) -> Result<u64, TreeFault>
+    requires fit { IsFit p.now }
+    requires in_box { IsInBox p.now (bounds_of r.now) }
+    requires index { IsIndexOf p.now index.now }
+    ensures { Gives result (node_bound p.now (bounds_of r.now) node mark.now) }
+{
+    match mark {
+        Mark::Split { column, at, .. } => test_split(p, r, node, *column, *at),
+        Mark::Close { q, weights } => test_weights(index, p, r, node, *q, weights.as_slice()),
+        Mark::Whole {
+            q,
+            weights,
+            worth,
+            point,
+        } => {
+            let most = test_weights(index, p, r, node, *q, weights.as_slice())?;
+            match is_whole_point(alloc, p, r, *worth, point.as_slice()) {
+                Ok(true) => Ok(most),
+                Ok(false) => bad(node, TreeWhy::Point),
+                Err(_) => Err(TreeFault::NoMemory),
+            }
+        }
+        Mark::Rest { q, weights } => test_weights(index, p, r, node, *q, weights.as_slice()),
+    }
+}

@@ -1,5 +1,0 @@
-use Rattle.tetri_tree.proofs.ProperLemmas.{bounds_proper_trees}
-use Rattle.tetri_tree.proofs.laws.proper_trees_have_bounds.Goals as goal
-
-pub returns : goal.returns
-returns c = bounds_proper_trees

@@ -1,5 +1,0 @@
-use Rattle.tetri_tree.proofs.ShapeLemmas as shapes
-use Rattle.tetri_tree.proofs.laws.shape_is_of_trees.Goals as goal
-
-pub returns : goal.returns
-returns c = shapes.shape_is_of_trees

@@ -1,5 +1,0 @@
-use Rattle.tetri_tree.proofs.Covers.{tree_bound_holds}
-use Rattle.tetri_tree.proofs.laws.tree_bounds_points.Goals as goal
-
-pub returns : goal.returns
-returns c = tree_bound_holds
