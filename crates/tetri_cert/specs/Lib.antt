@@ -3,6 +3,7 @@ pub mod Cells
 pub mod Trees
 pub mod ProperTrees
 pub mod TreeLaws
+pub mod SamePrograms
 pub mod Turns
 pub mod Walks
 pub mod NumbersLowest

@@ -17,6 +17,14 @@ places_behind (Close q ws) k = k
 places_behind (Whole q ws worth point) k = k
 places_behind (Rest q ws) k = k
 
+-- how many nodes there are that are no rest
+abbrev pub nodes_in : List Mark → ℕ
+nodes_in [] = 0
+nodes_in (Split j at licence ∷ ms) = suc (nodes_in ms)
+nodes_in (Close q ws ∷ ms) = suc (nodes_in ms)
+nodes_in (Whole q ws worth point ∷ ms) = suc (nodes_in ms)
+nodes_in (Rest q ws ∷ ms) = nodes_in ms
+
 -- whether the nodes fill so many open places, each with one tree in preorder
 abbrev pub fills : ℕ → List Mark → Bool
 fills zero [] = true

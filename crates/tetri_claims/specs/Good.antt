@@ -1,4 +1,4 @@
--- What a good plan is.
+-- What a plan says, and what makes it good.
 use Rattle.std.specs.Prelude.{◌≡◌, ◌≤◌, ◌↔◌, ℕ, List, All}
 use Rattle.tetri_strl.specs.Thrifty.{IsThriftyFor}
 use Rattle.tetri_strl.specs.declared.grants.Grant.{Grant}
@@ -16,12 +16,16 @@ IsThriftyForAll s a = All (λ b. IsThriftyFor a b.job b.expr) s.bids
 abbrev pub BoundsEveryLawful : Space → ℕ → Type 0
 BoundsEveryLawful s bound = (a : List Grant) → IsLawful s a → total_in s a ≤ bound
 
--- The grants are lawful, thrifty and worth the value, which is at least `low`; no lawful allotment is worth more than
--- the bound; and `optimal` stands exactly where value and bound are equal.
-pub record IsGood (s : Space) (low : ℕ) (p : Planned) : Type 0 where
+-- The plan is what it says, its bound aside: the grants are lawful, thrifty and worth the value, which is at least `low`, and
+-- `optimal` stands exactly where value and bound are equal.
+pub record IsHonest (s : Space) (low : ℕ) (p : Planned) : Type 0 where
   pub lawful : IsLawful s p.grants
   pub thrifty : IsThriftyForAll s p.grants
   pub attained : total_in s p.grants ≡ p.value
   pub at_least : low ≤ p.value
-  pub bounded : BoundsEveryLawful s p.bound
   pub optimal : (p.mark ≡ Optimal) ↔ (p.value ≡ p.bound)
+
+-- The plan is what it says, and no lawful allotment is worth more than its bound.
+pub record IsGood (s : Space) (low : ℕ) (p : Planned) : Type 0 where
+  pub honest : IsHonest s low p
+  pub bounded : BoundsEveryLawful s p.bound

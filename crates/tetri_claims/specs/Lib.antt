@@ -1,3 +1,4 @@
 pub mod Planned
 pub mod Good
 pub mod Certified
+pub mod Laws

@@ -1,2 +1,7 @@
-//! What is claimed of one cycle's plan: definitions that the planner, the judge and the top call share.
+//! What is claimed of one cycle's plan: definitions that the planner, the judge and the top call share, and what a certificate
+//! says of every allotment.
 #![tactic(auto)]
+
+mod laws;
+
+pub use laws::{certificates_bound, trees_have_one_answer};

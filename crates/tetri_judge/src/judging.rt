@@ -34,16 +34,16 @@ fn is_rightly_marked(c: &Cycle) -> bool
     c.mark == mark && c.nodes == 0
 }
 
-/// Whether the plan of a cycle is good for the instance, worth at least `carry`, and bounded by the tops; if not,
-/// the first test that it fails. Takes no memory, and trusts nothing that the cycle says. The budget is not looked
-/// at, since no search is certified.
-pub fn judge(inst: &Instance, carry: u64, budget: u32, c: &Cycle) -> Result<(), Verdict>
+/// Whether the plan of a cycle is good for the instance, worth at least `carry`, and certified; if not, the first test that it
+/// fails. It trusts nothing that the cycle says, and uses neither a search nor the simplex method: it goes once over the
+/// certificate. Memory is taken for the certificate alone.
+pub fn judge(alloc: Global, inst: &Instance, carry: u64, budget: u32, c: &Cycle) -> Result<(), Verdict>
     requires { IsSound (space inst.now) }
-    ensures verdict { IsVerdict (space inst.entry.now) carry (planned (block c.now)) result }
+    ensures verdict { IsVerdict (space inst.entry.now) carry budget (planned (block c.now)) result }
     ensures good { OnOk result (IsGood (space inst.entry.now) carry (planned (block c.now))
-        × IsBoundedByTops (space inst.entry.now) (planned (block c.now))) }
-    ensures complete { IsGood (space inst.entry.now) carry (planned (block c.now))
-        → IsBoundedByTops (space inst.entry.now) (planned (block c.now)) → result ≡ Ok tt }
+        × IsCertified (space inst.entry.now) budget (planned (block c.now))) }
+    ensures complete { ((test : Test) → Passes (space inst.entry.now) carry budget (planned (block c.now)) test)
+        → (result ≡ Ok tt) ⊎ (result ≡ Err Verdict.NoMemory) }
 {
     if let Err(unlawful) = lawful(inst, &c.grants) {
         return Err(Verdict::Unlawful(unlawful));

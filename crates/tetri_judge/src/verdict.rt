@@ -15,8 +15,12 @@ pub enum Verdict {
     BelowCarry { printed: u64, carry: u64 },
     /// The certificate does not stand, at this node of its tree or as a whole at node 0.
     BadTree { node: u64, why: TreeWhy },
+    /// At this node a number that is formed to weigh leaves the range; the column is 0 for the sum over the rows.
+    Past { node: u64, column: u32 },
     /// The certificate gives another bound than the printed one.
     WrongBound { printed: u64, found: u64 },
-    /// The mark does not go with value and bound, or nodes of a tree are counted where there is none.
+    /// The mark does not go with value, bound and certificate, or the nodes of the certificate are not counted.
     WrongMark,
+    /// There is no memory for the tests of the certificate.
+    NoMemory,
 }

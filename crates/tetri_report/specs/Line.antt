@@ -1,6 +1,7 @@
 -- What one line of a report says.
 use Rattle.std.specs.Prelude.{ℕ, ◌++◌, ◌^◌, List, [], ◌∷◌, length, drop, take, Option, Some, None, if◌then◌else◌, bytes_eq, codes, option_and_then, option_map}
 use Rattle.tetri_strl.specs.declared.grants.Grant.{Grant}
+use Rattle.tetri_cert.specs.NodeText.{node_by_tag}
 use Rattle.tetri_cert.specs.declared.plan_mark.PlanMark.{PlanMark}
 use Rattle.tetri_cert.specs.declared.plan_mark.PlanMark.TheVariants.{Optimal, Spent, Wide}
 use Rattle.tetri_cluster.specs.Cluster.{names_of}
@@ -71,7 +72,7 @@ abbrev pub summary_in : List (List ℕ) → Option ReportLine
 summary_in (cycles ∷ launched ∷ ended ∷ cancelled ∷ expired ∷ worth ∷ optimal ∷ []) = summary_of_entries cycles launched ended cancelled expired worth optimal
 summary_in words = None
 
--- the kind of a line by its first word
+-- the kind of a line by its first word; the words of a tree's nodes are none of these
 unfoldable pub kind_in : List ℕ → Option Kind
 kind_in word =
     if bytes_eq word (codes "cycle") then Some kinds.Cycle
@@ -133,9 +134,14 @@ module _ (s : Scenario) where
   line_of_kind kinds.Launch words = option_map lines.Launch (lone_job words)
   line_of_kind kinds.Summary words = summary_in words
 
+  -- a line by its kind, if its first word is that of one, and else the node of a tree, if it is one
+  abbrev pub line_by_tag : Option Kind → List ℕ → List (List ℕ) → Option ReportLine
+  line_by_tag (Some kind) tag words = line_of_kind kind words
+  line_by_tag None tag words = option_map lines.Node (node_by_tag tag words)
+
   abbrev pub line_of_words : List (List ℕ) → Option ReportLine
   line_of_words [] = None
-  line_of_words (tag ∷ words) = kind_in tag >>= λ kind. line_of_kind kind words
+  line_of_words (tag ∷ words) = line_by_tag (kind_in tag) tag words
 
   -- what a line says
   abbrev pub line_in : List ℕ → Option ReportLine

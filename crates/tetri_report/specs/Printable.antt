@@ -3,7 +3,9 @@ use Rattle.std.specs.Prelude.{◌≡◌, ◌<◌, ◌≤◌, ◌^◌, ℕ, List,
 use Rattle.tetri_strl.specs.declared.grants.Grant.{Grant}
 use Rattle.tetri_state.specs.declared.happened.PieceId.{PieceId}
 use Rattle.tetri_cert.specs.declared.certificate.Certificate.{Certificate}
-use Rattle.tetri_cert.specs.declared.certificate.Certificate.TheVariants.{Tops}
+use Rattle.tetri_cert.specs.declared.certificate.Certificate.TheVariants.{Tops, Tree}
+use Rattle.tetri_cert.specs.declared.marks.Mark.{Mark}
+use Rattle.tetri_cert.specs.NodeText.{HasShortLists, IsPlain}
 use Rattle.tetri_trace.specs.Scenario.{Scenario}
 use Rattle.tetri_report.specs.Block.{Block}
 use Rattle.tetri_report.specs.declared.cycle.Summary.{Summary}
@@ -21,7 +23,17 @@ pub record IsPrintableGrant (s : Scenario) (g : Grant) : Type 0 where
   pub few : length g.nodes ≤ 4096
   pub nodes : All (λ n. n < length s.nodes) g.nodes
 
--- all jobs and nodes are the trace's, and there is a start for each grant
+-- a plain node, whose lists have at most 2,000 entries each
+pub record IsPrintableNode (m : Mark) : Type 0 where
+  pub plain : IsPlain m
+  pub short : HasShortLists 2000 m
+
+-- a tree has a node, and each may be printed
+abbrev pub IsPrintableCertificate : Certificate → Type 0
+IsPrintableCertificate (Tops columns rows) = Unit {0}
+IsPrintableCertificate (Tree marks) = (1 ≤ length marks) × All IsPrintableNode marks
+
+-- all jobs and nodes are the trace's, there is a start for each grant, and the certificate may be printed
 pub record IsPrintable (s : Scenario) (b : Block) : Type 0 where
   pub ended : ArePieces s b.ended
   pub cancelled : AreJobs s b.cancelled
@@ -29,13 +41,16 @@ pub record IsPrintable (s : Scenario) (b : Block) : Type 0 where
   pub expired : AreJobs s b.expired
   pub grants : All (IsPrintableGrant s) b.grants
   pub starts : length b.starts ≡ length b.grants
+  pub certificate : IsPrintableCertificate b.certificate
   pub launched : AreJobs s b.launched
 
 abbrev pub AreSmall : List ℕ → Type 0
 AreSmall ns = All (λ n. n < 2 ^ 32) ns
 
+-- the numbers of a node are in their ranges where it may be printed
 abbrev pub IsCertificateInRange : Certificate → Type 0
 IsCertificateInRange (Tops columns rows) = (columns < 2 ^ 64) × (rows < 2 ^ 64)
+IsCertificateInRange (Tree marks) = Unit {0}
 
 -- the numbers of a block are within the ranges of their lines
 pub record IsInRange (b : Block) : Type 0 where

@@ -2,7 +2,9 @@
 use Rattle.std.specs.Prelude.{ℕ, ◌+◌, ◌&&◌, List, [], ◌∷◌, ◌++◌, map, Bool, true, false, if◌then◌else◌, Option, Some, None, ok_or, Result, Ok, Err}
 use Rattle.tetri_strl.specs.declared.grants.Grant.{Grant}
 use Rattle.tetri_cert.specs.declared.plan_mark.PlanMark.TheVariants.{Wide}
-use Rattle.tetri_cert.specs.declared.certificate.Certificate.TheVariants.{Tops}
+use Rattle.tetri_cert.specs.declared.certificate.Certificate.{Certificate}
+use Rattle.tetri_cert.specs.declared.certificate.Certificate.TheVariants.{Tops, Tree}
+use Rattle.tetri_cert.specs.declared.marks.Mark.{Mark}
 use Rattle.tetri_io.specs.Lines.{lines_from}
 use Rattle.tetri_trace.specs.Scenario.{Scenario}
 use Rattle.tetri_report.specs.Block.{Block}
@@ -35,6 +37,11 @@ block_of number = record {
 abbrev pub with_plan : Block → PlanLine → Block
 with_plan b p = record b { value = p.value; bound = p.bound; mark = p.mark; nodes = p.nodes }
 
+-- a certificate with one node more; the first one makes it a tree
+abbrev pub with_node : Certificate → Mark → Certificate
+with_node (Tops columns rows) mark = Tree (mark ∷ [])
+with_node (Tree marks) mark = Tree (marks ++ mark ∷ [])
+
 -- the block with one line more
 abbrev pub with_line : Block → ReportLine → Block
 with_line b (lines.Cycle number) = block_of number
@@ -45,11 +52,12 @@ with_line b (lines.Expire job) = record b { expired = b.expired ++ job ∷ [] }
 with_line b (lines.Plan p) = with_plan b p
 with_line b (lines.Grant grant start) = record b { grants = b.grants ++ grant ∷ []; starts = b.starts ++ start ∷ [] }
 with_line b (lines.Tops columns rows) = record b { certificate = Tops columns rows }
+with_line b (lines.Node mark) = record b { certificate = with_node b.certificate mark }
 with_line b (lines.Launch job) = record b { launched = b.launched ++ job ∷ [] }
 with_line b (lines.Summary s) = block_of 0
 
--- Where a line may stand: events of one kind behind those of earlier kinds, then the plan with its grants, the certificate
--- and the launches. A cycle or the summary may stand first or behind a block.
+-- Where a line may stand: events of one kind behind those of earlier kinds, then the plan with its grants, the certificate,
+-- which is one `tops` line or the nodes of a tree, and the launches. A cycle or the summary may stand first or behind a block.
 abbrev pub before_ends : Stage → Bool
 before_ends stages.Begun = true
 before_ends stages.Ends = true
@@ -71,8 +79,13 @@ abbrev pub is_planned : Stage → Bool
 is_planned stages.Planned = true
 is_planned _ = false
 
+abbrev pub before_nodes : Stage → Bool
+before_nodes stages.Tree = true
+before_nodes stage = is_planned stage
+
 abbrev pub is_certified : Stage → Bool
 is_certified stages.Certified = true
+is_certified stages.Tree = true
 is_certified _ = false
 
 abbrev pub is_between : Stage → Bool
@@ -89,6 +102,7 @@ may_follow stage (lines.Expire job) = before_plan stage
 may_follow stage (lines.Plan p) = before_plan stage
 may_follow stage (lines.Grant grant start) = is_planned stage
 may_follow stage (lines.Tops columns rows) = is_planned stage
+may_follow stage (lines.Node mark) = before_nodes stage
 may_follow stage (lines.Launch job) = is_certified stage
 may_follow stage (lines.Summary s) = is_between stage
 
@@ -102,6 +116,7 @@ stage_behind (lines.Expire job) = stages.Expires
 stage_behind (lines.Plan p) = stages.Planned
 stage_behind (lines.Grant grant start) = stages.Planned
 stage_behind (lines.Tops columns rows) = stages.Certified
+stage_behind (lines.Node mark) = stages.Tree
 stage_behind (lines.Launch job) = stages.Certified
 stage_behind (lines.Summary s) = stages.Closed
 

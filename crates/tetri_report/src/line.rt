@@ -1,10 +1,10 @@
 // What one line of a report says.
 use crate::cycle::Summary;
-use tetri_cert::PlanMark;
+use tetri_cert::{Mark, PlanMark};
 use tetri_state::PieceId;
 use tetri_strl::Grant;
 
-/// What kind of line it is, by its first word.
+/// What kind of line it is, by its first word; a node of a tree is of none of these.
 #[derive(Clone, Copy, Debug, PartialEq, Eq)]
 pub(crate) enum Kind {
     Cycle,
@@ -39,12 +39,14 @@ pub enum ReportLine {
     Plan(PlanLine),
     Grant { grant: Grant, start: u32 },
     Tops { columns: u64, rows: u64 },
+    Node(Mark),
     Launch(u32),
     Summary(Summary),
 }
 
-/// How far a report has come: which line was the last one, or that there was none. Events, grants and launches repeat; behind
-/// the certificate stand launches alone, and behind the summary nothing.
+/// How far a report has come: which line was the last one, or that there was none. Events, grants, the nodes of a tree and
+/// launches repeat; behind the certificate stand launches alone, and behind the summary nothing. `Tree` is behind a node of a
+/// tree, and `Certified` behind the tops or a launch.
 #[derive(Clone, Copy, Debug, PartialEq, Eq)]
 pub enum Stage {
     Opened,
@@ -54,6 +56,7 @@ pub enum Stage {
     Overs,
     Expires,
     Planned,
+    Tree,
     Certified,
     Closed,
 }

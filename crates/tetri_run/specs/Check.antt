@@ -19,7 +19,7 @@ abbrev pub lines_in : List ℕ → List (List ℕ)
 lines_in bytes = map (λ l. l.0) (lines_from 0 bytes)
 
 -- The report is accepted: its lines read as a whole run of the trace and its summary, and none is too long. That no lawful
--- allotment is worth more than a bound, which is part of a cycle of a run, follows from its certificate.
+-- allotment is worth more than a bound is no part of it: it follows from the certificates.
 pub record IsAccepted (t : Scenario) (bytes : List ℕ) : Type 0 where
   pub past : List Block
   pub reads : report_in t bytes ≡ Ok (in_order past, summary_of t past)

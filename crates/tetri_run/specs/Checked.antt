@@ -1,11 +1,11 @@
 -- What checking a cycle, a line and a report answers.
 use Rattle.std.specs.Prelude.{◌≡◌, ◌<◌, ◌≤◌, ◌*◌, ◌^◌, ℕ, ◌+◌, List, length, Option, Some, None, Result, Ok, Err}
-use Rattle.tetri_claims.specs.Certified.{IsBoundedByTops}
-use Rattle.tetri_claims.specs.Good.{IsGood}
+use Rattle.tetri_claims.specs.Certified.{IsCertified}
+use Rattle.tetri_claims.specs.Good.{IsHonest}
 use Rattle.tetri_judge.specs.Verdict.{IsFirstFailed}
 use Rattle.tetri_judge.specs.declared.verdict.Verdict.{Verdict}
 use Rattle.tetri_report.specs.Block.{Block}
-use Rattle.tetri_report.specs.BlockLines.{events}
+use Rattle.tetri_report.specs.BlockLines.{certificate_lines, events}
 use Rattle.tetri_report.specs.PlanOf.{planned}
 use Rattle.tetri_report.specs.declared.blocks.ReportFault.{ReportFault}
 use Rattle.tetri_report.specs.declared.blocks.ReportFault.TheVariants as faults
@@ -30,14 +30,14 @@ use Rattle.tetri_run.specs.declared.cycles.RunTally.{RunTally}
 use Rattle.tetri_run.specs.declared.why.Why.{Why}
 use Rattle.tetri_run.specs.declared.why.Why.TheVariants.{Malformed, WrongEvents}
 
--- What the tests of a plan answer, where the cycle's first line has this number: it is good, and bounded by the tops, or the
--- first test that it fails refuses the line at its place.
-abbrev pub AnswersPlan : {U : Type 0} → Result U CheckHalt → Space → ℕ → ℕ → Block → Type 0
-AnswersPlan (Ok u) i carried first b = IsGood i carried (planned b) × IsBoundedByTops i (planned b)
-AnswersPlan (Err (Refused line why)) i carried first b =
-    (v : Verdict) × IsFirstFailed i carried (planned b) v × (line ≡ first + place_of b v) × (why ≡ why_of v)
-AnswersPlan (Err ReadFault) i carried first b = ⊥
-AnswersPlan (Err NoMemory) i carried first b = ⊥
+-- What the tests of a plan answer, where the cycle's first line has this number: it is what it says and certified, or the first
+-- test that it fails refuses the line at its place.
+abbrev pub AnswersPlan : {U : Type 0} → Result U CheckHalt → Space → ℕ → ℕ → ℕ → Block → Type 0
+AnswersPlan (Ok u) i carried budget first b = IsHonest i carried (planned b) × IsCertified i budget (planned b)
+AnswersPlan (Err (Refused line why)) i carried budget first b =
+    (v : Verdict) × IsFirstFailed i carried budget (planned b) v × (line ≡ first + place_of b v) × (why_of v ≡ Some why)
+AnswersPlan (Err ReadFault) i carried budget first b = ⊥
+AnswersPlan (Err NoMemory) i carried budget first b = Unit {0}
 
 -- The cycle is one of the run, and what it launches is launched.
 pub record IsDone (t : Scenario) (old new : Snapshot) (b : Block) (tally : SlotTally) : Type 0 where
@@ -67,11 +67,11 @@ pub record IsBehind (t : Scenario) (past : List Block) (s : Snapshot) (tally : R
   pub small_worth : tally.worth ≤ length past * 2 ^ 64
   pub small_optimal : tally.optimal ≤ length past
 
--- The lines so far may stand. A cycle has no more events, grants and launches than there are lines from its first one on, and a
--- start for each grant. Where a summary was read, the report is closed.
+-- The lines so far may stand. A cycle has no more events, grants, lines of its certificate and launches than there are lines from
+-- its first one on, but for the plan and the certificate, and a start for each grant. Where a summary was read, the report is closed.
 pub record IsInOrder (first : ℕ) (r : Reading) : Type 0 where
   pub sane : r.fault ≡ None
-  pub paged : first + (events r.block + length r.block.grants + length r.block.launched) ≤ r.lines + 1
+  pub paged : first + (events r.block + length r.block.grants + length (certificate_lines r.block.certificate) + length r.block.launched) ≤ r.lines + 2
   pub starts : length r.block.starts ≡ length r.block.grants
   pub closed : (s : Summary) → r.summary ≡ Some s → r.stage ≡ Closed
 

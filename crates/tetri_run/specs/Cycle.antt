@@ -1,8 +1,9 @@
 -- What one cycle of a run says.
-use Rattle.std.specs.Prelude.{◌≡◌, ◌<◌, ◌≤◌, ◌⊎◌, List, AllPairs, map}
+use Rattle.std.specs.Prelude.{◌≡◌, ◌<◌, ◌≤◌, ◌⊎◌, ℕ, List, AllPairs, map}
 use Rattle.tetri_strl.specs.declared.grants.Grant.{Grant}
-use Rattle.tetri_claims.specs.Good.{IsGood}
-use Rattle.tetri_claims.specs.Certified.{IsBoundedByTops}
+use Rattle.tetri_cert.specs.declared.certificate.Certificate.TheVariants.{Tops}
+use Rattle.tetri_claims.specs.Certified.{IsCertified}
+use Rattle.tetri_claims.specs.Good.{BoundsEveryLawful, IsHonest}
 use Rattle.tetri_report.specs.Block.{Block}
 use Rattle.tetri_report.specs.PlanOf.{planned}
 use Rattle.tetri_report.specs.Printable.{IsInRange}
@@ -23,11 +24,11 @@ occurrences_in b = record { ended = b.ended; cancelled = b.cancelled; over = b.o
 abbrev pub instance_at : Scenario → Snapshot → Space
 instance_at t s = instance_of t (begin t s)
 
--- The plan of a cycle is good for this instance, worth at least what is carried over, and bounded by the tops; each grant is
--- told with its leaf's start, and all that is launched is told.
-pub record IsPlanFor (i : Space) (carry : List Grant) (b : Block) : Type 0 where
-  pub good : IsGood i (total_in i carry) (planned b)
-  pub tops : IsBoundedByTops i (planned b)
+-- The plan of a cycle is what it says for this instance, worth at least what is carried over, and certified for this budget; each
+-- grant is told with its leaf's start, and all that is launched is told.
+pub record IsPlanFor (i : Space) (budget : ℕ) (carry : List Grant) (b : Block) : Type 0 where
+  pub honest : IsHonest i (total_in i carry) (planned b)
+  pub certified : IsCertified i budget (planned b)
   pub starts : b.starts ≡ map (start_of i) b.grants
   pub launched : b.launched ≡ launched_in i b.grants
 
@@ -38,7 +39,11 @@ pub record IsCycle (t : Scenario) (s : Snapshot) (b : Block) : Type 0 where
   pub happened : occurrences_in b ≡ occurring t s
   pub carry : List Grant
   pub carried : IsCarry (instance_at t s) s.plan carry
-  pub plan : IsPlanFor (instance_at t s) carry b
+  pub plan : IsPlanFor (instance_at t s) t.header.budget carry b
+
+-- no lawful allotment is worth more than the bound of the cycle that begins in this state
+abbrev pub IsBoundedCycle : Scenario → Snapshot → Block → Type 0
+IsBoundedCycle t s b = BoundsEveryLawful (instance_at t s) b.bound
 
 -- the first grant's job and leaf come before the second's
 abbrev pub ComesBefore : Grant → Grant → Type 0
@@ -50,8 +55,10 @@ pub record IsKeptFor (i : Space) (carry : List Grant) (b : Block) : Type 0 where
   pub ordered : AllPairs ComesBefore b.grants
   pub first_fit : total_in i (first_fit i) ≤ b.value
 
--- the cycle that this planner plans, whose numbers are within the ranges of their lines
+-- the cycle that this planner plans, with the tops as its certificate, whose numbers are within the ranges of their lines
 pub record IsPlannedCycle (t : Scenario) (s : Snapshot) (b : Block) : Type 0 where
   pub cycle : IsCycle t s b
+  pub bounded : IsBoundedCycle t s b
+  pub by_tops : b.certificate ≡ Tops 0 0
   pub kept_for : IsKeptFor (instance_at t s) cycle.carry b
   pub in_range : IsInRange b

@@ -1,5 +1,5 @@
 -- What is wrong with a cycle of a report.
-use Rattle.std.specs.Prelude.{ℕ, ◌+◌, List, map}
+use Rattle.std.specs.Prelude.{◌≡◌, ℕ, ◌+◌, List, map, Option, Some, None}
 use Rattle.tetri_strl.specs.declared.grants.Grant.{Grant}
 use Rattle.tetri_judge.specs.Verdict.{IsFirstFailed, Passes, Test}
 use Rattle.tetri_judge.specs.declared.verdict.Verdict.{Verdict}
@@ -18,15 +18,17 @@ use Rattle.tetri_run.specs.Told.{DifferFirstAt, retold}
 use Rattle.tetri_run.specs.declared.why.Why.{Why}
 use Rattle.tetri_run.specs.declared.why.Why.TheVariants as whys
 
--- a verdict on a plan as a cause
-abbrev pub why_of : Verdict → Why
-why_of (verdicts.Unlawful u) = whys.Unlawful u
-why_of (verdicts.WrongValue printed found) = whys.WrongValue printed found
-why_of (verdicts.WasteGrant place) = whys.WasteGrant place
-why_of (verdicts.BelowCarry printed carry) = whys.BelowCarry printed carry
-why_of (verdicts.BadTree node why) = whys.BadTree node why
-why_of (verdicts.WrongBound printed found) = whys.WrongBound printed found
-why_of verdicts.WrongMark = whys.WrongMark
+-- a verdict on a plan as a cause, unless memory ran out
+abbrev pub why_of : Verdict → Option Why
+why_of (verdicts.Unlawful u) = Some (whys.Unlawful u)
+why_of (verdicts.WrongValue printed found) = Some (whys.WrongValue printed found)
+why_of (verdicts.WasteGrant place) = Some (whys.WasteGrant place)
+why_of (verdicts.BelowCarry printed carry) = Some (whys.BelowCarry printed carry)
+why_of (verdicts.BadTree node why) = Some (whys.BadTree node why)
+why_of (verdicts.Past node column) = Some (whys.Past node column)
+why_of (verdicts.WrongBound printed found) = Some (whys.WrongBound printed found)
+why_of verdicts.WrongMark = Some whys.WrongMark
+why_of verdicts.NoMemory = None
 
 -- the place of the line, counted from the cycle's first one, at which a verdict refuses its plan
 abbrev pub place_of : Block → Verdict → ℕ
@@ -35,8 +37,10 @@ place_of b (verdicts.WrongValue printed found) = plan_place b
 place_of b (verdicts.WasteGrant place) = grant_place b place
 place_of b (verdicts.BelowCarry printed carry) = plan_place b
 place_of b (verdicts.BadTree node why) = certificate_place b + node
+place_of b (verdicts.Past node column) = certificate_place b + node
 place_of b (verdicts.WrongBound printed found) = plan_place b
 place_of b verdicts.WrongMark = plan_place b
+place_of b verdicts.NoMemory = plan_place b
 
 -- the cycle as it has to be told in this state, with its own plan
 abbrev pub rightly_told : Scenario → Snapshot → Block → Block
@@ -46,8 +50,9 @@ rightly_told t s b = retold b s.now (occurring t s) (map (start_of (instance_at 
 -- come the tests of its plan. Then its lines are held against those that the state and the plan make: the first that differs is
 -- refused, or the one that stands where a line is missing, which may be the line behind the cycle.
 pub data IsFaulty (t : Scenario) (s : Snapshot) (b : Block) : ℕ → Why → Type 0 where
-  planned_badly : (carry : List Grant) (v : Verdict) → IsCarry (instance_at t s) s.plan carry
-      → IsFirstFailed (instance_at t s) (total_in (instance_at t s) carry) (planned b) v → IsFaulty t s b (place_of b v) (why_of v)
+  planned_badly : (carry : List Grant) (v : Verdict) (why : Why) → IsCarry (instance_at t s) s.plan carry
+      → IsFirstFailed (instance_at t s) (total_in (instance_at t s) carry) t.header.budget (planned b) v → why_of v ≡ Some why
+      → IsFaulty t s b (place_of b v) why
   told_badly : (carry : List Grant) (place : ℕ) → IsCarry (instance_at t s) s.plan carry
-      → ((test : Test) → Passes (instance_at t s) (total_in (instance_at t s) carry) (planned b) test)
+      → ((test : Test) → Passes (instance_at t s) (total_in (instance_at t s) carry) t.header.budget (planned b) test)
       → DifferFirstAt (block_lines b) (block_lines (rightly_told t s b)) place → IsFaulty t s b place whys.WrongEvents

@@ -10,7 +10,7 @@ use Rattle.tetri_state.specs.Launch.{worth_launched}
 use Rattle.tetri_state.specs.Reached.{state_after}
 use Rattle.tetri_state.specs.Snapshot.{Snapshot}
 use Rattle.tetri_trace.specs.Scenario.{Scenario}
-use Rattle.tetri_run.specs.Cycle.{IsCycle, IsPlannedCycle, instance_at}
+use Rattle.tetri_run.specs.Cycle.{IsBoundedCycle, IsCycle, IsPlannedCycle, instance_at}
 
 abbrev pub plans_of : List Block → List (List Grant)
 plans_of past = map (λ b. b.grants) past
@@ -27,6 +27,10 @@ IsRunOf IsSuch t (b ∷ past) = ((state_behind t past).now < t.header.until) × 
 -- a run, whoever planned it
 abbrev pub IsRun : Scenario → List Block → Type 0
 IsRun = IsRunOf IsCycle
+
+-- no lawful allotment of any of these cycles' instances is worth more than the cycle's bound
+abbrev pub BoundsHold : Scenario → List Block → Type 0
+BoundsHold = IsRunOf IsBoundedCycle
 
 -- a run that this planner plans
 abbrev pub IsPlannedRun : Scenario → List Block → Type 0

@@ -10,13 +10,14 @@ use Rattle.tetri_parse.specs.declared.fault.Fault.{Fault}
 use Rattle.tetri_parse.specs.declared.fault.Fault.TheVariants.{Unexpected, Ended, Trailing, NumberRange, UnknownSet, Uneven, Mixed, TooDeep, TooManyLeaves, TooRich, TooManySets}
 use Rattle.tetri_algebra.specs.Counts.{Rose}
 use Rattle.tetri_cert.specs.declared.faults.TreeWhy.{TreeWhy}
-use Rattle.tetri_cert.specs.declared.faults.TreeWhy.TheVariants.{Kind}
+use Rattle.tetri_cert.specs.declared.faults.TreeWhy.TheVariants as tree_whys
 use Rattle.tetri_io.specs.Sink.{AppendsPart}
 use Rattle.tetri_space.specs.declared.rules.Rule.{Rule}
 use Rattle.tetri_space.specs.declared.rules.Rule.TheVariants as rules
 use Rattle.tetri_trace.specs.declared.fault.TraceFault.{TraceFault}
 use Rattle.tetri_trace.specs.declared.fault.TraceFault.TheVariants as trace_faults
 use Rattle.tetri_run.specs.Check.{IsAccepted, IsRefusedAt}
+use Rattle.tetri_run.specs.Run.{BoundsHold}
 use Rattle.tetri_run.specs.Progress.{StoppedBetween, StoppedInText, WroteReport}
 use Rattle.tetri_run.specs.Words.{Asked, to_check, to_plan}
 use Rattle.tetri_run.specs.declared.why.Why.{Why}
@@ -40,7 +41,7 @@ accepted_text cycles = codes "accepted " ++ decimal cycles ++ codes "\n"
 
 -- What checking a report against a trace answers, of the written bytes before and after.
 abbrev pub IsCheckAnswer : Status → Scenario → List ℕ → Option (List ℕ) → Option (List ℕ) → Type 0
-IsCheckAnswer Done t report before after = IsAccepted t report × (after ≡ append_known before (accepted_text t.header.until))
+IsCheckAnswer Done t report before after = ((accepted : IsAccepted t report) × BoundsHold t accepted.past) × (after ≡ append_known before (accepted_text t.header.until))
 IsCheckAnswer (Refused line why) t report before after = IsRefusedAt t report line why × (IsAccepted t report → ⊥)
 IsCheckAnswer Usage t report before after = ⊥
 IsCheckAnswer ReadFault t report before after = Unit {0}
@@ -190,7 +191,14 @@ rule_values _ = []
 
 -- what is wrong with a certificate
 abbrev pub tree_words : TreeWhy → List ℕ
-tree_words Kind = codes "kind"
+tree_words tree_whys.Kind = codes "kind"
+tree_words tree_whys.Shape = codes "shape"
+tree_words tree_whys.Column = codes "column"
+tree_words tree_whys.At = codes "at"
+tree_words tree_whys.Row = codes "row"
+tree_words tree_whys.Negative = codes "negative"
+tree_words tree_whys.Denominator = codes "denominator"
+tree_words tree_whys.Point = codes "point"
 
 -- the name of a test that a report fails
 abbrev pub refusal_name : Why → List ℕ
@@ -201,6 +209,7 @@ refusal_name (refusals.WrongValue printed found) = codes "wrong-value"
 refusal_name (refusals.WasteGrant place) = codes "waste-grant"
 refusal_name (refusals.BelowCarry printed carry) = codes "below-carry"
 refusal_name (refusals.BadTree node why) = codes "bad-tree"
+refusal_name (refusals.Past node column) = codes "past"
 refusal_name (refusals.WrongBound printed found) = codes "wrong-bound"
 refusal_name refusals.WrongMark = codes "wrong-mark"
 refusal_name refusals.WrongEvents = codes "wrong-events"
@@ -211,6 +220,7 @@ refusal_values (refusals.WrongValue printed found) = value printed ++ value foun
 refusal_values (refusals.WasteGrant place) = value place
 refusal_values (refusals.BelowCarry printed carry) = value printed ++ value carry
 refusal_values (refusals.BadTree node why) = value node ++ codes " " ++ tree_words why
+refusal_values (refusals.Past node column) = value node ++ value column
 refusal_values (refusals.WrongBound printed found) = value printed ++ value found
 refusal_values _ = []
 

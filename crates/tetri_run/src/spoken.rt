@@ -192,6 +192,13 @@ fn tree_word(why: TreeWhy) -> &'static str
 {
     match why {
         TreeWhy::Kind => "kind",
+        TreeWhy::Shape => "shape",
+        TreeWhy::Column => "column",
+        TreeWhy::At => "at",
+        TreeWhy::Row => "row",
+        TreeWhy::Negative => "negative",
+        TreeWhy::Denominator => "denominator",
+        TreeWhy::Point => "point",
     }
 }
 
@@ -207,6 +214,7 @@ fn refusal_name(why: Why) -> &'static str
         Why::WasteGrant(_) => "waste-grant",
         Why::BelowCarry { .. } => "below-carry",
         Why::BadTree { .. } => "bad-tree",
+        Why::Past { .. } => "past",
         Why::WrongBound { .. } => "wrong-bound",
         Why::WrongMark => "wrong-mark",
         Why::WrongEvents => "wrong-events",
@@ -233,6 +241,7 @@ fn add_refusal_values(out: &mut String, why: Why) -> Result<(), AllocError>
         Why::WasteGrant(place) => write!(out, " {place}"),
         Why::BelowCarry { printed, carry } => write!(out, " {printed} {carry}"),
         Why::BadTree { node, why } => write!(out, " {node} {}", tree_word(why)),
+        Why::Past { node, column } => write!(out, " {node} {column}"),
         _ => Ok(()),
     }
 }

@@ -23,25 +23,29 @@ pub enum Why {
     BelowCarry { printed: u64, carry: u64 },
     /// The certificate does not stand, at this node of its tree or as a whole at node 0.
     BadTree { node: u64, why: TreeWhy },
+    /// At this node a number that is formed to weigh leaves the range; the column is 0 for the sum over the rows.
+    Past { node: u64, column: u32 },
     /// The certificate gives another bound than the printed one.
     WrongBound { printed: u64, found: u64 },
-    /// The mark does not go with value and bound, or nodes of a tree are counted where there is none.
+    /// The mark does not go with value, bound and certificate, or the nodes of the certificate are not counted.
     WrongMark,
     /// A number, an event, a start, a launch or the summary is not what the run has there.
     WrongEvents,
 }
 
-/// A verdict on a plan as a cause.
-pub(crate) fn why_of(verdict: Verdict) -> Why
+/// A verdict on a plan as a cause, unless memory ran out.
+pub(crate) fn why_of(verdict: Verdict) -> Option<Why>
     ensures { result ≡ why_of verdict }
 {
     match verdict {
-        Verdict::Unlawful(unlawful) => Why::Unlawful(unlawful),
-        Verdict::WrongValue { printed, found } => Why::WrongValue { printed, found },
-        Verdict::WasteGrant(place) => Why::WasteGrant(place),
-        Verdict::BelowCarry { printed, carry } => Why::BelowCarry { printed, carry },
-        Verdict::BadTree { node, why } => Why::BadTree { node, why },
-        Verdict::WrongBound { printed, found } => Why::WrongBound { printed, found },
-        Verdict::WrongMark => Why::WrongMark,
+        Verdict::Unlawful(unlawful) => Some(Why::Unlawful(unlawful)),
+        Verdict::WrongValue { printed, found } => Some(Why::WrongValue { printed, found }),
+        Verdict::WasteGrant(place) => Some(Why::WasteGrant(place)),
+        Verdict::BelowCarry { printed, carry } => Some(Why::BelowCarry { printed, carry }),
+        Verdict::BadTree { node, why } => Some(Why::BadTree { node, why }),
+        Verdict::Past { node, column } => Some(Why::Past { node, column }),
+        Verdict::WrongBound { printed, found } => Some(Why::WrongBound { printed, found }),
+        Verdict::WrongMark => Some(Why::WrongMark),
+        Verdict::NoMemory => None,
     }
 }
