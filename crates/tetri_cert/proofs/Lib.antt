@@ -7,6 +7,8 @@ pub mod Pending
 pub mod Steps
 pub mod ProperLemmas
 pub mod ShapeLemmas
+pub mod SameLemmas
+pub mod FaultLemmas
 pub mod PointLemmas
 pub mod NumbersSigned
 pub mod NumbersBack

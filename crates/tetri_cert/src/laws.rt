@@ -1,6 +1,7 @@
 // What the bound of a tree says of the points of its program.
 
 ghost use Rattle.tetri_cert.specs.ProperTrees.{BoundsProperTrees, ShapeIsOfTrees};
+ghost use Rattle.tetri_cert.specs.SamePrograms.{FaultsNameNodes, SameProgramsAnswerSame};
 ghost use Rattle.tetri_cert.specs.TreeLaws.{TreeBoundHolds};
 
 /// No point of a program has an objective above the bound of a proper tree over it, where that bound is below 2^64 - 1
@@ -18,4 +19,14 @@ pub fn proper_trees_have_bounds()
 /// Nodes have the fault of shape exactly where they are no tree in preorder whose inner nodes are the splits.
 pub fn shape_is_of_trees()
     ensures { ShapeIsOfTrees }
+{}
+
+/// Marks have the same bound, or the same first fault, over programs that say the same.
+pub fn same_programs_answer_same()
+    ensures { SameProgramsAnswerSame }
+{}
+
+/// A fault names one of the nodes, or the first one where the marks are no tree.
+pub fn faults_name_nodes()
+    ensures { FaultsNameNodes }
 {}

@@ -20,12 +20,16 @@ mod words;
 pub use certificate::{Certificate, print, print_onto};
 pub use faults::{TreeFault, TreeWhy};
 pub use items::Items;
-pub use laws::{proper_trees_have_bounds, shape_is_of_trees, tree_bounds_points};
+pub use laws::{
+    faults_name_nodes, proper_trees_have_bounds, same_programs_answer_same, shape_is_of_trees,
+    tree_bounds_points,
+};
 pub use marks::{Cell, FracCell, Licence, Mark};
 pub use plan_mark::PlanMark;
 pub use points::objective_at;
 pub use text::{MarkFault, marks_are_short_lines, marks_read_back, print_mark, read_mark};
-pub use walk::{Walk, bound};
+pub use text_words::mark_of_words;
+pub use walk::{Walk, bound, count_nodes};
 
 #[cfg(test)]
 mod certificate_tests;

@@ -172,7 +172,8 @@ fn mark_by_tag(alloc: Global, tag: &[u8], words: &[&[u8]]) -> Result<Option<Mark
     Ok(None)
 }
 
-pub(crate) fn mark_of_words(alloc: Global, words: &[&[u8]]) -> Result<Option<Mark>, AllocError>
+/// The mark of a line's words, which are parted by one space; None exactly where they are none of a plain mark's line.
+pub fn mark_of_words(alloc: Global, words: &[&[u8]]) -> Result<Option<Mark>, AllocError>
     ensures { IfOk result (λ o. o ≡ node_of_words (map (λ x. x.now) words.now)) }
 {
     match words.split_first() {

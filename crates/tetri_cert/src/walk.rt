@@ -3,7 +3,7 @@
 ghost use Rattle.std.specs.Prelude.{◌≡◌, ℕ, ◌<◌, ◌≤◌, ◌+◌, ◌-◌, ◌^◌, List, [], ◌∷◌, OnOk, OnErr, IfOk, map, not};
 ghost use Rattle.tetri_ip.specs.Points.{IsFit, bounds_of};
 ghost use Rattle.tetri_cert.specs.declared.marks.Mark.{Mark};
-ghost use Rattle.tetri_cert.specs.Trees.{Gives, places_behind, tree_bound};
+ghost use Rattle.tetri_cert.specs.Trees.{Gives, nodes_in, places_behind, tree_bound};
 
 use crate::faults::{TreeFault, TreeWhy};
 use crate::marks::Mark;
@@ -139,6 +139,20 @@ impl Walk {
             None => Ok(most),
         }
     }
+}
+
+/// How many marks there are that are no rest.
+pub fn count_nodes(marks: &[Mark]) -> u64
+    ensures { result ≡ nodes_in marks.now }
+{
+    let mut nodes = 0;
+    for mark in marks {
+        match mark {
+            Mark::Rest { .. } => {}
+            Mark::Split { .. } | Mark::Close { .. } | Mark::Whole { .. } => nodes += 1,
+        }
+    }
+    nodes
 }
 
 /// The bound of a tree over a program: the greatest of 0 and of the floors of the weighed numbers over `q`, each over its

@@ -2,7 +2,7 @@
 ghost use Rattle.std.specs.Prelude.{◌≡◌, ◌<◌, ◌≤◌, ◌+◌, ◌^◌, ◌++◌, ◌∷◌, [], Some, None, OnOk, OnErr, option_map, true, false};
 ghost use Rattle.tetri_report.specs.Answers.{AnswersEnd, AnswersLine, Leaves};
 ghost use Rattle.tetri_report.specs.Block.{block};
-ghost use Rattle.tetri_report.specs.Reading.{before_cancels, before_ends, before_overs, before_plan, behind_line, block_of, block_before, end_answer, ends_block, fitting, is_between, is_certified, is_planned, line_answer, may_follow, opened, stage_behind, summary_of, with_line, with_plan, with_read};
+ghost use Rattle.tetri_report.specs.Reading.{before_cancels, before_ends, before_nodes, before_overs, before_plan, behind_line, block_of, block_before, end_answer, ends_block, fitting, is_between, is_certified, is_planned, line_answer, may_follow, opened, stage_behind, summary_of, with_line, with_node, with_plan, with_read};
 ghost use Rattle.tetri_report.specs.declared.blocks.ReportFault.TheVariants as faults;
 ghost use Rattle.tetri_trace.specs.Scenario.{scenario};
 
@@ -11,7 +11,7 @@ use crate::line::{ReportLine, Stage};
 use crate::read::line_in;
 use std::alloc::{AllocError, Global};
 use std::marker::Model;
-use tetri_cert::{Certificate, PlanMark};
+use tetri_cert::{Certificate, Items, Mark, PlanMark};
 use tetri_state::Happened;
 use tetri_strl::{Allotment, Grant};
 use tetri_trace::Trace;
@@ -81,11 +81,20 @@ fn is_planned(stage: Stage) -> bool
     }
 }
 
+fn before_nodes(stage: Stage) -> bool
+    ensures { result ≡ before_nodes stage }
+{
+    match stage {
+        Stage::Tree => true,
+        _ => is_planned(stage),
+    }
+}
+
 fn is_certified(stage: Stage) -> bool
     ensures { result ≡ is_certified stage }
 {
     match stage {
-        Stage::Certified => true,
+        Stage::Certified | Stage::Tree => true,
         _ => false,
     }
 }
@@ -111,6 +120,7 @@ fn may_follow(stage: Stage, line: &ReportLine) -> bool
         ReportLine::Plan(_) => before_plan(stage),
         ReportLine::Grant { .. } => is_planned(stage),
         ReportLine::Tops { .. } => is_planned(stage),
+        ReportLine::Node(_) => before_nodes(stage),
         ReportLine::Launch(_) => is_certified(stage),
         ReportLine::Summary(_) => is_between(stage),
     }
@@ -128,6 +138,7 @@ fn stage_behind(line: &ReportLine) -> Stage
         ReportLine::Plan(_) => Stage::Planned,
         ReportLine::Grant { .. } => Stage::Planned,
         ReportLine::Tops { .. } => Stage::Certified,
+        ReportLine::Node(_) => Stage::Tree,
         ReportLine::Launch(_) => Stage::Certified,
         ReportLine::Summary(_) => Stage::Closed,
     }
@@ -172,6 +183,22 @@ fn push_grant(cycle: &mut Cycle, grant: Grant, start: u32) -> Result<(), AllocEr
     Ok(())
 }
 
+// Puts a node last; the first one makes the certificate a tree. Without memory the certificate is as it was.
+fn push_node(alloc: Global, certificate: &mut Certificate, mark: Mark) -> Result<(), AllocError>
+    ensures ok { OnOk result (certificate.new ≡ with_node certificate.old mark) }
+    ensures err { OnErr result (certificate.new ≡ certificate.old) }
+{
+    match certificate {
+        Certificate::Tree(marks) => marks.push(mark),
+        Certificate::Tops { .. } => {
+            let mut marks = Items::new(alloc);
+            marks.push(mark)?;
+            *certificate = Certificate::Tree(marks);
+            Ok(())
+        }
+    }
+}
+
 // Adds what a line says to a cycle. Without memory the cycle says what it said.
 fn add_line(alloc: Global, cycle: &mut Cycle, line: ReportLine) -> Result<(), AllocError>
     ensures ok { OnOk result (block cycle.new ≡ with_line (block cycle.old) line) }
@@ -193,6 +220,7 @@ fn add_line(alloc: Global, cycle: &mut Cycle, line: ReportLine) -> Result<(), Al
         ReportLine::Tops { columns, rows } => {
             cycle.certificate = Certificate::Tops { columns, rows };
         }
+        ReportLine::Node(mark) => push_node(alloc, &mut cycle.certificate, mark)?,
         ReportLine::Launch(job) => cycle.launched.push(job)?,
         ReportLine::Summary(_) => *cycle = empty_cycle(alloc, 0),
     }
@@ -211,6 +239,7 @@ fn ends_block(line: &ReportLine) -> bool
         ReportLine::Plan(_) => false,
         ReportLine::Grant { .. } => false,
         ReportLine::Tops { .. } => false,
+        ReportLine::Node(_) => false,
         ReportLine::Launch(_) => false,
         ReportLine::Summary(_) => true,
     }

@@ -53,5 +53,6 @@ pub fn cycle_is_in_range(cycle: &Cycle)
             number_is_large(*columns);
             number_is_large(*rows);
         }
+        Certificate::Tree(_) => {}
     }
 }

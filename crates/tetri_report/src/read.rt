@@ -8,7 +8,7 @@ ghost use Rattle.tetri_trace.specs.Scenario.{scenario};
 use crate::cycle::Summary;
 use crate::line::{Kind, PlanLine, ReportLine};
 use std::alloc::{AllocError, Global};
-use tetri_cert::PlanMark;
+use tetri_cert::{PlanMark, mark_of_words};
 use tetri_io::{number_below, parts_at};
 use tetri_state::PieceId;
 use tetri_strl::{Grant, NodeList};
@@ -284,7 +284,10 @@ fn line_of_words(
     };
     match kind_in(tag) {
         Some(kind) => line_of_kind(alloc, trace, kind, rest),
-        None => Ok(None),
+        None => match mark_of_words(alloc, words)? {
+            Some(mark) => Ok(Some(ReportLine::Node(mark))),
+            None => Ok(None),
+        },
     }
 }
 
