@@ -1,14 +1,18 @@
 -- What the judge says of a plan.
-use Rattle.std.specs.Prelude.{◌≡◌, ◌≢◌, ◌<◌, ◌≤◌, ◌↔◌, ◌⊎◌, ℕ, List, Some, Result, Ok, Err}
+use Rattle.std.specs.Prelude.{◌≡◌, ◌≢◌, ◌<◌, ◌≤◌, ◌↔◌, ◌⊎◌, ℕ, List, Option, Some, None, Result, Ok, Err}
 use Rattle.tetri_cert.specs.declared.certificate.Certificate.{Certificate}
 use Rattle.tetri_cert.specs.declared.certificate.Certificate.TheVariants.{Tops, Tree}
+use Rattle.tetri_cert.specs.declared.faults.TreeFault.{TreeFault}
 use Rattle.tetri_cert.specs.declared.faults.TreeFault.TheVariants as faults
 use Rattle.tetri_cert.specs.declared.faults.TreeWhy.{TreeWhy}
 use Rattle.tetri_cert.specs.declared.faults.TreeWhy.TheVariants.{Kind}
 use Rattle.tetri_cert.specs.declared.plan_mark.PlanMark.TheVariants.{Optimal}
-use Rattle.tetri_claims.specs.Certified.{IsBoundOf, IsCutShort, IsOfKind, TreeAnswers, counted_nodes}
+use Rattle.tetri_claims.specs.Certified.{IsBoundOf, IsCutShort, IsOfKind, MayHaveTree, TreeAnswers, counted_nodes}
 use Rattle.tetri_claims.specs.Good.{IsThriftyForAll}
 use Rattle.tetri_claims.specs.Planned.{Planned}
+use Rattle.tetri_compile.specs.declared.compiling.Compiled.{Compiled}
+use Rattle.tetri_compile.specs.Flat.{plain, program_of}
+use Rattle.tetri_ip.specs.Points.{IsFit}
 use Rattle.tetri_space.specs.Broken.{IsFirstBroken}
 use Rattle.tetri_space.specs.Lawful.{IsLawful}
 use Rattle.tetri_space.specs.Space.{Space}
@@ -106,3 +110,32 @@ module _ (s : Space) (carried budget : ℕ) (p : Planned) where
   abbrev pub IsVerdict : {U : Type 0} → Result U Verdict → Type 0
   IsVerdict (Ok u) = (t : Test) → Passes t
   IsVerdict (Err v) = (v ≡ NoMemory) ⊎ IsFirstFailed v
+
+-- What the tests of the grants answer, whatever the budget: the first four tests are passed, or the first that is failed.
+abbrev pub AnswersGrants : {U : Type 0} → Result U Verdict → Space → ℕ → Planned → Type 0
+AnswersGrants (Ok u) s carried p = (budget : ℕ) → PassesBefore s carried budget p certified
+AnswersGrants (Err v) s carried p = (budget : ℕ) → IsFirstFailed s carried budget p v
+
+-- what is wrong with a tree, as a verdict
+abbrev pub verdict_of : TreeFault → Verdict
+verdict_of (faults.Bad node why) = BadTree node why
+verdict_of (faults.Past node column) = Past node column
+verdict_of faults.NoMemory = NoMemory
+
+-- What a certificate answers: the bound that it gives, or how it fails its tests.
+abbrev pub AnswersBound : Result ℕ Verdict → Space → Certificate → Type 0
+AnswersBound (Ok bound) s c = IsOfKind s c × IsBoundOf s c bound
+AnswersBound (Err (Unlawful u)) s c = ⊥
+AnswersBound (Err (WrongValue printed found)) s c = ⊥
+AnswersBound (Err (WasteGrant place)) s c = ⊥
+AnswersBound (Err (BelowCarry printed carry)) s c = ⊥
+AnswersBound (Err (BadTree node why)) s c = FailsAt s c node why
+AnswersBound (Err (Past node column)) s c = PassesRangeAt s c node column
+AnswersBound (Err (WrongBound printed found)) s c = ⊥
+AnswersBound (Err WrongMark) s c = ⊥
+AnswersBound (Err NoMemory) s c = Unit {0}
+
+-- The program over which a tree may stand, if one may.
+abbrev pub IsTreeProgram : Space → Option Compiled → Type 0
+IsTreeProgram s None = MayHaveTree s → ⊥
+IsTreeProgram s (Some c) = MayHaveTree s × (plain c.program ≡ program_of s) × IsFit c.program

@@ -1,14 +1,26 @@
-use Rattle.tetri_judge.specs.Verdict.{IsFirstFailed}
-use Rattle.tetri_judge.specs.declared.verdict.Verdict.TheVariants.{Unlawful}
-use Rattle.tetri_judge.proofs.VerdictLemmas.{good_is_not_refused}
+use Rattle.std.proofs.Common.{Err, ap, ◌∙◌, inl, inr}
+use Rattle.tetri_judge.specs.Verdict.{Passes, Test}
+use Rattle.tetri_judge.specs.declared.verdict.Verdict.TheVariants.{NoMemory}
+use Rattle.tetri_judge.proofs.VerdictLemmas.{passing_is_certified, passing_is_good, passing_is_not_refused, refused_for_memory}
 use Rattle.tetri_report.specs.Block.{block}
 use Rattle.tetri_report.specs.PlanOf.{planned}
 use Rattle.tetri_space.specs.Space.{space}
 use Rattle.tetri_judge.proofs.judging.judge.Goals as goal
 
-pub returns-in-Err : goal.returns-in-Err
-returns-in-Err c =
+pub returns-in-Ok-test_certificate-clause-good : goal.returns-in-Ok-test_certificate-clause-good
+returns-in-Ok-test_certificate-clause-good c =
     let s = space c.args.inst.now in
     let p = planned (block c.args.c.now) in
-    let failed : IsFirstFailed s c.args.carry p (Unlawful c.in-Err.unlawful) = record { fails = (c.lawful.ensures.exact c.in-Err.unlawful).0 c.in-Err.is; passes = tt } in
-    record { verdict = failed; good = tt; complete = λ good tops. absurd (good_is_not_refused s c.args.carry p c.requires _ failed good tops) }
+    let pass : (t : Test) → Passes s c.args.carry c.args.budget p t = c.in-Ok-test_certificate.ensures in
+    (passing_is_good s c.args.carry c.args.budget p c.requires pass, passing_is_certified s c.args.carry c.args.budget p pass)
+
+pub returns-in-Err-test_certificate-clause-complete : goal.returns-in-Err-test_certificate-clause-complete
+returns-in-Err-test_certificate-clause-complete c = λ pass. inr (ap Err (refused_for_memory (space c.args.inst.now) c.args.carry c.args.budget (planned (block c.args.c.now)) c.requires _ c.in-Err-test_certificate.ensures pass))
+
+pub returns-in-Err-clause-verdict : goal.returns-in-Err-clause-verdict
+returns-in-Err-clause-verdict c = inr (c.in-Err.ensures c.args.budget)
+
+pub returns-in-Err-clause-complete : goal.returns-in-Err-clause-complete
+returns-in-Err-clause-complete c = λ pass.
+    let s = space c.args.inst.now in
+    absurd (passing_is_not_refused s c.args.carry c.args.budget (planned (block c.args.c.now)) c.requires c.in-Err.verdict (c.in-Err.ensures c.args.budget) pass)

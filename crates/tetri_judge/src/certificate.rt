@@ -1,0 +1,119 @@
+// The tests of a certificate.
+ghost use Rattle.std.specs.Prelude.{◌≡◌, ◌↔◌, IfOk, IsTrue};
+ghost use Rattle.tetri_cert.specs.declared.certificate.Certificate.TheVariants as certificates;
+ghost use Rattle.tetri_claims.specs.Certified.{IsCutShort, counted_nodes};
+ghost use Rattle.tetri_judge.specs.Verdict.{AnswersBound, IsRightlyMarked, IsTreeProgram, verdict_of};
+ghost use Rattle.tetri_report.specs.Block.{block};
+ghost use Rattle.tetri_report.specs.PlanOf.{planned};
+ghost use Rattle.tetri_space.specs.Sound.{IsSound};
+ghost use Rattle.tetri_space.specs.Space.{space};
+
+use crate::verdict::Verdict;
+use std::alloc::{AllocError, Global};
+use tetri_cert::{Certificate, Mark, PlanMark, TreeFault, TreeWhy, bound, count_nodes};
+use tetri_compile::{Compiled, compile, size};
+use tetri_report::Cycle;
+use tetri_space::{Instance, find_partitions, tops};
+
+// The most columns, and the most rows, of a program over which a tree may stand.
+const MOST: u64 = 2000;
+
+// The program of an instance, if a tree may stand over it.
+fn tree_program(alloc: Global, inst: &Instance) -> Result<Option<Compiled>, AllocError>
+    requires { IsSound (space inst.now) }
+    ensures { IfOk result (IsTreeProgram (space inst.entry.now)) }
+{
+    if inst.jobs.is_empty() {
+        return Ok(None);
+    }
+    let parts = find_partitions(alloc, inst)?;
+    let (columns, rows) = size(inst, &parts);
+    if columns > MOST || rows > MOST {
+        return Ok(None);
+    }
+    let compiled = compile(alloc, inst, &parts)?;
+    Ok(Some(compiled))
+}
+
+// What is wrong with a tree.
+fn verdict_of(fault: TreeFault) -> Verdict
+    ensures { result ≡ verdict_of fault }
+{
+    match fault {
+        TreeFault::Bad { node, why } => Verdict::BadTree { node, why },
+        TreeFault::Past { node, column } => Verdict::Past { node, column },
+        TreeFault::NoMemory => Verdict::NoMemory,
+    }
+}
+
+const BAD_KIND: Verdict = Verdict::BadTree {
+    node: 0,
+    why: TreeWhy::Kind,
+};
+
+fn bound_of_tree(alloc: Global, inst: &Instance, marks: &[Mark]) -> Result<u64, Verdict>
+    requires { IsSound (space inst.now) }
+    ensures { AnswersBound result (space inst.entry.now) (certificates.Tree marks.now) }
+{
+    match tree_program(alloc, inst) {
+        Ok(Some(compiled)) => match bound(alloc, &compiled.program, marks) {
+            Ok(bound) => Ok(bound),
+            Err(fault) => Err(verdict_of(fault)),
+        },
+        Ok(None) => Err(BAD_KIND),
+        Err(_) => Err(Verdict::NoMemory),
+    }
+}
+
+/// The bound that a certificate gives, or how it fails its tests.
+pub(crate) fn bound_of(
+    alloc: Global,
+    inst: &Instance,
+    certificate: &Certificate,
+) -> Result<u64, Verdict>
+    requires { IsSound (space inst.now) }
+    ensures { AnswersBound result (space inst.entry.now) certificate.now }
+{
+    match certificate {
+        Certificate::Tops { columns, rows } => {
+            if *columns != 0 || *rows != 0 {
+                return Err(BAD_KIND);
+            }
+            Ok(tops(inst))
+        }
+        Certificate::Tree(marks) => bound_of_tree(alloc, inst, marks.as_slice()),
+    }
+}
+
+// How many nodes are counted beside a certificate.
+fn counted_nodes(certificate: &Certificate) -> u64
+    ensures { result ≡ counted_nodes certificate.now }
+{
+    match certificate {
+        Certificate::Tops { .. } => 0,
+        Certificate::Tree(marks) => count_nodes(marks.as_slice()),
+    }
+}
+
+// Whether the mark tells rightly why the plan is not known to be optimal.
+fn is_cut_short(budget: u32, c: &Cycle) -> bool
+    ensures { IsTrue result ↔ IsCutShort budget c.now.certificate (planned (block c.now)) }
+{
+    match &c.certificate {
+        Certificate::Tops { .. } => c.mark == PlanMark::Wide,
+        Certificate::Tree(_) => c.mark == PlanMark::Spent && c.nodes == budget,
+    }
+}
+
+/// Whether the mark goes with value, bound and certificate, and the certificate's nodes are counted.
+pub(crate) fn is_rightly_marked(budget: u32, c: &Cycle) -> bool
+    ensures { IsTrue result ↔ IsRightlyMarked budget (planned (block c.now)) }
+{
+    if u64::from(c.nodes) != counted_nodes(&c.certificate) {
+        return false;
+    }
+    if c.value == c.bound {
+        return c.mark == PlanMark::Optimal;
+    }
+    is_cut_short(budget, c)
+}
