@@ -114,7 +114,7 @@ module _ (c : ℕ) (low : c < 44) where
   licence_avoids (licences.Past p) h = (word_avoids (codes "past") refl, (kind_avoids p.kind, (small_avoids p.step h.0, (small_avoids p.row h.1, (small_avoids p.column h.2, tt)))))
   licence_avoids licences.Long h = (word_avoids (codes "long") refl, tt)
 
-  node_avoids : (m : Mark) → IsPlain m → AllAvoid c (node_tag m ∷ node_words m)
+  pub node_avoids : (m : Mark) → IsPlain m → AllAvoid c (node_tag m ∷ node_words m)
   node_avoids (Split column at licence) h = (word_avoids (codes "split") refl, (small_avoids column h.0, (signed_avoids at h.1, licence_avoids licence h.2)))
   node_avoids (Close q ws) h = (word_avoids (codes "close") refl, (signed_avoids q h.0, (weights_avoid ws h.1, tt)))
   node_avoids (Whole q ws worth point) h = (word_avoids (codes "whole") refl, (signed_avoids q h.0, (weights_avoid ws h.1, (signed_avoids worth h.2, (cells_avoid point h.3, tt)))))
@@ -164,7 +164,7 @@ split_from column at licence = column >>= λ column. at >>= λ at. licence >>= �
 abbrev whole_from : Option ℤ → Option (List Weight) → Option ℤ → Option (List Cell) → Option Mark
 whole_from q ws worth point = q >>= λ q. ws >>= λ ws. worth >>= λ worth. point >>= λ point. Some (Whole q ws worth point)
 
-words_back : (m : Mark) → IsPlain m → node_by_tag (node_tag m) (node_words m) ≡ Some m
+pub words_back : (m : Mark) → IsPlain m → node_by_tag (node_tag m) (node_words m) ≡ Some m
 unfolding node_by_tag
 words_back (Split column at licence) h =
     ap (λ (o : Option ℕ). split_from o (whole_number (signed_decimal at)) (licence_by_tag (licence_tag licence) (licence_words licence))) (small_back column h.0)
