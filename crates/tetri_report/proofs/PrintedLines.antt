@@ -10,7 +10,11 @@ use Rattle.std.proofs.lemmas.Slice.Eq.{bytes_eq-Decides}
 use Rattle.tetri_strl.specs.declared.grants.Grant.{Grant}
 use Rattle.tetri_cert.specs.Text.{mark_text}
 use Rattle.tetri_cert.specs.declared.plan_mark.PlanMark.{PlanMark}
+use Rattle.tetri_cert.specs.declared.marks.Mark.{Mark}
+use Rattle.tetri_cert.specs.declared.marks.Mark.TheVariants.{Split, Close, Whole, Rest}
 use Rattle.tetri_cert.specs.declared.plan_mark.PlanMark.TheVariants.{Optimal, Spent, Wide}
+use Rattle.tetri_cert.proofs.TextBack.{node_tag, node_words}
+use Rattle.tetri_cert.proofs.TextBack as marks
 use Rattle.tetri_cluster.specs.Cluster.{name_at, names_of}
 use Rattle.tetri_cluster.specs.Names.{differ, is_name, number_of}
 use Rattle.tetri_cluster.proofs.NamesBack.{name_avoids, number_back}
@@ -21,9 +25,11 @@ use Rattle.tetri_io.proofs.TextLemmas.{AllAvoid, parts_of_joined}
 use Rattle.tetri_state.specs.declared.happened.PieceId.{PieceId}
 use Rattle.tetri_trace.specs.Scenario.{Scenario, Submission, job_names}
 use Rattle.tetri_trace.specs.Sound.{IsSound, IsSoundSubmission}
-use Rattle.tetri_report.specs.Line.{cycle_in, entry_in, grant_in, huge_number, job_in, kind_in, large_number, line_in, line_of_kind, line_of_words, lone_job, mark_in, node_in, nodes_in, piece_in, plan_in, small_number, summary_in, summary_of_entries, tops_in}
+use Rattle.tetri_report.specs.Line.{cycle_in, entry_in, grant_in, huge_number, job_in, kind_in, large_number, line_by_tag, line_in, line_of_kind, line_of_words, lone_job, mark_in, node_in, nodes_in, piece_in, plan_in, small_number, summary_in, summary_of_entries, tops_in}
+use Rattle.tetri_report.specs.Printable.{IsPrintableNode}
 use Rattle.tetri_report.specs.Text.{job_name, joined, after_comma}
 use Rattle.tetri_report.specs.declared.cycle.Summary.{Summary}
+use Rattle.tetri_report.specs.declared.line.Kind.{Kind}
 use Rattle.tetri_report.specs.declared.line.PlanLine.{PlanLine}
 use Rattle.tetri_report.specs.declared.line.ReportLine.{ReportLine}
 use Rattle.tetri_report.specs.declared.line.ReportLine.TheVariants as lines
@@ -39,6 +45,14 @@ mark_back Optimal = refl
 mark_back Spent = refl
 mark_back Wide = refl
 
+-- the tag of a node is no kind of a report's own
+node_kind : (m : Mark) → kind_in (node_tag m) ≡ None
+unfolding kind_in
+node_kind (Split column at licence) = refl
+node_kind (Close q ws) = refl
+node_kind (Whole q ws worth point) = refl
+node_kind (Rest q ws) = refl
+
 -- the words of a line
 module _ (t : Scenario) where
   abbrev pub tag : ReportLine → List ℕ
@@ -50,6 +64,7 @@ module _ (t : Scenario) where
   tag (lines.Plan p) = codes "plan"
   tag (lines.Grant g start) = codes "grant"
   tag (lines.Tops columns rows) = codes "tops"
+  tag (lines.Node m) = node_tag m
   tag (lines.Launch job) = codes "launch"
   tag (lines.Summary s) = codes "summary"
 
@@ -62,6 +77,7 @@ module _ (t : Scenario) where
   others (lines.Plan p) = decimal p.value ∷ decimal p.bound ∷ mark_text p.mark ∷ decimal p.nodes ∷ []
   others (lines.Grant g start) = job_name t g.job ∷ decimal g.leaf ∷ decimal start ∷ join_with_byte 44 (map (name_at t.nodes) g.nodes) ∷ []
   others (lines.Tops columns rows) = decimal columns ∷ decimal rows ∷ []
+  others (lines.Node m) = node_words m
   others (lines.Launch job) = job_name t job ∷ []
   others (lines.Summary s) = (codes "cycles=" ++ decimal s.cycles) ∷ (codes "launched=" ++ decimal s.launched) ∷ (codes "ended=" ++ decimal s.ended)
       ∷ (codes "cancelled=" ++ decimal s.cancelled) ∷ (codes "expired=" ++ decimal s.expired) ∷ (codes "worth=" ++ decimal s.worth) ∷ (codes "optimal=" ++ decimal s.optimal) ∷ []
@@ -79,6 +95,7 @@ module _ (t : Scenario) where
   IsPrintableLine (lines.Plan p) = (p.value < 2 ^ 64) × (p.bound < 2 ^ 64) × (p.nodes < 2 ^ 32)
   IsPrintableLine (lines.Grant g start) = (g.job < length t.submissions) × (g.leaf < 2 ^ 32) × (start < 2 ^ 32) × (1 ≤ length g.nodes) × All (λ n. n < length t.nodes) g.nodes × (length g.nodes ≤ 4096)
   IsPrintableLine (lines.Tops columns rows) = (columns < 2 ^ 64) × (rows < 2 ^ 64)
+  IsPrintableLine (lines.Node m) = IsPrintableNode m
   IsPrintableLine (lines.Launch job) = job < length t.submissions
   IsPrintableLine (lines.Summary s) = (s.cycles < 2 ^ 64) × (s.launched < 2 ^ 64) × (s.ended < 2 ^ 64) × (s.cancelled < 2 ^ 64) × (s.expired < 2 ^ 64) × (s.worth < 2 ^ 127) × (s.optimal < 2 ^ 64)
 
@@ -206,6 +223,9 @@ module _ (t : Scenario) (sound : IsSound t) where
         entry_back (codes "optimal=") (2 ^ 64) s.optimal (lit≤ tt) h.6,
       ) refl
 
+  node_line_back : (m : Mark) → IsPrintableNode m → line_of_words t (node_tag m ∷ node_words m) ≡ Some (lines.Node m)
+  node_line_back m h = ap (λ (k : Option Kind). line_by_tag t k (node_tag m) (node_words m)) (node_kind m) ∙ ap (option_map lines.Node) (marks.words_back m h.plain)
+
   -- the words of a line read as the line
   words_back : (l : ReportLine) → IsPrintableLine t l → line_of_words t (words t l) ≡ Some l
   unfolding kind_in line_of_kind
@@ -217,6 +237,7 @@ module _ (t : Scenario) (sound : IsSound t) where
   words_back (lines.Plan p) h = plan_back p h
   words_back (lines.Grant g start) h = grant_back g start h
   words_back (lines.Tops columns rows) h = rw (large_back columns h.0, large_back rows h.1) refl
+  words_back (lines.Node m) h = node_line_back m h
   words_back (lines.Launch job) h = ap (option_map lines.Launch) (job_back job h)
   words_back (lines.Summary s) h = summary_back s h
 
@@ -262,6 +283,7 @@ module _ (t : Scenario) (sound : IsSound t) where
         (high_avoids mark low (codes "grant") refl, (job_word g.job h.0, (small_word g.leaf h.1, (small_word start h.2, (nodes_word g.nodes h.4, tt)))))
     words_avoid (lines.Tops columns rows) h =
         (high_avoids mark low (codes "tops") refl, (large_word columns h.0, (large_word rows h.1, tt)))
+    words_avoid (lines.Node m) h = marks.node_avoids mark low m h.plain
     words_avoid (lines.Launch job) h =
         (high_avoids mark low (codes "launch") refl, (job_word job h, tt))
     words_avoid (lines.Summary s) h =

@@ -6,14 +6,15 @@ use Rattle.std.proofs.lemmas.List.Elements.{All-cons, All-head, All-nil, All-tai
 use Rattle.tetri_strl.specs.declared.grants.Grant.{Grant}
 use Rattle.tetri_cert.specs.declared.plan_mark.PlanMark.TheVariants.{Wide}
 use Rattle.tetri_cert.specs.declared.certificate.Certificate.{Certificate}
-use Rattle.tetri_cert.specs.declared.certificate.Certificate.TheVariants.{Tops}
+use Rattle.tetri_cert.specs.declared.certificate.Certificate.TheVariants.{Tops, Tree}
+use Rattle.tetri_cert.specs.declared.marks.Mark.{Mark}
 use Rattle.tetri_state.specs.declared.happened.PieceId.{PieceId}
 use Rattle.tetri_trace.specs.Scenario.{Scenario}
 use Rattle.tetri_trace.specs.Sound.{IsSound}
 use Rattle.tetri_report.specs.Block.{Block}
-use Rattle.tetri_report.specs.BlockLines.{certificate_line, grant_line, granted, inner_lines, plan_of}
-use Rattle.tetri_report.specs.Printable.{IsCertificateInRange, IsInRange, IsPrintable, IsPrintableGrant}
-use Rattle.tetri_report.specs.Reading.{Reading, before_cancels, before_ends, before_overs, before_plan, block_of, is_between, is_certified, is_planned, may_follow, report_from, with_line}
+use Rattle.tetri_report.specs.BlockLines.{certificate_lines, grant_line, granted, inner_lines, plan_of}
+use Rattle.tetri_report.specs.Printable.{IsCertificateInRange, IsInRange, IsPrintable, IsPrintableCertificate, IsPrintableGrant, IsPrintableNode}
+use Rattle.tetri_report.specs.Reading.{Reading, before_cancels, before_ends, before_nodes, before_overs, before_plan, block_of, is_between, is_certified, is_planned, may_follow, report_from, with_line}
 use Rattle.tetri_report.specs.declared.line.PlanLine.{PlanLine}
 use Rattle.tetri_report.specs.declared.line.ReportLine.{ReportLine}
 use Rattle.tetri_report.specs.declared.line.ReportLine.TheVariants as lines
@@ -31,6 +32,7 @@ ends_cancels stages.Opened h = h
 ends_cancels stages.Overs h = h
 ends_cancels stages.Expires h = h
 ends_cancels stages.Planned h = h
+ends_cancels stages.Tree h = h
 ends_cancels stages.Certified h = h
 ends_cancels stages.Closed h = h
 
@@ -42,6 +44,7 @@ cancels_overs stages.Opened h = h
 cancels_overs stages.Overs h = refl
 cancels_overs stages.Expires h = h
 cancels_overs stages.Planned h = h
+cancels_overs stages.Tree h = h
 cancels_overs stages.Certified h = h
 cancels_overs stages.Closed h = h
 
@@ -53,8 +56,50 @@ overs_plan stages.Opened h = h
 overs_plan stages.Overs h = h
 overs_plan stages.Expires h = refl
 overs_plan stages.Planned h = h
+overs_plan stages.Tree h = h
 overs_plan stages.Certified h = h
 overs_plan stages.Closed h = h
+
+planned_nodes : (s : Stage) → is_planned s ≡ true → before_nodes s ≡ true
+planned_nodes stages.Begun h = h
+planned_nodes stages.Ends h = h
+planned_nodes stages.Cancels h = h
+planned_nodes stages.Opened h = h
+planned_nodes stages.Overs h = h
+planned_nodes stages.Expires h = h
+planned_nodes stages.Planned h = refl
+planned_nodes stages.Tree h = refl
+planned_nodes stages.Certified h = h
+planned_nodes stages.Closed h = h
+
+-- behind a node of a tree
+abbrev is_tree : Stage → Bool
+is_tree stages.Tree = true
+is_tree _ = false
+
+tree_nodes : (s : Stage) → is_tree s ≡ true → before_nodes s ≡ true
+tree_nodes stages.Begun h = h
+tree_nodes stages.Ends h = h
+tree_nodes stages.Cancels h = h
+tree_nodes stages.Opened h = h
+tree_nodes stages.Overs h = h
+tree_nodes stages.Expires h = h
+tree_nodes stages.Planned h = refl
+tree_nodes stages.Tree h = refl
+tree_nodes stages.Certified h = h
+tree_nodes stages.Closed h = h
+
+tree_certified : (s : Stage) → is_tree s ≡ true → is_certified s ≡ true
+tree_certified stages.Begun h = h
+tree_certified stages.Ends h = h
+tree_certified stages.Cancels h = h
+tree_certified stages.Opened h = h
+tree_certified stages.Overs h = h
+tree_certified stages.Expires h = h
+tree_certified stages.Planned h = h
+tree_certified stages.Tree h = refl
+tree_certified stages.Certified h = refl
+tree_certified stages.Closed h = h
 
 -- what lines of one kind add to a block
 module _ (t : Scenario) where
@@ -80,6 +125,10 @@ module _ (t : Scenario) where
   adds_launched : (b : Block) (xs : List ℕ) → with_lines t lines.Launch b xs ≡ record b { launched = b.launched ++ xs }
   adds_launched b [] = ap (λ (l : List ℕ). record b { launched = l }) (sym (append-nil b.launched))
   adds_launched b (x ∷ xs) = adds_launched (record b { launched = b.launched ++ x ∷ [] }) xs ∙ ap (λ (l : List ℕ). record b { launched = l }) (private_append b.launched x xs)
+
+  adds_nodes : (b : Block) (ms ns : List Mark) → with_lines t lines.Node (record b { certificate = Tree ms }) ns ≡ record b { certificate = Tree (ms ++ ns) }
+  adds_nodes b ms [] = ap (λ (l : List Mark). record b { certificate = Tree l }) (sym (append-nil ms))
+  adds_nodes b ms (n ∷ ns) = adds_nodes b (ms ++ n ∷ []) ns ∙ ap (λ (l : List Mark). record b { certificate = Tree l }) (private_append ms n ns)
 
   adds_granted : (b : Block) (gs : List Grant) (ss : List ℕ) → length ss ≡ length gs →
       with_lines t grant_line b (granted gs ss) ≡ record b { grants = b.grants ++ gs; starts = b.starts ++ ss }
@@ -139,18 +188,45 @@ module _ (t : Scenario) (sound : IsSound t) (b : Block) (good : IsPrintable t b)
         same = s.same;
       }
 
-  certificate_read : (r : Reading) (c : Certificate) → r.fault ≡ None → is_planned r.stage ≡ true → IsCertificateInRange c →
-      ReadsTo t is_certified r (certificate_line c ∷ []) (record r.block { certificate = c })
-  certificate_read r (Tops columns rows) sane here small = one_line t is_certified sound r (lines.Tops columns rows) sane here refl refl small
+  -- the block with its certificate alone
+  abbrev certified : Certificate → Block
+  certified c = record (before_certificate b) { certificate = c }
+
+  tops_read : (r : Reading) (columns rows : ℕ) → r.fault ≡ None → is_planned r.stage ≡ true → r.block ≡ before_certificate b → IsCertificateInRange (Tops columns rows) →
+      ReadsTo t is_certified r (lines.Tops columns rows ∷ []) (certified (Tops columns rows))
+  tops_read r columns rows sane here is small =
+      let s = one_line t is_certified sound r (lines.Tops columns rows) sane here refl refl small in
+      record { behind = s.behind; sane = s.sane; stage = s.stage; is = s.is ∙ ap (λ (c : Block). record c { certificate = Tops columns rows }) is; same = s.same }
+
+  -- the first node begins a tree, and the others are added to it
+  tree_read : (r : Reading) (m : Mark) (ms : List Mark) → r.fault ≡ None → is_planned r.stage ≡ true → r.block ≡ before_certificate b → IsPrintableNode m → All IsPrintableNode ms →
+      ReadsTo t is_certified r (lines.Node m ∷ map lines.Node ms) (certified (Tree (m ∷ ms)))
+  tree_read r m ms sane here is first others =
+      let one = one_line t is_tree sound r (lines.Node m) sane (planned_nodes r.stage here) refl refl first in
+      let more = lines_of_kind t lines.Node is_tree (λ stage x h. tree_nodes stage h) (λ x. refl) (λ x. refl) sound one.behind ms one.sane one.stage others in
+      let begun : one.behind.block ≡ certified (Tree (m ∷ [])) = one.is ∙ ap (λ (c : Block). with_line c (lines.Node m)) is in
+      let s = and_then t is_tree is_tree r (lines.Node m ∷ []) (map lines.Node ms) _ _ one more in
+      record {
+        behind = s.behind;
+        sane = s.sane;
+        stage = tree_certified s.behind.stage s.stage;
+        is = s.is ∙ ap (λ (c : Block). with_lines t lines.Node c ms) begun ∙ adds_nodes t (before_certificate b) (m ∷ []) ms;
+        same = s.same;
+      }
+
+  certificate_read : (r : Reading) (c : Certificate) → r.fault ≡ None → is_planned r.stage ≡ true → r.block ≡ before_certificate b → IsPrintableCertificate c → IsCertificateInRange c →
+      ReadsTo t is_certified r (certificate_lines c) (certified c)
+  certificate_read r (Tops columns rows) sane here is fits small = tops_read r columns rows sane here is small
+  certificate_read r (Tree []) sane here is fits small = absurd (omega (arith, fits.0))
+  certificate_read r (Tree (m ∷ ms)) sane here is fits small = tree_read r m ms sane here is (All-head IsPrintableNode m ms fits.1) (All-tail IsPrintableNode m ms fits.1)
 
   abbrev from_certificate : List ReportLine
-  from_certificate = certificate_line b.certificate ∷ [] ++ map lines.Launch b.launched
+  from_certificate = certificate_lines b.certificate ++ map lines.Launch b.launched
 
   rest_from_certificate : (r : Reading) → r.fault ≡ None → is_planned r.stage ≡ true → r.block ≡ before_certificate b → ReadsTo t is_certified r from_certificate b
   rest_from_certificate r sane here is =
-      let s = certificate_read r b.certificate sane here range.certificate in
-      and_then t is_certified is_certified r (certificate_line b.certificate ∷ []) (map lines.Launch b.launched) _ b s
-      (launches_read s.behind s.sane s.stage (s.is ∙ ap (λ (c : Block). record c { certificate = b.certificate }) is))
+      let s = certificate_read r b.certificate sane here is good.certificate range.certificate in
+      and_then t is_certified is_certified r (certificate_lines b.certificate) (map lines.Launch b.launched) _ b s (launches_read s.behind s.sane s.stage s.is)
 
   abbrev from_grants : List ReportLine
   from_grants = map grant_line (granted b.grants b.starts) ++ from_certificate

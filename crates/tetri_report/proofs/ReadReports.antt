@@ -5,9 +5,12 @@ use Rattle.std.specs.List.{join_with_byte}
 use Rattle.std.proofs.lemmas.List.{append-nil, append_assoc, map-append}
 use Rattle.std.proofs.lemmas.List.Elements.{All-append, All-cons, All-head, All-map, All-nil, All-tail}
 use Rattle.tetri_strl.specs.declared.grants.Grant.{Grant}
+use Rattle.tetri_cert.specs.NodeText.{node_line}
 use Rattle.tetri_cert.specs.Text.{certificate_text}
 use Rattle.tetri_cert.specs.declared.certificate.Certificate.{Certificate}
-use Rattle.tetri_cert.specs.declared.certificate.Certificate.TheVariants.{Tops}
+use Rattle.tetri_cert.specs.declared.certificate.Certificate.TheVariants.{Tops, Tree}
+use Rattle.tetri_cert.specs.declared.marks.Mark.{Mark}
+use Rattle.tetri_cert.proofs.TextBack.{text_joined}
 use Rattle.tetri_cluster.specs.Cluster.{name_at}
 use Rattle.tetri_io.specs.Lines.{lines_from}
 use Rattle.tetri_io.proofs.TextLemmas.{AllAvoid, lines_of_text, text_of, text_of-append}
@@ -15,9 +18,9 @@ use Rattle.tetri_state.specs.declared.happened.PieceId.{PieceId}
 use Rattle.tetri_trace.specs.Scenario.{Scenario}
 use Rattle.tetri_trace.specs.Sound.{IsSound}
 use Rattle.tetri_report.specs.Block.{Block}
-use Rattle.tetri_report.specs.BlockLines.{block_lines, certificate_line, granted, inner_lines, plan_of}
+use Rattle.tetri_report.specs.BlockLines.{block_lines, certificate_lines, granted, inner_lines, plan_of}
 use Rattle.tetri_report.specs.BlockLines as read
-use Rattle.tetri_report.specs.Printable.{IsCertificateInRange, IsInRange, IsPrintable, IsSummaryInRange}
+use Rattle.tetri_report.specs.Printable.{IsCertificateInRange, IsInRange, IsPrintable, IsPrintableCertificate, IsSummaryInRange}
 use Rattle.tetri_report.specs.Reading.{Reading, block_before, is_between, is_certified, onto_blocks, opened, report_from, report_in, with_read}
 use Rattle.tetri_report.specs.Text.{after_comma, cycle_line, cycle_text, entry, grant_line, grant_lines, granted_line, happened_text, job_line, job_name, joined, leaf_line, name_line, piece_line, plan_line, summary_text}
 use Rattle.tetri_report.specs.declared.cycle.Summary.{Summary}
@@ -98,10 +101,6 @@ module _ (t : Scenario) where
       ap (λ l. codes "grant " ++ job_name t g.job ++ codes " " ++ decimal g.leaf ++ codes " " ++ decimal start ++ codes " " ++ l ++ codes "\n") (joined_is (map (name_at t.nodes) g.nodes))
       ∙ four_words (codes "grant") (job_name t g.job) (decimal g.leaf) (decimal start) (join_with_byte 44 (map (name_at t.nodes) g.nodes))
 
-  certificate_is : (c : Certificate) → certificate_text c ≡ line_of t (certificate_line c) ++ 10 ∷ []
-  unfolding certificate_text
-  certificate_is (Tops columns rows) = simp append_assoc
-
   summary_is : (s : Summary) → summary_text s ≡ line_of t (lines.Summary s) ++ 10 ∷ []
   unfolding summary_text entry
   summary_is s =
@@ -112,6 +111,14 @@ module _ (t : Scenario) where
   flat_is : {X : Type 0} (text : X → List ℕ) (make : X → ReportLine) → ((x : X) → text x ≡ line_of t (make x) ++ 10 ∷ []) → (xs : List X) → flat_map text xs ≡ lines_text (map make xs)
   flat_is text make is [] = refl
   flat_is text make is (x ∷ xs) = ap (λ l. l ++ flat_map text xs) (is x) ∙ append_assoc (line_of t (make x)) (10 ∷ []) (flat_map text xs) ∙ ap (λ l. line_of t (make x) ++ 10 ∷ l) (flat_is text make is xs)
+
+  node_is : (m : Mark) → node_line m ≡ line_of t (lines.Node m) ++ 10 ∷ []
+  node_is m = ap (λ l. l ++ 10 ∷ []) (text_joined m)
+
+  certificate_is : (c : Certificate) → certificate_text c ≡ lines_text (certificate_lines c)
+  unfolding certificate_text
+  certificate_is (Tops columns rows) = simp append_assoc
+  certificate_is (Tree marks) = flat_is node_line lines.Node node_is marks
 
   grants_are : (gs : List Grant) (ss : List ℕ) → grant_lines t gs ss ≡ lines_text (map read.grant_line (granted gs ss))
   grants_are [] ss = refl
@@ -143,7 +150,7 @@ module _ (t : Scenario) where
   unfolding cycle_text
   cycle_text_is b =
       let launches = flat_is (job_line t (codes "launch")) lines.Launch (λ j. name_is (codes "launch") (job_name t j)) b.launched in
-      let from_certificate = glue (certificate_text b.certificate) _ (certificate_line b.certificate ∷ []) _ (certificate_is b.certificate) launches in
+      let from_certificate = glue (certificate_text b.certificate) _ (certificate_lines b.certificate) _ (certificate_is b.certificate) launches in
       let from_grants = glue (grant_lines t b.grants b.starts) _ (map read.grant_line (granted b.grants b.starts)) _ (grants_are b.grants b.starts) from_certificate in
       let from_plan = glue (plan_line b.value b.bound b.mark b.nodes) _ (lines.Plan (plan_of b) ∷ []) _ (plan_is b) from_grants in
       let from_expired = glue (lines_text (map lines.Expire b.expired)) _ (map lines.Expire b.expired) _ refl from_plan in
@@ -171,10 +178,11 @@ module _ (t : Scenario) (sound : IsSound t) where
       (All-cons P (lines.Plan (plan_of b)) _ (range.value, range.bound, range.nodes)
       (All-append P (map read.grant_line (granted b.grants b.starts)) _
       (All-map P read.grant_line (granted b.grants b.starts) (grants_good t b.grants b.starts good.starts good.grants range.grants range.starts))
-      (All-cons P (certificate_line b.certificate) _ (certificate_good b.certificate range.certificate) (All-map P lines.Launch b.launched good.launched)))))))
+      (All-append P (certificate_lines b.certificate) _ (certificate_good b.certificate good.certificate range.certificate) (All-map P lines.Launch b.launched good.launched)))))))
     where
-      certificate_good : (c : Certificate) → IsCertificateInRange c → IsPrintableLine t (certificate_line c)
-      certificate_good (Tops columns rows) small = small
+      certificate_good : (c : Certificate) → IsPrintableCertificate c → IsCertificateInRange c → All (IsPrintableLine t) (certificate_lines c)
+      certificate_good (Tops columns rows) fits small = All-cons (IsPrintableLine t) (lines.Tops columns rows) [] small (All-nil (IsPrintableLine t))
+      certificate_good (Tree marks) fits small = All-map (IsPrintableLine t) lines.Node marks fits.1
 
   summary_good : (s : Summary) → IsSummaryInRange s → IsPrintableLine t (lines.Summary s)
   summary_good s range = (range.cycles, range.launched, range.ended, range.cancelled, range.expired, range.worth, range.optimal)
@@ -216,6 +224,7 @@ module _ (t : Scenario) (sound : IsSound t) where
       certified_between stages.Overs h = h
       certified_between stages.Expires h = h
       certified_between stages.Planned h = h
+      certified_between stages.Tree h = h
       certified_between stages.Certified h = h
       certified_between stages.Closed h = h
 

@@ -1,5 +1,5 @@
 -- Each line of a printed report is short.
-use Rattle.std.proofs.Common.{◌≡◌, ℕ, ◌+◌, ◌*◌, ◌<◌, ◌≤◌, ◌^◌, ◌&&◌, Bool, true, false, nat_le, List, [], ◌∷◌, ◌++◌, length, map, All, codes, decimal, arith, lit<, lit≤, length-append, refl, subst, sym}
+use Rattle.std.proofs.Common.{◌≡◌, ℕ, ◌+◌, ◌*◌, ◌<◌, ◌≤◌, ◌^◌, ◌&&◌, Bool, true, false, nat_le, List, [], ◌∷◌, ◌++◌, length, map, All, codes, decimal, arith, lit<, lit≤, length-append, ap, refl, subst, sym}
 use Rattle.std.specs.Prelude.{flat_map}
 use Rattle.std.specs.List.{join_with_byte, list_all}
 use Rattle.std.proofs.lemmas.Bool.{false≢true}
@@ -10,6 +10,8 @@ use Rattle.std.proofs.lemmas.List.Elements.{All-head, All-map, All-tail, All-wea
 use Rattle.tetri_cert.specs.Text.{mark_text}
 use Rattle.tetri_cert.specs.declared.plan_mark.PlanMark.{PlanMark}
 use Rattle.tetri_cert.specs.declared.plan_mark.PlanMark.TheVariants.{Optimal, Spent, Wide}
+use Rattle.tetri_cert.proofs.TextBack.{text_joined}
+use Rattle.tetri_cert.proofs.TextShort.{short}
 use Rattle.tetri_cluster.specs.Cluster.{name_at}
 use Rattle.tetri_cluster.specs.Names.{is_name, is_name_byte}
 use Rattle.tetri_io.specs.Lines.{lines_from}
@@ -84,6 +86,7 @@ module _ (t : Scenario) (sound : IsSound t) where
       let nodes = joined_within 44 (map (name_at t.nodes) g.nodes) in
       omega (arith, joined_within 32 (words t (lines.Grant g start)), job_short g.job h.0, small_short g.leaf h.1, small_short start h.2, nodes, nodes_room g.nodes h.4, h.5)
   line_short (lines.Tops columns rows) h = omega (arith, joined_within 32 (words t (lines.Tops columns rows)), large_short columns h.0, large_short rows h.1)
+  line_short (lines.Node m) h = omega (arith, ap length (text_joined m), short m h.plain h.short)
   line_short (lines.Launch job) h = omega (arith, joined_within 32 (words t (lines.Launch job)), job_short job h)
   line_short (lines.Summary s) h =
       omega (

@@ -284,10 +284,7 @@ fn line_of_words(
     };
     match kind_in(tag) {
         Some(kind) => line_of_kind(alloc, trace, kind, rest),
-        None => match mark_of_words(alloc, words)? {
-            Some(mark) => Ok(Some(ReportLine::Node(mark))),
-            None => Ok(None),
-        },
+        None => Ok(mark_of_words(alloc, words)?.map(ReportLine::Node)),
     }
 }
 
