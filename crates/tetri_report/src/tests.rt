@@ -5,7 +5,7 @@ use crate::{Blocks, Cycle, ReportFault, Summary, print_summary};
 use std::alloc::{AllocError, Global};
 use std::process::Abort;
 use std::test::Fail;
-use tetri_cert::Certificate;
+use tetri_cert::{Certificate, print_onto};
 use tetri_io::MemShelf;
 use tetri_state::PieceId;
 use tetri_trace::{Trace, read_trace};
@@ -64,6 +64,19 @@ fn add_grants(out: &mut String, cycle: &Cycle) -> Result<(), AllocError> {
     write!(out, " starts {starts:?}")
 }
 
+fn add_certificate(
+    alloc: Global,
+    out: &mut String,
+    certificate: &Certificate,
+) -> Result<(), AllocError> {
+    let mut text = String::new(alloc);
+    print_onto(&mut text, certificate)?;
+    for line in text.as_str().lines() {
+        write!(out, " {line}")?;
+    }
+    Ok(())
+}
+
 // What a cycle says, by the numbers of jobs and nodes.
 fn cycle_told(alloc: Global, cycle: &Cycle) -> Result<String, AllocError> {
     let mut out = format!(in alloc; "cycle {}", cycle.number)?;
@@ -74,9 +87,7 @@ fn cycle_told(alloc: Global, cycle: &Cycle) -> Result<String, AllocError> {
     let (value, bound, mark, nodes) = (cycle.value, cycle.bound, cycle.mark, cycle.nodes);
     write!(out, " plan {value} {bound} {mark} {nodes}")?;
     add_grants(&mut out, cycle)?;
-    match &cycle.certificate {
-        Certificate::Tops { columns, rows } => write!(out, " tops {columns} {rows}")?,
-    }
+    add_certificate(alloc, &mut out, &cycle.certificate)?;
     add_jobs(&mut out, "launch", &cycle.launched)?;
     Ok(out)
 }
@@ -145,6 +156,19 @@ launch j1 => -
 launch j2 => -
 summary cycles=18 launched=19 ended=20 cancelled=21 expired=22 worth=23 optimal=24 => cycle 5 end 0 6 end 1 7 cancel 1 over 1 8 expire 0 plan 9 10 spent 11 grant 1 12 [3, 0, 2] grant 0 14 [1] starts [13, 15] tops 16 17 launch 0 launch 1";
 
+// Plans that are certified by trees.
+const TREES: &str = "cycle 0 => -
+plan 6 6 optimal 3 => -
+grant j1 0 0 n1,n2 => -
+split 0 0 point 0:3/4,1:3/1 => -
+whole 1 - 6 0:1,1:3 => -
+close 1 - => -
+launch j1 => -
+cycle 1 => cycle 0 plan 6 6 optimal 3 grant 0 0 [0, 1] starts [0] split 0 0 point 0:3/4,1:3/1 whole 1 - 6 0:1,1:3 close 1 - launch 0
+plan 0 4 spent 1 => -
+rest 2 0:-3,5:1 => -
+summary cycles=2 launched=1 ended=0 cancelled=0 expired=0 worth=6 optimal=1 => cycle 1 plan 0 4 spent 1 starts [] rest 2 0:-3,5:1";
+
 #[test]
 fn reports_are_read(rt: HostRuntime) -> Result<(), Fail> {
     let alloc = rt.alloc();
@@ -169,6 +193,16 @@ fn reports_are_read(rt: HostRuntime) -> Result<(), Fail> {
         optimal: 24,
     };
     assert_eq!(rt; read(&rt, alloc, &trace, NUMBERS)?, numbers);
+    let trees = Summary {
+        cycles: 2,
+        launched: 1,
+        ended: 0,
+        cancelled: 0,
+        expired: 0,
+        worth: 6,
+        optimal: 1,
+    };
+    assert_eq!(rt; read(&rt, alloc, &trace, TREES)?, trees);
     Ok(())
 }
 
@@ -224,6 +258,19 @@ over j1 1/expire j2 => expire j2/over j1 1 => 10
 expire j2/plan 4 5 spent 7 => plan 4 5 spent 7/expire j2 => 11
 grant j1 0 0 n1,n2/tops 0 0 => tops 0 0/grant j1 0 0 n1,n2 => 4
 tops 0 0/launch j1 => launch j1/tops 0 0 => 4
+tops 0 0 => close 1 - => read
+tops 0 0 => split 0 0 long/rest 0 -/close 1 2:5 => read
+plan 9 9 optimal 0 => close 1 -/plan 9 9 optimal 0 => 2
+tops 0 0 => tops 0 0/close 1 - => 5
+tops 0 0 => close 1 -/tops 0 0 => 5
+tops 0 0/launch j1 => close 1 -/launch j1/close 1 - => 6
+launch j1 => launch j1/close 1 - => 6
+grant j1 0 0 n1,n2/tops 0 0 => close 1 -/grant j1 0 0 n1,n2 => 4
+grant j1 0 0 n1,n2/tops 0 0/ =>  => 3
+tops 0 0 => close 01 - => 4
+tops 0 0 => close 1 0:1,0:2 => 4
+tops 0 0 => close 1 => 4
+tops 0 0 => Close 1 - => 4
 cycle 0/plan 9 9 optimal 0 => plan 9 9 optimal 0/cycle 0 => 1
 cycle 0 => summary cycles=0 launched=0 ended=0 cancelled=0 expired=0 worth=0 optimal=0/cycle 0 => 2
 optimal=1 => optimal=1/launch j1 => 14
