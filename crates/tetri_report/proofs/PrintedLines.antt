@@ -1,10 +1,10 @@
 -- The words of the lines of a report, and that they read back.
-use Rattle.std.proofs.Common.{◌≡◌, ℕ, ◌+◌, ◌<◌, ◌≤◌, ◌^◌, refl, sym, ap, ◌∙◌, arith, List, [], ◌∷◌, ◌++◌, length, map, take, drop, get_or, cond, true, false, Bool, Option, Some, None, codes, decimal, bytes_eq, lit<, lit≤, All, eqb, nat_le, ◌&&◌, subst}
-use Rattle.std.specs.Prelude.{option_and_then, option_map, flat_map, slice_index_or}
+use Rattle.std.proofs.Common.{◌≡◌, ℕ, ◌<◌, ◌≤◌, ◌^◌, refl, ap, ◌∙◌, arith, List, [], ◌∷◌, ◌++◌, length, map, take, drop, cond, true, false, Bool, Option, Some, None, codes, decimal, bytes_eq, lit<, lit≤, All, eqb, nat_le, ◌&&◌}
+use Rattle.std.specs.Prelude.{option_and_then, option_map}
 use Rattle.std.specs.List.{join_with_byte, list_all}
 use Rattle.std.proofs.lemmas.Bool.{false≢true}
 use Rattle.std.proofs.lemmas.Bool.Decides.{nat_tests}
-use Rattle.std.proofs.lemmas.List.{append-nil, length-map}
+use Rattle.std.proofs.lemmas.List.{length-map}
 use Rattle.std.proofs.lemmas.List.Elements.{All-append, All-cons, All-head, All-map, All-nil, All-tail, All-weaker}
 use Rattle.std.proofs.lemmas.Slice.Eq.{bytes_eq-Decides}
 use Rattle.tetri_strl.specs.declared.grants.Grant.{Grant}
@@ -16,18 +16,18 @@ use Rattle.tetri_cert.specs.declared.plan_mark.PlanMark.TheVariants.{Optimal, Sp
 use Rattle.tetri_cert.proofs.TextBack.{node_tag, node_words}
 use Rattle.tetri_cert.proofs.TextBack as marks
 use Rattle.tetri_cluster.specs.Cluster.{name_at, names_of}
-use Rattle.tetri_cluster.specs.Names.{differ, is_name, number_of}
+use Rattle.tetri_cluster.specs.Names.{is_name}
 use Rattle.tetri_cluster.proofs.NamesBack.{name_avoids, number_back}
 use Rattle.tetri_io.specs.Numbers.{number_below}
-use Rattle.tetri_io.specs.Words.{parts_at, words_of}
+use Rattle.tetri_io.specs.Words.{parts_at}
 use Rattle.tetri_io.proofs.NumberLemmas.{Avoids, decimal_avoids, number_below-decimal}
 use Rattle.tetri_io.proofs.TextLemmas.{AllAvoid, parts_of_joined}
 use Rattle.tetri_state.specs.declared.happened.PieceId.{PieceId}
 use Rattle.tetri_trace.specs.Scenario.{Scenario, Submission, job_names}
 use Rattle.tetri_trace.specs.Sound.{IsSound, IsSoundSubmission}
-use Rattle.tetri_report.specs.Line.{cycle_in, entry_in, grant_in, huge_number, job_in, kind_in, large_number, line_by_tag, line_in, line_of_kind, line_of_words, lone_job, mark_in, node_in, nodes_in, piece_in, plan_in, small_number, summary_in, summary_of_entries, tops_in}
+use Rattle.tetri_report.specs.Line.{entry_in, grant_in, job_in, kind_in, large_number, line_by_tag, line_in, line_of_kind, line_of_words, mark_in, node_in, nodes_in, piece_in, plan_in, small_number, summary_of_entries}
 use Rattle.tetri_report.specs.Printable.{IsPrintableNode}
-use Rattle.tetri_report.specs.Text.{job_name, joined, after_comma}
+use Rattle.tetri_report.specs.Text.{job_name}
 use Rattle.tetri_report.specs.declared.cycle.Summary.{Summary}
 use Rattle.tetri_report.specs.declared.line.Kind.{Kind}
 use Rattle.tetri_report.specs.declared.line.PlanLine.{PlanLine}

@@ -1,6 +1,6 @@
 -- Reading the printed lines of a block.
-use Rattle.std.proofs.Common.{◌≡◌, ℕ, ◌+◌, ◌<◌, ◌≤◌, ◌^◌, refl, sym, ap, ◌∙◌, arith, List, [], ◌∷◌, ◌++◌, length, map, cond, true, false, Bool, All, get_or, suc}
-use Rattle.std.specs.Prelude.{Option, Some, None, Result, Ok, Err}
+use Rattle.std.proofs.Common.{◌≡◌, ℕ, ◌<◌, ◌^◌, refl, sym, ap, ◌∙◌, arith, List, [], ◌∷◌, ◌++◌, length, map, true, false, Bool, All}
+use Rattle.std.specs.Prelude.{None}
 use Rattle.std.proofs.lemmas.List.{append-nil, append_assoc}
 use Rattle.std.proofs.lemmas.List.Elements.{All-cons, All-head, All-nil, All-tail}
 use Rattle.tetri_strl.specs.declared.grants.Grant.{Grant}
@@ -14,13 +14,12 @@ use Rattle.tetri_trace.specs.Sound.{IsSound}
 use Rattle.tetri_report.specs.Block.{Block}
 use Rattle.tetri_report.specs.BlockLines.{certificate_lines, grant_line, granted, inner_lines, plan_of}
 use Rattle.tetri_report.specs.Printable.{IsCertificateInRange, IsInRange, IsPrintable, IsPrintableCertificate, IsPrintableGrant, IsPrintableNode}
-use Rattle.tetri_report.specs.Reading.{Reading, before_cancels, before_ends, before_nodes, before_overs, before_plan, block_of, is_between, is_certified, is_planned, may_follow, report_from, with_line}
-use Rattle.tetri_report.specs.declared.line.PlanLine.{PlanLine}
+use Rattle.tetri_report.specs.Reading.{Reading, before_cancels, before_ends, before_nodes, before_overs, before_plan, block_of, is_certified, is_planned, with_line}
 use Rattle.tetri_report.specs.declared.line.ReportLine.{ReportLine}
 use Rattle.tetri_report.specs.declared.line.ReportLine.TheVariants as lines
 use Rattle.tetri_report.specs.declared.line.Stage.{Stage}
 use Rattle.tetri_report.specs.declared.line.Stage.TheVariants as stages
-use Rattle.tetri_report.proofs.PrintedLines.{IsPrintableLine, line_of}
+use Rattle.tetri_report.proofs.PrintedLines.{IsPrintableLine}
 use Rattle.tetri_report.proofs.ReadSteps.{ReadsTo, and_then, lines_of_kind, one_line, with_lines}
 
 -- what is in an earlier stage is in a later one
@@ -188,7 +187,7 @@ module _ (t : Scenario) (sound : IsSound t) (b : Block) (good : IsPrintable t b)
         same = s.same;
       }
 
-  -- the block with its certificate alone
+  -- the block up to its certificate, which is this one
   abbrev certified : Certificate → Block
   certified c = record (before_certificate b) { certificate = c }
 

@@ -1,6 +1,6 @@
 -- A printed report reads back.
-use Rattle.std.proofs.Common.{◌≡◌, ℕ, ◌+◌, ◌<◌, ◌≤◌, ◌^◌, refl, sym, ap, ◌∙◌, arith, List, [], ◌∷◌, ◌++◌, length, map, cond, true, false, Bool, All, codes, decimal}
-use Rattle.std.specs.Prelude.{Option, Some, None, Result, Ok, Err, flat_map, if◌then◌else◌}
+use Rattle.std.proofs.Common.{◌≡◌, ℕ, refl, sym, ap, ◌∙◌, List, [], ◌∷◌, ◌++◌, map, true, Bool, All, codes, decimal}
+use Rattle.std.specs.Prelude.{Option, Some, None, Ok, flat_map, if◌then◌else◌}
 use Rattle.std.specs.List.{join_with_byte}
 use Rattle.std.proofs.lemmas.List.{append-nil, append_assoc, map-append}
 use Rattle.std.proofs.lemmas.List.Elements.{All-append, All-cons, All-head, All-map, All-nil, All-tail}
@@ -13,22 +13,21 @@ use Rattle.tetri_cert.specs.declared.marks.Mark.{Mark}
 use Rattle.tetri_cert.proofs.TextBack.{text_joined}
 use Rattle.tetri_cluster.specs.Cluster.{name_at}
 use Rattle.tetri_io.specs.Lines.{lines_from}
-use Rattle.tetri_io.proofs.TextLemmas.{AllAvoid, lines_of_text, text_of, text_of-append}
-use Rattle.tetri_state.specs.declared.happened.PieceId.{PieceId}
+use Rattle.tetri_io.proofs.TextLemmas.{AllAvoid, lines_of_text, text_of}
 use Rattle.tetri_trace.specs.Scenario.{Scenario}
 use Rattle.tetri_trace.specs.Sound.{IsSound}
 use Rattle.tetri_report.specs.Block.{Block}
 use Rattle.tetri_report.specs.BlockLines.{block_lines, certificate_lines, granted, inner_lines, plan_of}
 use Rattle.tetri_report.specs.BlockLines as read
 use Rattle.tetri_report.specs.Printable.{IsCertificateInRange, IsInRange, IsPrintable, IsPrintableCertificate, IsSummaryInRange}
-use Rattle.tetri_report.specs.Reading.{Reading, block_before, is_between, is_certified, onto_blocks, opened, report_from, report_in, with_read}
+use Rattle.tetri_report.specs.Reading.{Reading, is_between, is_certified, onto_blocks, opened, report_from, report_in, with_read}
 use Rattle.tetri_report.specs.Text.{after_comma, cycle_line, cycle_text, entry, grant_line, grant_lines, granted_line, happened_text, job_line, job_name, joined, leaf_line, name_line, piece_line, plan_line, summary_text}
 use Rattle.tetri_report.specs.declared.cycle.Summary.{Summary}
 use Rattle.tetri_report.specs.declared.line.ReportLine.{ReportLine}
 use Rattle.tetri_report.specs.declared.line.ReportLine.TheVariants as lines
 use Rattle.tetri_report.specs.declared.line.Stage.{Stage}
 use Rattle.tetri_report.specs.declared.line.Stage.TheVariants as stages
-use Rattle.tetri_report.proofs.PrintedLines.{IsPrintableLine, line_avoids, line_back, line_of, words}
+use Rattle.tetri_report.proofs.PrintedLines.{IsPrintableLine, line_avoids, line_back, line_of}
 use Rattle.tetri_report.proofs.ReadBlocks.{grants_good, reads_block}
 use Rattle.tetri_report.proofs.ReadSteps.{onto_report, step}
 

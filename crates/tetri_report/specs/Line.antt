@@ -1,6 +1,5 @@
 -- What one line of a report says.
 use Rattle.std.specs.Prelude.{ℕ, ◌++◌, ◌^◌, List, [], ◌∷◌, length, drop, take, Option, Some, None, if◌then◌else◌, bytes_eq, codes, option_and_then, option_map}
-use Rattle.tetri_strl.specs.declared.grants.Grant.{Grant}
 use Rattle.tetri_cert.specs.NodeText.{node_by_tag}
 use Rattle.tetri_cert.specs.declared.plan_mark.PlanMark.{PlanMark}
 use Rattle.tetri_cert.specs.declared.plan_mark.PlanMark.TheVariants.{Optimal, Spent, Wide}
@@ -10,10 +9,8 @@ use Rattle.tetri_io.specs.Numbers.{number_below}
 use Rattle.tetri_io.specs.Words.{parts_at, words_of}
 use Rattle.tetri_state.specs.declared.happened.PieceId.{PieceId}
 use Rattle.tetri_trace.specs.Scenario.{Scenario, job_names}
-use Rattle.tetri_report.specs.declared.cycle.Summary.{Summary}
 use Rattle.tetri_report.specs.declared.line.Kind.{Kind}
 use Rattle.tetri_report.specs.declared.line.Kind.TheVariants as kinds
-use Rattle.tetri_report.specs.declared.line.PlanLine.{PlanLine}
 use Rattle.tetri_report.specs.declared.line.ReportLine.{ReportLine}
 use Rattle.tetri_report.specs.declared.line.ReportLine.TheVariants as lines
 

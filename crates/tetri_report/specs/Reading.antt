@@ -1,6 +1,5 @@
 -- What the lines of a report read as.
 use Rattle.std.specs.Prelude.{ℕ, ◌+◌, ◌&&◌, List, [], ◌∷◌, ◌++◌, map, Bool, true, false, if◌then◌else◌, Option, Some, None, ok_or, Result, Ok, Err}
-use Rattle.tetri_strl.specs.declared.grants.Grant.{Grant}
 use Rattle.tetri_cert.specs.declared.plan_mark.PlanMark.TheVariants.{Wide}
 use Rattle.tetri_cert.specs.declared.certificate.Certificate.{Certificate}
 use Rattle.tetri_cert.specs.declared.certificate.Certificate.TheVariants.{Tops, Tree}
