@@ -1,5 +1,5 @@
 -- What passes all tests is good and certified, and what fails one does not pass it.
-use Rattle.std.proofs.Common.{◌≡◌, ℕ, sym, ◌∙◌, subst, arith, List, Result, Ok, Err, inl, inr, ◌⊎◌}
+use Rattle.std.proofs.Common.{◌≡◌, ℕ, sym, ◌∙◌, subst, arith, List, Ok, Err, inl, inr, ◌⊎◌}
 use Rattle.tetri_cert.specs.declared.certificate.Certificate.{Certificate}
 use Rattle.tetri_cert.specs.declared.certificate.Certificate.TheVariants.{Tops, Tree}
 use Rattle.tetri_cert.specs.declared.faults.TreeFault.{TreeFault}

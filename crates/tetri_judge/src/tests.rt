@@ -253,7 +253,10 @@ fn a_report_and_its_forgeries(rt: HostRuntime) -> Result<(), Fail> {
     let inst = two_jobs(alloc)?;
     for (carry, lines, grants, verdict) in examples() {
         let c = cycle(alloc, lines, grants)?;
-        assert!(rt; judge(alloc, &inst, carry, 1000, &c) == verdict, "{verdict:?}");
+        assert!(rt;
+            judge(alloc, &inst, carry, 1000, &c) == verdict,
+            "{verdict:?}"
+        );
     }
     Ok(())
 }

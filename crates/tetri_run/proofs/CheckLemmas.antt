@@ -4,8 +4,9 @@ use Rattle.std.specs.Prelude.{◌⊎◌, Option, Some, None, Result, Ok, Err, ok
 use Rattle.std.proofs.lemmas.List.{append-nil, append_assoc, length-append}
 use Rattle.std.proofs.lemmas.List.Elements.{All-cons, All-head, All-nil, All-tail}
 use Rattle.tetri_strl.specs.declared.grants.Grant.{Grant}
-use Rattle.tetri_claims.specs.Good.{IsGood}
-use Rattle.tetri_judge.proofs.VerdictLemmas.{good_is_not_refused}
+use Rattle.tetri_claims.specs.Good.{IsHonest}
+use Rattle.tetri_claims.proofs.CertifiedLemmas.{certificates_bound}
+use Rattle.tetri_judge.proofs.VerdictLemmas.{certified_passes, passing_is_not_refused}
 use Rattle.tetri_report.specs.Block.{Block}
 use Rattle.tetri_report.specs.BlockLines.{block_lines}
 use Rattle.tetri_report.specs.PlanOf.{planned}
@@ -29,10 +30,10 @@ use Rattle.tetri_state.proofs.ReachedLemmas.{begin_reached, stands_begun, early_
 use Rattle.tetri_trace.specs.Scenario.{Scenario}
 use Rattle.tetri_trace.specs.Sound.{IsSound}
 use Rattle.tetri_report.proofs.ReadSteps.{onto_report}
-use Rattle.tetri_run.specs.Check.{Checking, ComesTo, FitsRun, IsAccepted, IsInPlace, IsRefused, IsRight, IsShort, checked_behind, faulty, lines_in, malformed, out_of_place, too_long, unchecked}
+use Rattle.tetri_run.specs.Check.{Checking, ComesTo, FitsRun, IsAccepted, IsAssured, IsInPlace, IsRefused, IsRight, IsShort, checked_behind, faulty, lines_in, malformed, out_of_place, too_long, unchecked}
 use Rattle.tetri_run.specs.Cycle.{IsCycle, instance_at}
 use Rattle.tetri_run.specs.Faulty.{IsFaulty, planned_badly, rightly_told, told_badly}
-use Rattle.tetri_run.specs.Run.{IsRun, in_order, state_behind, summary_of}
+use Rattle.tetri_run.specs.Run.{BoundsHold, IsRun, in_order, state_behind, summary_of}
 use Rattle.tetri_run.specs.declared.why.Why.{Why}
 use Rattle.tetri_run.proofs.DifferLemmas.{nothing_else}
 use Rattle.tetri_run.proofs.RunLemmas.{now_behind, run_reaches}
@@ -140,6 +141,7 @@ closed_blocks (lines.Expire job) = refl
 closed_blocks (lines.Plan p) = refl
 closed_blocks (lines.Grant grant start) = refl
 closed_blocks (lines.Tops columns rows) = refl
+closed_blocks (lines.Node mark) = refl
 closed_blocks (lines.Launch job) = refl
 closed_blocks (lines.Summary s) = refl
 
@@ -182,6 +184,7 @@ is_within _ = true
 ends_within : (g : Stage) → is_within g ≡ true → is_between g ≡ true → is_certified g ≡ true
 ends_within stages.Opened w b = absurd (true_not_false w refl)
 ends_within stages.Certified w b = refl
+ends_within stages.Tree w b = refl
 ends_within stages.Begun w b = b
 ends_within stages.Ends w b = b
 ends_within stages.Cancels w b = b
@@ -202,6 +205,7 @@ within_line (lines.Expire job) r w fits = inr (refl, refl)
 within_line (lines.Plan p) r w fits = inr (refl, refl)
 within_line (lines.Grant grant start) r w fits = inr (refl, refl)
 within_line (lines.Tops columns rows) r w fits = inr (refl, refl)
+within_line (lines.Node mark) r w fits = inr (refl, refl)
 within_line (lines.Launch job) r w fits = inr (refl, refl)
 
 -- A line is of a block, or is the summary.
@@ -215,6 +219,7 @@ summary_or_block (lines.Expire job) = inr (refl, refl)
 summary_or_block (lines.Plan p) = inr (refl, refl)
 summary_or_block (lines.Grant grant start) = inr (refl, refl)
 summary_or_block (lines.Tops columns rows) = inr (refl, refl)
+summary_or_block (lines.Node mark) = inr (refl, refl)
 summary_or_block (lines.Launch job) = inr (refl, refl)
 
 -- a block that is begun is among those that are read
@@ -269,12 +274,23 @@ module _ (t : Scenario) (sound : IsSound t) where
       instance_sound t (begin t s) sound (stands_begun t (begin t s) sound there) (early_begun t (begin t s) sound there)
 
   right_is_not_faulty : (s : Snapshot) (b : Block) (place : ℕ) (why : Why) → IsReached t between s → s.now < t.header.until → IsCycle t s b → IsFaulty t s b place why → ⊥
-  right_is_not_faulty s b place why reached more cycle (planned_badly carry v carried failed) =
+  right_is_not_faulty s b place why reached more cycle (planned_badly carry v cause carried failed is) =
       let same : cycle.carry ≡ carry = carry_same (instance_at t s) s.plan cycle.carry carry cycle.carried carried in
-      good_is_not_refused (instance_at t s) (total_in (instance_at t s) carry) (planned b) (instance_good s reached more) v failed
-      (subst (λ c. IsGood (instance_at t s) (total_in (instance_at t s) c) (planned b)) same cycle.plan.good) cycle.plan.tops
+      let i = instance_at t s in
+      passing_is_not_refused i (total_in i carry) t.header.budget (planned b) (instance_good s reached more) v failed
+      (certified_passes i (total_in i carry) t.header.budget (planned b) (subst (λ c. IsHonest i (total_in i c) (planned b)) same cycle.plan.honest) cycle.plan.certified)
   right_is_not_faulty s b place why reached more cycle (told_badly carry at carried tests differ) =
       differ.there (ap (λ c. slice_get (block_lines c) place) (rightly t s b cycle))
+
+  -- no lawful allotment of a run's instances is worth more than the bounds that are printed for them
+  pub run_bounds : (past : List Block) → IsRun t past → BoundsHold t past
+  run_bounds [] run = tt
+  run_bounds (b ∷ past) run =
+      let s = state_behind t past in
+      (run.0, certificates_bound (instance_at t s) t.header.budget (planned b) (instance_good s (run_reaches t past run.2) run.0) run.1.plan.certified, run_bounds past run.2)
+
+  pub assured : (bytes : List ℕ) → IsAccepted t bytes → IsAssured t bytes
+  assured bytes accepted = record { accepted = accepted; bounds = run_bounds accepted.past accepted.run }
 
   -- the state behind a run is reached, and each cycle of a run begins before the end
   cycle_not_faulty : (p : List Block) (b : Block) (place : ℕ) (why : Why) → IsRun t (b ∷ p) → IsFaulty t (state_behind t p) b place why → ⊥

@@ -1,10 +1,10 @@
 -- What is found of a cycle, as what it says of the run.
-use Rattle.std.proofs.Common.{◌≡◌, ℕ, List, map, sym, ap, ◌∙◌, subst}
+use Rattle.std.proofs.Common.{◌≡◌, ℕ, List, map, ap, ◌∙◌, subst}
 use Rattle.std.specs.Prelude.{Err}
-use Rattle.tetri_claims.specs.Certified.{IsBoundedByTops}
-use Rattle.tetri_claims.specs.Good.{IsGood}
+use Rattle.tetri_claims.specs.Certified.{IsCertified}
+use Rattle.tetri_claims.specs.Good.{IsHonest}
 use Rattle.tetri_judge.specs.Verdict.{IsFirstFailed}
-use Rattle.tetri_judge.proofs.VerdictLemmas.{good_passes}
+use Rattle.tetri_judge.proofs.VerdictLemmas.{certified_passes}
 use Rattle.tetri_report.specs.Block.{Block}
 use Rattle.tetri_report.specs.BlockLines.{block_lines}
 use Rattle.tetri_report.specs.PlanOf.{planned}
@@ -33,21 +33,21 @@ module _ (t : Scenario) (s : Snapshot) (b : Block) (i : Space) (is : i ≡ insta
   low_here : low ≡ total_in (instance_at t s) carry
   low_here = low_is ∙ ap (λ j. total_in j carry) is
 
-  pub plan_refused : (new : Snapshot) (first : ℕ) (h : CheckHalt) → AnswersPlan {U = Unit {0}} (Err h) i low first b → AnswersCycle (Err h) t s new first b
+  pub plan_refused : (new : Snapshot) (first : ℕ) (h : CheckHalt) → AnswersPlan {U = Unit {0}} (Err h) i low t.header.budget first b → AnswersCycle (Err h) t s new first b
   plan_refused new first (Refused line why) found =
-      let failed : IsFirstFailed (instance_at t s) (total_in (instance_at t s) carry) (planned b) found.0 =
-      subst (λ n. IsFirstFailed (instance_at t s) n (planned b) found.0) low_here (subst (λ j. IsFirstFailed j low (planned b) found.0) is found.1) in
-      (place_of b found.0, found.2, subst (IsFaulty t s b (place_of b found.0)) (sym found.3) (planned_badly carry found.0 carry_here failed))
+      let failed : IsFirstFailed (instance_at t s) (total_in (instance_at t s) carry) t.header.budget (planned b) found.0 =
+      subst (λ n. IsFirstFailed (instance_at t s) n t.header.budget (planned b) found.0) low_here (subst (λ j. IsFirstFailed j low t.header.budget (planned b) found.0) is found.1) in
+      (place_of b found.0, found.2, planned_badly carry found.0 why carry_here failed found.3)
   plan_refused new first ReadFault found = absurd found
-  plan_refused new first NoMemory found = absurd found
+  plan_refused new first NoMemory found = tt
 
-  module _ (good : IsGood i low (planned b)) (tops : IsBoundedByTops i (planned b)) (o : Occurrences) (starts launched : List ℕ) (happened : o ≡ occurring t s)
+  module _ (honest : IsHonest i low (planned b)) (certified : IsCertified i t.header.budget (planned b)) (o : Occurrences) (starts launched : List ℕ) (happened : o ≡ occurring t s)
       (starts_are : starts ≡ map (start_of i) b.grants) (launched_are : launched ≡ launched_in i b.grants) where
-    good_here : IsGood (instance_at t s) (total_in (instance_at t s) carry) (planned b)
-    good_here = subst (λ n. IsGood (instance_at t s) n (planned b)) low_here (subst (λ j. IsGood j low (planned b)) is good)
+    honest_here : IsHonest (instance_at t s) (total_in (instance_at t s) carry) (planned b)
+    honest_here = subst (λ n. IsHonest (instance_at t s) n (planned b)) low_here (subst (λ j. IsHonest j low (planned b)) is honest)
 
-    tops_here : IsBoundedByTops (instance_at t s) (planned b)
-    tops_here = subst (λ j. IsBoundedByTops j (planned b)) is tops
+    certified_here : IsCertified (instance_at t s) t.header.budget (planned b)
+    certified_here = subst (λ j. IsCertified j t.header.budget (planned b)) is certified
 
     starts_here : starts ≡ map (start_of (instance_at t s)) b.grants
     starts_here = starts_are ∙ ap (λ j. map (start_of j) b.grants) is
@@ -67,7 +67,7 @@ module _ (t : Scenario) (s : Snapshot) (b : Block) (i : Space) (is : i ≡ insta
 
     pub line_refused : (place : ℕ) → DifferFirstAt (block_lines b) (block_lines (retold b i.now o starts launched)) place → IsFaulty t s b place WrongEvents
     line_refused place differ =
-        told_badly carry place carry_here (good_passes (instance_at t s) (total_in (instance_at t s) carry) (planned b) good_here tops_here)
+        told_badly carry place carry_here (certified_passes (instance_at t s) (total_in (instance_at t s) carry) t.header.budget (planned b) honest_here certified_here)
         (subst (λ c. DifferFirstAt (block_lines b) (block_lines c) place) retold_is differ)
 
     pub cycle_right : b ≡ retold b i.now o starts launched → IsCycle t s b
@@ -77,8 +77,8 @@ module _ (t : Scenario) (s : Snapshot) (b : Block) (i : Space) (is : i ≡ insta
       carry = carry;
       carried = carry_here;
       plan = record {
-        good = good_here;
-        tops = tops_here;
+        honest = honest_here;
+        certified = certified_here;
         starts = ap (λ (c : Block). c.starts) same ∙ starts_here;
         launched = ap (λ (c : Block). c.launched) same ∙ launched_here;
       };

@@ -4,7 +4,7 @@ use Rattle.std.specs.Prelude.{Some, slice_get}
 use Rattle.std.proofs.lemmas.List.{append-nil, length-map}
 use Rattle.tetri_strl.specs.declared.grants.Grant.{Grant}
 use Rattle.tetri_report.specs.Block.{Block}
-use Rattle.tetri_report.specs.BlockLines.{block_lines, certificate_line, certificate_place, events, grant_line, grant_place, granted, plan_of}
+use Rattle.tetri_report.specs.BlockLines.{block_lines, certificate_lines, events, grant_line, grant_place, granted, launch_place, plan_of}
 use Rattle.tetri_report.specs.declared.line.PlanLine.{PlanLine}
 use Rattle.tetri_report.specs.declared.line.ReportLine.{ReportLine}
 use Rattle.tetri_report.specs.declared.line.ReportLine.TheVariants as lines
@@ -194,7 +194,7 @@ module _ (b : Block) (n : ℕ) (o : Occurrences) (ss ls : List ℕ) where
   LinesDifferAt k = DifferFirstAt (block_lines b) (block_lines (retold b n o ss ls)) k
 
   abbrev behind_grants : List ℕ → List ReportLine
-  behind_grants launched = certificate_line b.certificate ∷ map lines.Launch launched
+  behind_grants launched = certificate_lines b.certificate ++ map lines.Launch launched
 
   abbrev behind_plan : List ℕ → List ℕ → List ReportLine
   behind_plan starts launched = map grant_line (granted b.grants starts) ++ behind_grants launched
@@ -225,18 +225,18 @@ module _ (b : Block) (n : ℕ) (o : Occurrences) (ss ls : List ℕ) where
       pub other_start : length b.starts ≡ length b.grants → length ss ≡ length b.grants → (k : ℕ) → DifferFirstAt b.starts ss k → LinesDifferAt (grant_place b k)
       other_start e f k d = past_plan k (differ_granted (behind_grants b.launched) (behind_grants ls) b.grants b.starts ss e f k d)
 
-      pub other_launch : length b.starts ≡ length b.grants → b.starts ≡ ss → (k : ℕ) → DifferFirstAt b.launched ls k → LinesDifferAt (certificate_place b + 1 + k)
+      pub other_launch : length b.starts ≡ length b.grants → b.starts ≡ ss → (k : ℕ) → DifferFirstAt b.launched ls k → LinesDifferAt (launch_place b + k)
       other_launch e starts k d =
           let launches : DifferFirstAt (map lines.Launch b.launched) (map lines.Launch ls) k =
           subst (λ l. DifferFirstAt l (map lines.Launch ls) k) (append-nil (map lines.Launch b.launched))
           (subst (λ l. DifferFirstAt (map lines.Launch b.launched ++ []) l k) (append-nil (map lines.Launch ls))
           (differ_within lines.Launch launches_apart [] [] (λ x e. absurd cc) (λ x e. absurd cc) b.launched ls k d)) in
           differ_at (omega arith)
-          (past_plan (length b.grants + suc k)
-          (subst (λ l. DifferFirstAt (behind_plan b.starts b.launched) (behind_plan l ls) (length b.grants + suc k)) starts
+          (past_plan (length b.grants + (length (certificate_lines b.certificate) + k))
+          (subst (λ l. DifferFirstAt (behind_plan b.starts b.launched) (behind_plan l ls) (length b.grants + (length (certificate_lines b.certificate) + k))) starts
           (differ_at (omega (arith, length-map (granted b.grants b.starts) grant_line, length-granted b.grants b.starts e))
-          (differ_behind (map grant_line (granted b.grants b.starts)) (behind_grants b.launched) (behind_grants ls) (suc k)
-          (more_front (certificate_line b.certificate) _ _ k launches)))))
+          (differ_behind (map grant_line (granted b.grants b.starts)) (behind_grants b.launched) (behind_grants ls) (length (certificate_lines b.certificate) + k)
+          (differ_behind (certificate_lines b.certificate) (map lines.Launch b.launched) (map lines.Launch ls) k launches)))))
 
       pub nothing_else : b.starts ≡ ss → b.launched ≡ ls → b ≡ retold b n o ss ls
       nothing_else starts launched =

@@ -17,7 +17,8 @@ use Rattle.tetri_state.specs.Known.{AreOfJobs}
 use Rattle.tetri_state.specs.Launch.{start_of, starts_now}
 use Rattle.tetri_trace.specs.Scenario.{Scenario}
 use Rattle.tetri_report.specs.Block.{Block}
-use Rattle.tetri_report.specs.Printable.{AreJobs, IsPrintable, IsPrintableGrant}
+use Rattle.tetri_report.specs.Printable.{AreJobs, IsPrintable, IsPrintableCertificate, IsPrintableGrant}
+use Rattle.tetri_cert.specs.declared.certificate.Certificate.TheVariants.{Tops}
 use Rattle.tetri_run.specs.Cycle.{IsPlanFor, occurrences_in}
 
 mutual
@@ -86,13 +87,14 @@ kept_within n keeps (b ∷ bs) all =
       | false ↦ rest
     ]
 
-pub cycle_printable : (t : Scenario) (i : Space) (carry : List Grant) (b : Block) → IsInstanceOf t i → AreOfJobs t (occurrences_in b) → IsPlanFor i carry b → IsPrintable t b
-cycle_printable t i carry b is jobs plan = record {
+pub cycle_printable : (t : Scenario) (i : Space) (carry : List Grant) (b : Block) (budget : ℕ) → IsInstanceOf t i → AreOfJobs t (occurrences_in b) → IsPlanFor i budget carry b → b.certificate ≡ Tops 0 0 → IsPrintable t b
+cycle_printable t i carry b budget is jobs plan tops = record {
   ended = jobs.ended;
   cancelled = jobs.cancelled;
   over = jobs.over;
   expired = jobs.expired;
-  grants = All-weaker (IsLawfulGrant i) (IsPrintableGrant t) (grant_printable t i is) b.grants plan.good.lawful.grants;
+  grants = All-weaker (IsLawfulGrant i) (IsPrintableGrant t) (grant_printable t i is) b.grants plan.honest.lawful.grants;
   starts = ap length plan.starts ∙ length-map b.grants (start_of i);
+  certificate = subst IsPrintableCertificate (sym tops) tt;
   launched = subst (AreJobs t) (sym plan.launched) (kept_within (length t.submissions) (λ c. starts_now i b.grants c.job) i.bids is.jobs);
 }

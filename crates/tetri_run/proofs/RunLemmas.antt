@@ -22,7 +22,7 @@ use Rattle.tetri_run.specs.declared.slot.SlotTally.{SlotTally}
 
 pub run_plans : (t : Scenario) (past : List Block) → IsRun t past → ArePlans t (plans_of past)
 run_plans t [] run = tt
-run_plans t (b ∷ past) run = (run.0, record { lawful = run.1.plan.good.lawful; thrifty = run.1.plan.good.thrifty }, run_plans t past run.2)
+run_plans t (b ∷ past) run = (run.0, record { lawful = run.1.plan.honest.lawful; thrifty = run.1.plan.honest.thrifty }, run_plans t past run.2)
 
 -- what this planner plans is a run
 pub run_of : (t : Scenario) (past : List Block) → IsPlannedRun t past → IsRun t past

@@ -1,21 +1,26 @@
 -- How a check goes on by a line.
-use Rattle.std.proofs.Common.{◌≡◌, ◌≢◌, ℕ, ◌+◌, ◌^◌, ◌<◌, ◌≤◌, ◌==◌, List, [], ◌∷◌, ◌++◌, length, map, drop, Bool, true, false, not, cond, min, nat_eq, refl, sym, ap, ◌∙◌, subst, arith, inl}
+use Rattle.std.proofs.Common.{◌≡◌, ◌≢◌, ℕ, ◌+◌, ◌^◌, ◌<◌, ◌≤◌, ◌==◌, List, [], ◌∷◌, ◌++◌, length, map, drop, Bool, true, false, not, cond, min, nat_eq, refl, sym, ap, ◌∙◌, subst, arith, inl, inr, ◌⊎◌, ⊎_elim}
 use Rattle.std.specs.Prelude.{◌&&◌, ◌↔◌, Option, Some, None, Result, Ok, Err, slice_get}
 use Rattle.std.specs.Option.{IsSomeAnd}
 use Rattle.std.proofs.lemmas.Option.{slice_get_within}
 use Rattle.tetri_strl.specs.declared.grants.Grant.{Grant}
 use Rattle.tetri_strl.specs.Trim.{first_waste}
-use Rattle.tetri_judge.specs.Verdict.{Shows}
+use Rattle.tetri_cert.specs.declared.certificate.Certificate.{Certificate}
+use Rattle.tetri_cert.specs.declared.certificate.Certificate.TheVariants.{Tops, Tree}
+use Rattle.tetri_cert.specs.declared.faults.TreeWhy.{TreeWhy}
+use Rattle.tetri_cert.specs.declared.marks.Mark.{Mark}
+use Rattle.tetri_cert.proofs.FaultLemmas.{faults_name_nodes}
+use Rattle.tetri_judge.specs.Verdict.{FailsAt, IsFirstFailed, PassesRangeAt, Shows}
 use Rattle.tetri_judge.specs.Wasted.{first_wasted, lesser}
 use Rattle.tetri_judge.specs.declared.verdict.Verdict.{Verdict}
 use Rattle.tetri_judge.specs.declared.verdict.Verdict.TheVariants as verdicts
 use Rattle.tetri_judge.proofs.WastedLemmas.{waste_within}
 use Rattle.std.proofs.lemmas.Bool.Decides.{nat_tests}
-use Rattle.std.proofs.lemmas.List.{drop_all, length-append}
+use Rattle.std.proofs.lemmas.List.{drop_all, length-append, length-map}
 use Rattle.tetri_io.specs.Lines.{line_of, lines_from, onto}
 use Rattle.tetri_io.proofs.Lines.{line_of-le, first_line}
 use Rattle.tetri_report.specs.Block.{Block}
-use Rattle.tetri_report.specs.BlockLines.{end_place, events}
+use Rattle.tetri_report.specs.BlockLines.{certificate_lines, end_place, events}
 use Rattle.tetri_report.specs.PlanOf.{planned}
 use Rattle.tetri_report.specs.Answers as report
 use Rattle.tetri_report.specs.declared.blocks.ReportFault.{ReportFault}
@@ -24,7 +29,7 @@ use Rattle.tetri_state.specs.After.{after}
 use Rattle.tetri_state.specs.Begin.{begin}
 use Rattle.tetri_state.specs.Launch.{worth_launched}
 use Rattle.tetri_space.specs.Space.{Bid, Space}
-use Rattle.tetri_report.specs.Reading.{Reading, behind_line, block_before, end_answer, is_certified, line_answer, opened, with_line, with_read}
+use Rattle.tetri_report.specs.Reading.{Reading, behind_line, block_before, end_answer, is_certified, line_answer, opened, with_line, with_node, with_read}
 use Rattle.tetri_report.specs.Reading as reading
 use Rattle.tetri_report.specs.declared.cycle.Summary.{Summary}
 use Rattle.tetri_report.specs.declared.line.ReportLine.{ReportLine}
@@ -35,9 +40,9 @@ use Rattle.tetri_state.specs.Reached.{IsReached, between}
 use Rattle.tetri_state.specs.Snapshot.{Snapshot}
 use Rattle.tetri_trace.specs.Scenario.{Scenario}
 use Rattle.tetri_run.specs.Check.{Checking, ComesTo, EndsAs, FitsRun, IsInPlace, IsPassed, IsRefused, IsRight, IsShort, checked_behind, faulty, first_behind, malformed, out_of_place, too_long}
-use Rattle.tetri_run.specs.Checked.{AnswersEnded, AnswersLine, AnswersPlace, AnswersReport, IsAt, IsBehind, IsFed, IsInOrder, WentOn, halt_of}
+use Rattle.tetri_run.specs.Checked.{AnswersEnded, AnswersLine, AnswersPlace, AnswersPlan, AnswersReport, AnswersVerdict, IsAt, IsBehind, IsFed, IsInOrder, WentOn, halt_of}
 use Rattle.tetri_run.specs.Cycle.{IsCycle, instance_at}
-use Rattle.tetri_run.specs.Faulty.{IsFaulty, place_of}
+use Rattle.tetri_run.specs.Faulty.{IsFaulty, place_of, why_of}
 use Rattle.tetri_run.specs.Progress.{summary_at}
 use Rattle.tetri_run.specs.Run.{IsRun, optimal_cycles, state_behind, summary_of, worth_of_run}
 use Rattle.tetri_run.specs.declared.check.Progress.{Progress}
@@ -48,24 +53,29 @@ use Rattle.tetri_run.specs.declared.why.Why.TheVariants.{LineTooLong, Malformed,
 use Rattle.tetri_run.proofs.CheckLemmas.{closed_blocks, read_line, true_not_false}
 use Rattle.tetri_run.proofs.RunLemmas.{now_behind, run_reaches, summary_is}
 
--- how many events, grants and launches a cycle has
+-- how many events, grants, lines of its certificate and launches a cycle has
 abbrev pub told_lines : Block → ℕ
-told_lines b = events b + length b.grants + length b.launched
+told_lines b = events b + length b.grants + length (certificate_lines b.certificate) + length b.launched
+
+-- a node more is at most a line more
+node_more : (c : Certificate) (m : Mark) → length (certificate_lines (with_node c m)) ≤ length (certificate_lines c) + 1
+node_more (Tops columns rows) m = omega arith
+node_more (Tree marks) m = omega (arith, length-map (marks ++ m ∷ []) lines.Node, length-map marks lines.Node, length-append marks (m ∷ []))
 
 -- the first line behind a line that was read
 abbrev first_after : ℕ → Reading → ReportLine → ℕ
 first_after first r l = cond (reading.ends_block l && is_certified r.stage) (r.lines + 1) first
 
 -- the lines of a cycle are as many as it tells
-pages : (first : ℕ) (r : Reading) (l : ReportLine) → first + told_lines r.block ≤ r.lines + 1 → first_after first r l + told_lines (with_line r.block l) ≤ r.lines + 1 + 1
+pages : (first : ℕ) (r : Reading) (l : ReportLine) → first + told_lines r.block ≤ r.lines + 2 → first_after first r l + told_lines (with_line r.block l) ≤ r.lines + 1 + 2
 pages first r (lines.Cycle number) h = by_stage (is_certified r.stage)
   where
-    by_stage : (b : Bool) → cond b (r.lines + 1) first + 0 ≤ r.lines + 1 + 1
+    by_stage : (b : Bool) → cond b (r.lines + 1) first + 1 ≤ r.lines + 1 + 2
     by_stage true = omega arith
     by_stage false = omega (arith, h)
 pages first r (lines.Summary s) h = by_stage (is_certified r.stage)
   where
-    by_stage : (b : Bool) → cond b (r.lines + 1) first + 0 ≤ r.lines + 1 + 1
+    by_stage : (b : Bool) → cond b (r.lines + 1) first + 1 ≤ r.lines + 1 + 2
     by_stage true = omega arith
     by_stage false = omega (arith, h)
 pages first r (lines.End piece) h = omega (arith, h, length-append r.block.ended (piece ∷ []))
@@ -75,6 +85,7 @@ pages first r (lines.Expire job) h = omega (arith, h, length-append r.block.expi
 pages first r (lines.Plan p) h = omega (arith, h)
 pages first r (lines.Grant grant start) h = omega (arith, h, length-append r.block.grants (grant ∷ []))
 pages first r (lines.Tops columns rows) h = omega (arith, h)
+pages first r (lines.Node mark) h = omega (arith, h, node_more r.block.certificate mark)
 pages first r (lines.Launch job) h = omega (arith, h, length-append r.block.launched (job ∷ []))
 
 -- each grant has a start
@@ -88,6 +99,7 @@ starts_on b (lines.Expire job) h = h
 starts_on b (lines.Plan p) h = h
 starts_on b (lines.Grant grant start) h = omega (arith, h, length-append b.grants (grant ∷ []), length-append b.starts (start ∷ []))
 starts_on b (lines.Tops columns rows) h = h
+starts_on b (lines.Node mark) h = h
 starts_on b (lines.Launch job) h = h
 
 -- the summary closes a report
@@ -101,6 +113,7 @@ closes (lines.Expire job) s e = absurd cc
 closes (lines.Plan p) s e = absurd cc
 closes (lines.Grant grant start) s e = absurd cc
 closes (lines.Tops columns rows) s e = absurd cc
+closes (lines.Node mark) s e = absurd cc
 closes (lines.Launch job) s e = absurd cc
 
 first_is : (c : Checking) (l : ReportLine) → first_behind c (block_before c.reading l) ≡ first_after c.first c.reading l
@@ -177,14 +190,51 @@ wasted_within (b ∷ bs) a place e = by_both (λ rest is. wasted_within bs a res
         some_number : Some (min m n) ≡ Some place → min m n ≡ place
         some_number e = cc
 
-pub place_within : (i : Space) (carried : ℕ) (b : Block) (v : Verdict) → Shows i carried (planned b) v → place_of b v ≤ end_place b
-place_within i carried b (verdicts.Unlawful u) shown = omega (arith, some_place b.grants u.grant _ shown.rule)
-place_within i carried b (verdicts.WrongValue printed found) shown = omega arith
-place_within i carried b (verdicts.WasteGrant place) shown = omega (arith, wasted_within i.bids b.grants place shown)
-place_within i carried b (verdicts.BelowCarry printed carry) shown = omega arith
-place_within i carried b (verdicts.BadTree node why) shown = omega (arith, shown.0)
-place_within i carried b (verdicts.WrongBound printed found) shown = omega arith
-place_within i carried b verdicts.WrongMark shown = omega arith
+-- a tree's fault is at one of its lines
+fails_within : (i : Space) (c : Certificate) (node : ℕ) (why : TreeWhy) → FailsAt i c node why → node ≤ length (certificate_lines c)
+fails_within i (Tops columns rows) node why h = omega (arith, h.0)
+fails_within i (Tree marks) node why (inl h) = omega (arith, h.0)
+fails_within i (Tree marks) node why (inr h) =
+    ⊎_elim (λ lt. omega (arith, lt, length-map marks lines.Node)) (λ first. omega (arith, first)) ((faults_name_nodes h.1.0 marks node).0 why h.1.2)
+
+past_within : (i : Space) (c : Certificate) (node column : ℕ) → PassesRangeAt i c node column → node ≤ length (certificate_lines c)
+past_within i (Tops columns rows) node column h = absurd h
+past_within i (Tree marks) node column h = omega (arith, (faults_name_nodes h.1.0 marks node).1 column h.1.2, length-map marks lines.Node)
+
+place_within : (i : Space) (carried budget : ℕ) (b : Block) (v : Verdict) → Shows i carried budget (planned b) v → place_of b v ≤ end_place b
+place_within i carried budget b (verdicts.Unlawful u) shown = omega (arith, some_place b.grants u.grant _ shown.rule)
+place_within i carried budget b (verdicts.WrongValue printed found) shown = omega arith
+place_within i carried budget b (verdicts.WasteGrant place) shown = omega (arith, wasted_within i.bids b.grants place shown)
+place_within i carried budget b (verdicts.BelowCarry printed carry) shown = omega arith
+place_within i carried budget b (verdicts.BadTree node why) shown = omega (arith, fails_within i b.certificate node why shown)
+place_within i carried budget b (verdicts.Past node column) shown = omega (arith, past_within i b.certificate node column shown)
+place_within i carried budget b (verdicts.WrongBound printed found) shown = omega arith
+place_within i carried budget b verdicts.WrongMark shown = omega arith
+place_within i carried budget b verdicts.NoMemory shown = absurd shown
+
+pub verdict_within : (i : Space) (carried budget : ℕ) (b : Block) (v : Verdict) → (v ≡ verdicts.NoMemory) ⊎ IsFirstFailed i carried budget (planned b) v → place_of b v ≤ end_place b
+verdict_within i carried budget b v (inl e) = subst (λ w. place_of b w ≤ end_place b) (sym e) (omega arith)
+verdict_within i carried budget b v (inr failed) = place_within i carried budget b v failed.fails
+
+-- a verdict without a cause is want of memory
+pub no_cause : (v : Verdict) → why_of v ≡ None → v ≡ verdicts.NoMemory
+no_cause (verdicts.Unlawful u) e = absurd cc
+no_cause (verdicts.WrongValue printed found) e = absurd cc
+no_cause (verdicts.WasteGrant place) e = absurd cc
+no_cause (verdicts.BelowCarry printed carry) e = absurd cc
+no_cause (verdicts.BadTree node why) e = absurd cc
+no_cause (verdicts.Past node column) e = absurd cc
+no_cause (verdicts.WrongBound printed found) e = absurd cc
+no_cause verdicts.WrongMark e = absurd cc
+no_cause verdicts.NoMemory e = refl
+
+-- what a verdict ends the check with is what the tests of the plan answer
+pub plan_answer : (i : Space) (carried budget first : ℕ) (b : Block) (v : Verdict) (halt : CheckHalt) → (v ≡ verdicts.NoMemory) ⊎ IsFirstFailed i carried budget (planned b) v →
+    AnswersVerdict halt v first b → AnswersPlan {U = Unit {0}} (Err halt) i carried budget first b
+plan_answer i carried budget first b v (Refused line why) (inl e) answer = let none : why_of verdicts.NoMemory ≡ Some why = subst (λ w. why_of w ≡ Some why) e answer.1 in absurd cc
+plan_answer i carried budget first b v (Refused line why) (inr failed) answer = (v, failed, answer.0, answer.1)
+plan_answer i carried budget first b v ReadFault failed answer = absurd answer
+plan_answer i carried budget first b v NoMemory failed answer = tt
 
 -- The last line's place in the run, as the code tests it.
 
@@ -296,8 +346,8 @@ module _ (t : Scenario) (c : Checking) (p : Progress) (line : List ℕ) where
     same_block = ended_is t c.reading line b is.reads
 
     -- its lines are among those that were read
-    pub fed_few : c.first + told_lines b ≤ c.reading.lines + 1
-    fed_few = subst (λ d. c.first + told_lines d ≤ c.reading.lines + 1) (sym same_block) is.in_order.paged
+    pub fed_few : c.first + told_lines b ≤ c.reading.lines + 2
+    fed_few = subst (λ d. c.first + told_lines d ≤ c.reading.lines + 2) (sym same_block) is.in_order.paged
 
     pub fed_starts : length b.starts ≡ length b.grants
     fed_starts = subst (λ (d : Block). length d.starts ≡ length d.grants) (sym same_block) is.in_order.starts

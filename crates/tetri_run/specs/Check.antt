@@ -7,7 +7,7 @@ use Rattle.tetri_report.specs.declared.cycle.Summary.{Summary}
 use Rattle.tetri_trace.specs.Scenario.{Scenario}
 use Rattle.tetri_run.specs.Cycle.{IsCycle}
 use Rattle.tetri_run.specs.Faulty.{IsFaulty}
-use Rattle.tetri_run.specs.Run.{IsRun, in_order, state_behind, summary_of}
+use Rattle.tetri_run.specs.Run.{BoundsHold, IsRun, in_order, state_behind, summary_of}
 use Rattle.tetri_run.specs.declared.why.Why.{Why}
 use Rattle.tetri_run.specs.declared.why.Why.TheVariants.{Malformed, LineTooLong, WrongEvents}
 
@@ -26,6 +26,11 @@ pub record IsAccepted (t : Scenario) (bytes : List ℕ) : Type 0 where
   pub run : IsRun t past
   pub whole : length past ≡ t.header.until
   pub short : All IsShort (lines_in bytes)
+
+-- The report is accepted, and no lawful allotment of any of its cycles' instances is worth more than the cycle's bound.
+pub record IsAssured (t : Scenario) (bytes : List ℕ) : Type 0 where
+  pub accepted : IsAccepted t bytes
+  pub bounds : BoundsHold t accepted.past
 
 -- How far a check has come: the cycles that were accepted, the line at which the one behind them begins, and what is read so
 -- far.

@@ -4,6 +4,7 @@ use Rattle.tetri_claims.specs.Certified.{IsCertified}
 use Rattle.tetri_claims.specs.Good.{IsHonest}
 use Rattle.tetri_judge.specs.Verdict.{IsFirstFailed}
 use Rattle.tetri_judge.specs.declared.verdict.Verdict.{Verdict}
+use Rattle.tetri_judge.specs.declared.verdict.Verdict.TheVariants as verdicts
 use Rattle.tetri_report.specs.Block.{Block}
 use Rattle.tetri_report.specs.BlockLines.{certificate_lines, events}
 use Rattle.tetri_report.specs.PlanOf.{planned}
@@ -29,6 +30,12 @@ use Rattle.tetri_run.specs.declared.check.Progress.{Progress}
 use Rattle.tetri_run.specs.declared.cycles.RunTally.{RunTally}
 use Rattle.tetri_run.specs.declared.why.Why.{Why}
 use Rattle.tetri_run.specs.declared.why.Why.TheVariants.{Malformed, WrongEvents}
+
+-- what a verdict ends a check with, where the cycle's first line has this number
+abbrev pub AnswersVerdict : CheckHalt → Verdict → ℕ → Block → Type 0
+AnswersVerdict (Refused line why) v first b = (line ≡ first + place_of b v) × (why_of v ≡ Some why)
+AnswersVerdict ReadFault v first b = ⊥
+AnswersVerdict NoMemory v first b = v ≡ verdicts.NoMemory
 
 -- What the tests of a plan answer, where the cycle's first line has this number: it is what it says and certified, or the first
 -- test that it fails refuses the line at its place.

@@ -16,8 +16,7 @@ use Rattle.tetri_space.specs.declared.rules.Rule.{Rule}
 use Rattle.tetri_space.specs.declared.rules.Rule.TheVariants as rules
 use Rattle.tetri_trace.specs.declared.fault.TraceFault.{TraceFault}
 use Rattle.tetri_trace.specs.declared.fault.TraceFault.TheVariants as trace_faults
-use Rattle.tetri_run.specs.Check.{IsAccepted, IsRefusedAt}
-use Rattle.tetri_run.specs.Run.{BoundsHold}
+use Rattle.tetri_run.specs.Check.{IsAccepted, IsAssured, IsRefusedAt}
 use Rattle.tetri_run.specs.Progress.{StoppedBetween, StoppedInText, WroteReport}
 use Rattle.tetri_run.specs.Words.{Asked, to_check, to_plan}
 use Rattle.tetri_run.specs.declared.why.Why.{Why}
@@ -41,11 +40,11 @@ accepted_text cycles = codes "accepted " ++ decimal cycles ++ codes "\n"
 
 -- What checking a report against a trace answers, of the written bytes before and after.
 abbrev pub IsCheckAnswer : Status → Scenario → List ℕ → Option (List ℕ) → Option (List ℕ) → Type 0
-IsCheckAnswer Done t report before after = ((accepted : IsAccepted t report) × BoundsHold t accepted.past) × (after ≡ append_known before (accepted_text t.header.until))
+IsCheckAnswer Done t report before after = IsAssured t report × (after ≡ append_known before (accepted_text t.header.until))
 IsCheckAnswer (Refused line why) t report before after = IsRefusedAt t report line why × (IsAccepted t report → ⊥)
 IsCheckAnswer Usage t report before after = ⊥
 IsCheckAnswer ReadFault t report before after = Unit {0}
-IsCheckAnswer WriteFault t report before after = IsAccepted t report × AppendsPart before after (accepted_text t.header.until)
+IsCheckAnswer WriteFault t report before after = IsAssured t report × AppendsPart before after (accepted_text t.header.until)
 IsCheckAnswer (BadTrace line why) t report before after = ⊥
 IsCheckAnswer NoMemory t report before after = Unit {0}
 

@@ -4,7 +4,7 @@ ghost use Rattle.tetri_judge.specs.Verdict.{Shows};
 ghost use Rattle.tetri_report.specs.Block.{block};
 ghost use Rattle.tetri_report.specs.BlockLines.{end_place};
 ghost use Rattle.tetri_report.specs.PlanOf.{planned};
-ghost use Rattle.tetri_run.specs.Checked.{AnswersCycle, AnswersPlan};
+ghost use Rattle.tetri_run.specs.Checked.{AnswersCycle, AnswersPlan, AnswersVerdict};
 ghost use Rattle.tetri_run.specs.Faulty.{place_of};
 ghost use Rattle.tetri_space.specs.Sound.{IsSound as IsSoundInstance};
 ghost use Rattle.tetri_space.specs.Space.{space};
@@ -34,15 +34,33 @@ fn place_of(cycle: &Cycle, verdict: Verdict) -> u64
         Verdict::Unlawful(unlawful) => plan + 1 + unlawful.grant,
         Verdict::WasteGrant(grant) => plan + 1 + grant,
         Verdict::BadTree { node, .. } => plan + 1 + cycle.grants.as_slice().len() as u64 + node,
+        Verdict::Past { node, .. } => plan + 1 + cycle.grants.as_slice().len() as u64 + node,
         Verdict::WrongValue { .. } => plan,
         Verdict::BelowCarry { .. } => plan,
         Verdict::WrongBound { .. } => plan,
         Verdict::WrongMark => plan,
+        Verdict::NoMemory => plan,
+    }
+}
+
+// The line at which a verdict refuses the plan, and why, unless memory ran out.
+fn refusal_of(cycle: &Cycle, first: u64, verdict: Verdict) -> CheckHalt
+    requires few { first + end_place (block cycle.now) < 2 ^ 64 }
+    requires within { place_of (block cycle.now) verdict ≤ end_place (block cycle.now) }
+    ensures { AnswersVerdict result verdict first (block cycle.now) }
+{
+    match why_of(verdict) {
+        Some(why) => CheckHalt::Refused {
+            line: first + place_of(cycle, verdict),
+            why,
+        },
+        None => CheckHalt::NoMemory,
     }
 }
 
 // Holds the plan of a cycle against all its tests.
 fn test_plan(
+    alloc: Global,
     inst: &Instance,
     carry: u64,
     budget: u32,
@@ -51,14 +69,11 @@ fn test_plan(
 ) -> Result<(), CheckHalt>
     requires sound { IsSoundInstance (space inst.now) }
     requires few { first + end_place (block cycle.now) < 2 ^ 64 }
-    ensures { AnswersPlan result (space inst.entry.now) carry first (block cycle.entry.now) }
+    ensures { AnswersPlan result (space inst.entry.now) carry budget first (block cycle.entry.now) }
 {
-    match judge(inst, carry, budget, cycle) {
+    match judge(alloc, inst, carry, budget, cycle) {
         Ok(()) => Ok(()),
-        Err(verdict) => Err(CheckHalt::Refused {
-            line: first + place_of(cycle, verdict),
-            why: why_of(verdict),
-        }),
+        Err(verdict) => Err(refusal_of(cycle, first, verdict)),
     }
 }
 
@@ -84,7 +99,7 @@ pub(crate) fn check_cycle(
     let inst = state.instance(alloc, trace)?;
     let carry = state.carry(alloc, trace, &inst)?;
     let carried = total(&inst, &carry);
-    match test_plan(&inst, carried, trace.header.budget, first, cycle) {
+    match test_plan(alloc, &inst, carried, trace.header.budget, first, cycle) {
         Ok(()) => {}
         Err(halt) => return Err(halt),
     }

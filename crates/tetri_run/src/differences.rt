@@ -1,10 +1,11 @@
 // Where a cycle tells something else than the run has there.
 ghost use Rattle.std.specs.Prelude.{◌≡◌, ◌<◌, ◌≤◌, ◌^◌, length, IfSome};
 ghost use Rattle.tetri_report.specs.Block.{block};
-ghost use Rattle.tetri_report.specs.BlockLines.{end_place, plan_place};
+ghost use Rattle.tetri_report.specs.BlockLines.{certificate_lines, end_place, plan_place};
 ghost use Rattle.tetri_run.specs.Told.{IsDifference, IsEventDifference, IsLineDifference, count_events, retold};
 ghost use Rattle.tetri_state.specs.Begin.{occurrences};
 
+use tetri_cert::Certificate;
 use tetri_report::Cycle;
 use tetri_state::{Happened, PieceId};
 
@@ -74,6 +75,16 @@ pub(crate) fn plan_place(cycle: &Cycle) -> u64
     1 + pieces + happened.cancelled.len() as u64 + happened.expired.len() as u64
 }
 
+// How many lines a certificate has.
+fn certificate_len(certificate: &Certificate) -> u64
+    ensures { result ≡ length (certificate_lines certificate.now) }
+{
+    match certificate {
+        Certificate::Tops { .. } => 1,
+        Certificate::Tree(marks) => marks.as_slice().len() as u64,
+    }
+}
+
 /// What the run has beside the plan of a cycle: its number, the events of its slot, by grant the slot at which it starts, and
 /// the jobs that are launched.
 #[derive(Clone, Copy)]
@@ -104,7 +115,8 @@ pub(crate) fn first_other_line(cycle: &Cycle, rightly: Rightly) -> Option<u64>
     if let Some(place) = first_difference(&cycle.starts, rightly.starts) {
         return Some(grants + place as u64);
     }
-    let launches = grants + cycle.grants.as_slice().len() as u64 + 1;
+    let certificate = grants + cycle.grants.as_slice().len() as u64;
+    let launches = certificate + certificate_len(&cycle.certificate);
     match first_difference(&cycle.launched, rightly.launched) {
         Some(place) => Some(launches + place as u64),
         None => None,

@@ -1,8 +1,9 @@
 // The plan of one cycle, until an exact planner is built.
-ghost use Rattle.std.specs.Prelude.{◌≡◌, ◌↔◌, ◌⊎◌, All, AllPairs, IfOk};
+ghost use Rattle.std.specs.Prelude.{◌≡◌, ◌↔◌, ◌⊎◌, ℕ, All, AllPairs, IfOk};
 ghost use Rattle.std.specs.List.Sorted.{IsStrictlyIncreasing};
 ghost use Rattle.tetri_cert.specs.declared.plan_mark.PlanMark.TheVariants as marks;
-ghost use Rattle.tetri_claims.specs.Good.{IsThriftyForAll};
+ghost use Rattle.tetri_cert.specs.declared.certificate.Certificate.TheVariants as certificates;
+ghost use Rattle.tetri_claims.specs.Good.{BoundsEveryLawful, IsThriftyForAll};
 ghost use Rattle.tetri_run.specs.Cycle.{ComesBefore, IsKeptFor, IsPlanFor};
 ghost use Rattle.tetri_run.specs.FirstFit.{HasAscendingLeaves};
 ghost use Rattle.tetri_run.specs.Kept.{better, kept};
@@ -79,7 +80,9 @@ pub(crate) fn plan_cycle(
     requires ordered { AllPairs ComesBefore carry }
     ensures number { IfOk result (λ t. t.cycle.number ≡ number) }
     ensures happened { IfOk result (λ t. t.cycle.happened ≡ happened) }
-    ensures plan { IfOk result (λ t. IsPlanFor (space inst.entry.now) carry (block t.cycle)) }
+    ensures plan { IfOk result (λ t. (budget : ℕ) → IsPlanFor (space inst.entry.now) budget carry (block t.cycle)) }
+    ensures bounded { IfOk result (λ t. BoundsEveryLawful (space inst.entry.now) t.cycle.bound) }
+    ensures by_tops { IfOk result (λ t. t.cycle.certificate ≡ certificates.Tops 0 0) }
     ensures kept { IfOk result (λ t. IsKeptFor (space inst.entry.now) carry (block t.cycle)) }
     ensures worth { IfOk result (λ t. t.launched_worth ≡ worth_launched (space inst.entry.now) t.cycle.grants) }
 {

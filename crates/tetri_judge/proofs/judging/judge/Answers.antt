@@ -1,6 +1,5 @@
-use Rattle.std.proofs.Common.{Err, ap, ◌∙◌, inl, inr}
+use Rattle.std.proofs.Common.{Err, ap, inr}
 use Rattle.tetri_judge.specs.Verdict.{Passes, Test}
-use Rattle.tetri_judge.specs.declared.verdict.Verdict.TheVariants.{NoMemory}
 use Rattle.tetri_judge.proofs.VerdictLemmas.{passing_is_certified, passing_is_good, passing_is_not_refused, refused_for_memory}
 use Rattle.tetri_report.specs.Block.{block}
 use Rattle.tetri_report.specs.PlanOf.{planned}

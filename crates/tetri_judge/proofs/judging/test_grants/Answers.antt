@@ -1,4 +1,3 @@
-use Rattle.tetri_judge.specs.declared.verdict.Verdict.TheVariants.{Unlawful}
 use Rattle.tetri_judge.proofs.judging.test_grants.Goals as goal
 
 pub returns-in-Err : goal.returns-in-Err

@@ -1,12 +1,15 @@
-use Rattle.std.proofs.Common.{arith}
 use Rattle.tetri_report.specs.Block.{block}
 use Rattle.tetri_space.specs.Space.{space}
-use Rattle.tetri_run.proofs.StepLemmas.{place_within}
+use Rattle.tetri_run.proofs.StepLemmas.{plan_answer, verdict_within}
 use Rattle.tetri_run.proofs.cycle_check.test_plan.Goals as goal
 
-pub place_of-requires-clause-within : goal.place_of-requires-clause-within
-place_of-requires-clause-within c = place_within (space c.args.inst.now) c.args.carry (block c.args.cycle.now) c.in-Err.verdict c.in-Err.ensures.verdict.fails
+pub refusal_of-requires-clause-within : goal.refusal_of-requires-clause-within
+refusal_of-requires-clause-within c =
+    verdict_within (space c.args.inst.now) c.args.carry c.args.budget (block c.args.cycle.now) c.in-Err.verdict c.in-Err.ensures.verdict
 
-pub overflow_add-result : goal.overflow_add-result
-overflow_add-result c =
-    omega (arith, c.place_of.ensures, c.requires.few, place_within (space c.args.inst.now) c.args.carry (block c.args.cycle.now) c.in-Err.verdict c.in-Err.ensures.verdict.fails)
+pub returns-in-Ok : goal.returns-in-Ok
+returns-in-Ok c = (c.in-Ok.ensures.good.0.honest, c.in-Ok.ensures.good.1)
+
+pub returns-in-Err : goal.returns-in-Err
+returns-in-Err c =
+    plan_answer (space c.args.inst.now) c.args.carry c.args.budget c.args.first (block c.args.cycle.now) c.in-Err.verdict c.refusal_of.result c.in-Err.ensures.verdict c.refusal_of.ensures

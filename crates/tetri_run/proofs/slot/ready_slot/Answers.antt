@@ -1,4 +1,5 @@
 use Rattle.std.proofs.Common.{◌≡◌, ◌∙◌, ap, sym, subst, ◌<◌, length, All, AllPairs}
+use Rattle.tetri_claims.specs.Good.{BoundsEveryLawful}
 use Rattle.tetri_report.specs.Block.{block}
 use Rattle.tetri_space.specs.Space.{Bid, Space, space}
 use Rattle.tetri_state.specs.Begin.{occurrences}
@@ -25,14 +26,20 @@ pub print_cycle-requires : goal.print_cycle-requires
 print_cycle-requires c =
     let t = scenario c.args.trace.now in
     let is = c.in_ok-inst.ensures.instance in
-    cycle_printable t (space c.in_ok-inst.inst) c.in_ok-carry.carry (block c.in_ok-told.told.cycle)
+    cycle_printable t (space c.in_ok-inst.inst) c.in_ok-carry.carry (block c.in_ok-told.told.cycle) t.header.budget
     (record {
       sound = c.in_ok-inst.ensures.sound;
       nodes = ap (λ (i : Space). i.nodes) is;
       jobs = subst (λ (i : Space). All (λ (b : Bid). b.job < length t.submissions) i.bids) (sym is) (c.jobs_of_a_run_are_known.ensures.pending c.begin_cycle.new.self c.in_ok-happened.ensures.reached);
     })
     (subst (AreOfJobs t) (sym (ap occurrences c.in_ok-told.ensures.happened ∙ c.in_ok-happened.ensures.happened)) (c.jobs_of_a_run_are_known.ensures.happened c.args.state.now c.requires.reached))
-    c.in_ok-told.ensures.plan
+    (c.in_ok-told.ensures.plan t.header.budget) c.in_ok-told.ensures.by_tops
+
+pub prepare-requires-clause-lawful : goal.prepare-requires-clause-lawful
+prepare-requires-clause-lawful c = (c.in_ok-told.ensures.plan 0).honest.lawful
+
+pub prepare-requires-clause-thrifty : goal.prepare-requires-clause-thrifty
+prepare-requires-clause-thrifty c = (c.in_ok-told.ensures.plan 0).honest.thrifty
 
 pub returns-clause-ready : goal.returns-clause-ready
 returns-clause-ready c =
@@ -50,8 +57,10 @@ returns-clause-ready c =
           happened = ap occurrences c.in_ok-told.ensures.happened ∙ c.in_ok-happened.ensures.happened;
           carry = carry;
           carried = subst (λ (i : Space). IsCarry i s.plan carry) is (subst (λ (q : Snapshot). IsCarry (space c.in_ok-inst.inst) q.plan carry) begun c.in_ok-carry.ensures.carry);
-          plan = subst (λ (i : Space). IsPlanFor i carry b) is c.in_ok-told.ensures.plan;
+          plan = subst (λ (i : Space). IsPlanFor i t.header.budget carry b) is (c.in_ok-told.ensures.plan t.header.budget);
         };
+        bounded = subst (λ (i : Space). BoundsEveryLawful i b.bound) is c.in_ok-told.ensures.bounded;
+        by_tops = c.in_ok-told.ensures.by_tops;
         kept_for = subst (λ (i : Space). IsKeptFor i carry b) is c.in_ok-told.ensures.kept;
         in_range = c.cycle_is_in_range.ensures;
       };
