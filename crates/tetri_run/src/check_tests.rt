@@ -661,6 +661,53 @@ fn worked_reports_are_judged(rt: HostRuntime) -> Result<(), Fail> {
     Ok(())
 }
 
+// A trace of one cycle with so many jobs, each with this expression.
+fn trace_of(alloc: Global, jobs: u32, expression: &str) -> Result<String, AllocError> {
+    let mut out = String::from_str(
+        alloc,
+        "{\"nodes\":[{\"name\":\"n1\"}],\"window\":1,\"budget\":1,\"until\":1}\n",
+    )?;
+    for job in 0..jobs {
+        let name = format!(in alloc; "j{job}")?;
+        out.push_str("{\"at\":0,\"arrive\":\"")?;
+        out.push_str(name.as_str())?;
+        out.push_str("\",\"strl\":\"")?;
+        out.push_str(expression)?;
+        out.push_str("\"}\n")?;
+    }
+    Ok(out)
+}
+
+// How many jobs, their expression, and what is said of a report with a tree. Each job has two columns; it has two rows with `nCk`
+// and one with `LnCk`, and all share one row more.
+const SIZES: &str = "999 nCk(*,1,0,1,1) => accepted 1
+1000 nCk(*,1,0,1,1) => refused: line 3: bad-tree 0 kind
+1000 LnCk(*,1,0,1,1) => accepted 1
+1001 LnCk(*,1,0,1,1) => refused: line 3: bad-tree 0 kind
+";
+
+#[test]
+fn a_tree_over_a_large_program_is_refused(rt: HostRuntime) -> Result<(), Fail> {
+    let alloc = rt.alloc();
+    for row in SIZES.lines() {
+        let (size, answer) = row.split_once(" => ").unwrap_or(("", ""));
+        let (jobs, expression) = size.split_once(' ').unwrap_or(("", ""));
+        let trace = trace_of(alloc, jobs.parse::<u32>().unwrap_or(0), expression)?;
+        let report = format!(in alloc;
+            "cycle 0
+plan 0 {jobs} spent 1
+close 1 -
+summary cycles=1 launched=0 ended=0 cancelled=0 expired=0 worth=0 optimal=0
+"
+        )?;
+        assert!(rt;
+            is_answered(alloc, trace.as_str(), report.as_str(), answer)?,
+            "of {row}"
+        );
+    }
+    Ok(())
+}
+
 // How a check ends whose reads and writes of these numbers fail, and how many bytes it has written then.
 fn checked_with_faults(
     alloc: Global,
