@@ -17,7 +17,7 @@ use Rattle.tetri_cert.specs.declared.faults.TreeWhy.{TreeWhy}
 use Rattle.tetri_cert.specs.declared.faults.TreeWhy.TheVariants as why
 use Rattle.tetri_cert.specs.declared.marks.Mark.{Mark}
 use Rattle.tetri_cert.specs.declared.marks.Mark.TheVariants.{Split, Close, Whole, Rest}
-use Rattle.tetri_cert.specs.NodeBounds.{◌>>=◌, capped, is_negative, is_past_row, node_bound, quotient_at, refuse, sides_before, split_bound, weights_bound, where_weighed}
+use Rattle.tetri_cert.specs.NodeBounds.{◌>>=◌, capped, is_negative, is_unknown_row, node_bound, quotient_at, refuse, sides_before, split_bound, weights_bound, where_weighed}
 use Rattle.tetri_cert.specs.SamePrograms.{FaultsNameNodes}
 use Rattle.tetri_cert.specs.Trees.{fills, if_fills, tree_bound, tree_from}
 
@@ -54,7 +54,7 @@ weighed_names node q (Err (weighing.Negative row)) = refl
 weights_names : (p : Program) (b : Bounds) (node : ℕ) (q : ℤ) (ws : List Weight) → Names node (weights_bound p b node q ws)
 unfolding weights_bound
 weights_names p b node q ws =
-    refused_in_turn node (list_any (is_past_row (length p.rows.items)) ws) (list_any (λ w. is_negative w.by) ws) (is_negative q) why.Row why.Negative why.Denominator
+    refused_in_turn node (list_any (is_unknown_row (length p.rows.items)) ws) (list_any (λ w. is_negative w.by) ws) (is_negative q) why.Row why.Negative why.Denominator
     (where_weighed node q (weigh_answer p b q ws)) (weighed_names node q (weigh_answer p b q ws))
 
 then_names : (node : ℕ) (o : Result ℕ TreeFault) (f : ℕ → Result ℕ TreeFault) → Names node o → ((n : ℕ) → Names node (f n)) → Names node (o >>= f)

@@ -1,5 +1,6 @@
 pub mod Signed
 pub mod Sides
+pub mod NegativeLemmas
 pub mod Covers
 pub mod Ascending
 mod Examples

@@ -23,7 +23,7 @@ use Rattle.tetri_cert.specs.declared.faults.TreeWhy.TheVariants as why
 use Rattle.tetri_cert.specs.Cells.{AreOfColumns, are_of_columns, is_point, is_same, is_whole_point, point_of}
 use Rattle.tetri_cert.specs.declared.marks.Mark.{Mark}
 use Rattle.tetri_cert.specs.declared.marks.Mark.TheVariants.{Split, Close, Whole, Rest}
-use Rattle.tetri_cert.specs.NodeBounds.{◌>>=◌, capped, high_side, is_negative, is_past_row, low_side, node_bound, quotient_at, refuse, sides_before, weights_bound, where_weighed}
+use Rattle.tetri_cert.specs.NodeBounds.{◌>>=◌, capped, high_side, is_negative, is_unknown_row, low_side, node_bound, quotient_at, refuse, sides_before, weights_bound, where_weighed}
 use Rattle.tetri_cert.specs.ProperTrees.{AreProper, BoundsProperTrees, IsEnd, IsProper, IsWorth, Tree, end_bound, ends, floor_of, greatest, preorder, splits}
 use Rattle.tetri_cert.specs.Trees.{fills, if_fills, tree_bound, tree_from}
 use Rattle.tetri_cert.proofs.Covers.{bind_ok, length_sides, not_false, not_negative, refused, same_ok, shape_ok, weighed_is}
@@ -31,11 +31,11 @@ use Rattle.tetri_cert.proofs.PointLemmas.{both_true, columns_below, is_point_is,
 use Rattle.tetri_cert.proofs.Steps.{split_inside, split_told}
 
 -- ---- weights over q
-rows_below : (n : ℕ) (ws : List Weight) → list_any (is_past_row n) ws ≡ false → (k : ℕ) (d : Weight) → k < length ws → (get_or ws k d).row < n
+rows_below : (n : ℕ) (ws : List Weight) → list_any (is_unknown_row n) ws ≡ false → (k : ℕ) (d : Weight) → k < length ws → (get_or ws k d).row < n
 rows_below n [] h k d l = absurd (omega arith)
 rows_below n (w ∷ ws) h k d l = by_test (not (nat_lt w.row n)) refl h (λ g i m. rows_below n ws g i d m) k l
   where
-    by_test : (t : Bool) → not (nat_lt w.row n) ≡ t → (t || list_any (is_past_row n) ws) ≡ false → (list_any (is_past_row n) ws ≡ false → (i : ℕ) → i < length ws → (get_or ws i d).row < n) → (k : ℕ) → k < length (w ∷ ws) → (get_or (w ∷ ws) k d).row < n
+    by_test : (t : Bool) → not (nat_lt w.row n) ≡ t → (t || list_any (is_unknown_row n) ws) ≡ false → (list_any (is_unknown_row n) ws ≡ false → (i : ℕ) → i < length ws → (get_or ws i d).row < n) → (k : ℕ) → k < length (w ∷ ws) → (get_or (w ∷ ws) k d).row < n
     by_test true e f g k l = absurd (false≢true (sym f))
     by_test false e f g zero l = ltb-true _ _ (not_false _ e)
     by_test false e f g (suc k) l = g f k (omega arith)
@@ -43,9 +43,9 @@ rows_below n (w ∷ ws) h k d l = by_test (not (nat_lt w.row n)) refl h (λ g i 
 told_below : (m n : ℕ) → m < n → nat_lt m n ≡ true
 told_below m n h = grind arith
 
-rows_told : (n : ℕ) (ws : List Weight) → ((k : ℕ) (d : Weight) → k < length ws → (get_or ws k d).row < n) → list_any (is_past_row n) ws ≡ false
+rows_told : (n : ℕ) (ws : List Weight) → ((k : ℕ) (d : Weight) → k < length ws → (get_or ws k d).row < n) → list_any (is_unknown_row n) ws ≡ false
 rows_told n [] h = refl
-rows_told n (w ∷ ws) h = ap (λ t. not t || list_any (is_past_row n) ws) (told_below w.row n (h 0 w (omega arith))) ∙ rows_told n ws (λ k d l. h (suc k) d (omega arith))
+rows_told n (w ∷ ws) h = ap (λ t. not t || list_any (is_unknown_row n) ws) (told_below w.row n (h 0 w (omega arith))) ∙ rows_told n ws (λ k d l. h (suc k) d (omega arith))
 
 told_not_negative : (z : ℤ) → pos 0 ≤ℤ z → is_negative z ≡ false
 told_not_negative z h = grind (arith, ints)
@@ -93,7 +93,7 @@ weights_are p b node q ws n h =
     let t = refused _ _ _ _ s.1 in
     by_answer (weigh_answer p b q ws) refl r.0 s.0 t.0 t.1
   where
-    by_answer : (o : Result ℤ WeighFault) → weigh_answer p b q ws ≡ o → list_any (is_past_row (length p.rows.items)) ws ≡ false → list_any (λ w. is_negative w.by) ws ≡ false → is_negative q ≡ false → where_weighed node q o ≡ Ok n → AreProper p b q ws × (floor_of p b q ws ≡ n)
+    by_answer : (o : Result ℤ WeighFault) → weigh_answer p b q ws ≡ o → list_any (is_unknown_row (length p.rows.items)) ws ≡ false → list_any (λ w. is_negative w.by) ws ≡ false → is_negative q ≡ false → where_weighed node q o ≡ Ok n → AreProper p b q ws × (floor_of p b q ws ≡ n)
     by_answer (Ok z) e x y g f =
         let i : z ≡ weighed p b q ws = weighed_is p b q ws z e in
         let u = quotient_is node q (weighed p b q ws) n g (ap (quotient_at node q) (sym i) ∙ f) in

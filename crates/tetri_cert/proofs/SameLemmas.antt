@@ -22,7 +22,7 @@ use Rattle.tetri_cert.specs.declared.faults.TreeWhy.TheVariants as why
 use Rattle.tetri_cert.specs.declared.marks.Cell.{Cell}
 use Rattle.tetri_cert.specs.declared.marks.Mark.{Mark}
 use Rattle.tetri_cert.specs.declared.marks.Mark.TheVariants.{Split, Close, Whole, Rest}
-use Rattle.tetri_cert.specs.NodeBounds.{◌>>=◌, is_negative, is_past_row, node_bound, refuse, sides_before, split_bound, weights_bound, where_weighed}
+use Rattle.tetri_cert.specs.NodeBounds.{◌>>=◌, is_negative, is_unknown_row, node_bound, refuse, sides_before, split_bound, weights_bound, where_weighed}
 use Rattle.tetri_cert.specs.SamePrograms.{SameProgramsAnswerSame, SameRows, SaysSame}
 use Rattle.tetri_cert.specs.Trees.{fills, if_fills, tree_bound, tree_from}
 
@@ -68,7 +68,7 @@ weigh_by rows costs b q ws = unless_negative (first_negative ws) (or_past 0 (for
 
 abbrev weighed_by : ℕ → Bounds → ℕ → ℤ → List Weight → Result ℤ WeighFault → Result ℕ TreeFault
 weighed_by rows b node q ws answer =
-    refuse (list_any (is_past_row rows) ws) (Bad node why.Row)
+    refuse (list_any (is_unknown_row rows) ws) (Bad node why.Row)
     (refuse (list_any (λ w. is_negative w.by) ws) (Bad node why.Negative)
     (refuse (is_negative q) (Bad node why.Denominator) (where_weighed node q answer)))
 

@@ -19,7 +19,7 @@ use Rattle.tetri_cert.specs.declared.faults.TreeWhy.TheVariants as why
 use Rattle.tetri_cert.specs.Cells.{is_whole_point}
 use Rattle.tetri_cert.specs.declared.marks.Mark.{Mark}
 use Rattle.tetri_cert.specs.declared.marks.Mark.TheVariants.{Split, Close, Whole, Rest}
-use Rattle.tetri_cert.specs.NodeBounds.{◌>>=◌, capped, is_negative, is_past_row, node_bound, quotient_at, refuse, sides_before, split_bound, weights_bound, where_weighed}
+use Rattle.tetri_cert.specs.NodeBounds.{◌>>=◌, capped, is_negative, is_unknown_row, node_bound, quotient_at, refuse, sides_before, split_bound, weights_bound, where_weighed}
 use Rattle.tetri_cert.specs.ProperTrees.{IsLeaf, IsShaped, ShapeIsOfTrees, Tree, ends, preorder, splits}
 use Rattle.tetri_cert.specs.Trees.{fills, if_fills, places_behind, tree_bound, tree_from}
 use Rattle.tetri_cert.proofs.ProperLemmas.{append_nil, preorders}
@@ -54,7 +54,7 @@ weights_never p b node q ws k h =
     (λ t. weighed_never node q (weigh_answer p b q ws) k t)
     (passed_on (is_negative q) (Bad node why.Denominator) (Bad k why.Shape) (where_weighed node q (weigh_answer p b q ws)) s))
     (passed_on (list_any (λ w. is_negative w.by) ws) (Bad node why.Negative) (Bad k why.Shape) (refuse (is_negative q) (Bad node why.Denominator) (where_weighed node q (weigh_answer p b q ws))) r))
-    (passed_on (list_any (is_past_row (length p.rows.items)) ws) (Bad node why.Row) (Bad k why.Shape) (refuse (list_any (λ w. is_negative w.by) ws) (Bad node why.Negative) (refuse (is_negative q) (Bad node why.Denominator) (where_weighed node q (weigh_answer p b q ws)))) h)
+    (passed_on (list_any (is_unknown_row (length p.rows.items)) ws) (Bad node why.Row) (Bad k why.Shape) (refuse (list_any (λ w. is_negative w.by) ws) (Bad node why.Negative) (refuse (is_negative q) (Bad node why.Denominator) (where_weighed node q (weigh_answer p b q ws)))) h)
 
 three_never : (t u v : Bool) (node k : ℕ) → refuse t (Bad node why.Column) (refuse u (Bad node why.At) (refuse v (Bad node why.At) (Ok 0))) ≡ Err (Bad k why.Shape) → ⊥
 three_never true u v node k h = cc

@@ -25,7 +25,7 @@ use Rattle.tetri_cert.specs.declared.marks.Licence.TheVariants as licences
 use Rattle.tetri_cert.specs.Numbers.{◌>>=◌, small_number, whole_number}
 use Rattle.tetri_cert.specs.Lists.{list_text}
 use Rattle.tetri_cert.specs.Pairs.{weight_key, weight_text, weight_in, IsPlainWeight, cell_key, cell_text, cell_in, IsPlainCell, frac_cell_key, frac_cell_text, frac_cell_in, IsPlainFracCell}
-use Rattle.tetri_cert.specs.NodeText.{kind_text, licence_text, node_text, ArePlainWeights, IsPlainPoint, IsPlainLicence, IsPlain, weights_in, cells_in, frac_cells_in, kind_in, point_in, past_in, length_in, licence_by_tag, split_in, close_in, whole_in, rest_in, node_by_tag, node_of_words, node_in, ReadsBack, ReadsNoOther}
+use Rattle.tetri_cert.specs.NodeText.{kind_text, licence_text, node_text, ArePlainWeights, IsPlainPoint, IsPlainLicence, IsPlain, weights_in, cells_in, frac_cells_in, kind_in, point_in, past_in, long_in, licence_by_tag, split_in, close_in, whole_in, rest_in, node_by_tag, node_of_words, node_in, ReadsBack, ReadsNoOther}
 use Rattle.tetri_cert.proofs.NumbersBack.{bind_some, other, same_bytes, small_within, number_avoids, whole_avoids, small_back, whole_back, whole_only}
 use Rattle.tetri_cert.proofs.ListsBack.{list_back, list_only, list_avoids}
 use Rattle.tetri_cert.proofs.PairsBack.{weights, cells, frac_cells}
@@ -261,7 +261,7 @@ past_only (a ∷ b ∷ c ∷ d ∷ []) r h =
           ∙ ap (λ x. codes "past" ∷ kind_text k.0 ∷ decimal s.0 ∷ x ∷ d ∷ []) j.0 ∙ ap (λ x. codes "past" ∷ kind_text k.0 ∷ decimal s.0 ∷ decimal t.0 ∷ x ∷ []) l.0,
     )
 
-length_only : (ws : List (List ℕ)) (r : Licence) → length_in ws ≡ Some r → IsReasonOf ws (codes "long") r
+length_only : (ws : List (List ℕ)) (r : Licence) → long_in ws ≡ Some r → IsReasonOf ws (codes "long") r
 length_only (w ∷ ws) r h = cc
 length_only [] r h = let e : licences.Long ≡ r = cc in subst (IsReasonOf [] (codes "long")) e (tt, refl)
 

@@ -27,13 +27,13 @@ abbrev pub refuse : Bool → TreeFault → Result ℕ TreeFault → Result ℕ T
 refuse true e answer = Err e
 refuse false e answer = answer
 
-abbrev pub is_past_row : ℕ → Weight → Bool
-is_past_row rows w = not (nat_lt w.row rows)
+abbrev pub is_unknown_row : ℕ → Weight → Bool
+is_unknown_row rows w = not (nat_lt w.row rows)
 
 abbrev pub is_negative : ℤ → Bool
 is_negative z = lt_z z (pos 0)
 
--- the number, from 0 to 2^64 - 1
+-- the number, but 0 where it is less, and 2^64 - 1 where it is more
 abbrev pub capped : ℤ → ℕ
 capped (pos n) = min n (2 ^ 64 - 1)
 capped (negsuc n) = 0
@@ -50,10 +50,20 @@ where_weighed node q (Err (weighing.Negative row)) = Err (Bad node why.Negative)
 -- what weights over q bound
 unfoldable pub weights_bound : Program → Bounds → ℕ → ℤ → List Weight → Result ℕ TreeFault
 weights_bound p b node q ws =
-    refuse (list_any (is_past_row (length p.rows.items)) ws) (Bad node why.Row)
+    refuse (list_any (is_unknown_row (length p.rows.items)) ws) (Bad node why.Row)
     (refuse (list_any (λ w. is_negative w.by) ws) (Bad node why.Negative)
     (refuse (is_negative q) (Bad node why.Denominator)
     (where_weighed node q (weigh_answer p b q ws))))
+
+-- an answer, unless the multiplier is below 0
+abbrev pub multiplied : ℕ → ℤ → Result ℕ TreeFault → Result ℕ TreeFault
+multiplied node q answer = refuse (is_negative q) (Bad node why.Denominator) answer
+
+-- the same, once the rows are known to be the program's, by what weighing answers: it tells a weight below 0 before all else
+abbrev pub bound_by : ℕ → ℤ → Result ℤ WeighFault → Result ℕ TreeFault
+bound_by node q (Ok w) = multiplied node q (quotient_at node q w)
+bound_by node q (Err (weighing.Past column)) = multiplied node q (Err (Past node column))
+bound_by node q (Err (weighing.Negative row)) = Err (Bad node why.Negative)
 
 -- a split bounds nothing by itself; it has a column of the program, and whole numbers on both sides
 unfoldable pub split_bound : Program → Bounds → ℕ → ℕ → ℤ → Result ℕ TreeFault

@@ -65,7 +65,7 @@ IsPlain (Close q ws) = IsWithin q × ArePlainWeights ws
 IsPlain (Whole q ws worth point) = IsWithin q × ArePlainWeights ws × IsWithin worth × IsPlainPoint point
 IsPlain (Rest q ws) = IsWithin q × ArePlainWeights ws
 
--- Its lists have at most this many entries.
+-- Each list of the node has at most this many entries.
 abbrev pub HasShortLists : ℕ → Mark → Type 0
 HasShortLists most (Split column at (licences.Point cells)) = length cells ≤ most
 HasShortLists most (Split column at (licences.Past p)) = Unit {0}
@@ -106,15 +106,15 @@ past_in (kind ∷ step ∷ row ∷ column ∷ []) = do
   Some (licences.Past (record { kind = kind; step = step; row = row; column = column }))
 past_in words = None
 
-abbrev pub length_in : List (List ℕ) → Option Licence
-length_in [] = Some licences.Long
-length_in (word ∷ words) = None
+abbrev pub long_in : List (List ℕ) → Option Licence
+long_in [] = Some licences.Long
+long_in (word ∷ words) = None
 
 -- why a region was split, by a tag and the words behind it
 unfoldable pub licence_by_tag : List ℕ → List (List ℕ) → Option Licence
 licence_by_tag tag words =
     if bytes_eq tag (codes "point") then point_in words
-    else (if bytes_eq tag (codes "past") then past_in words else (if bytes_eq tag (codes "long") then length_in words else None))
+    else (if bytes_eq tag (codes "past") then past_in words else (if bytes_eq tag (codes "long") then long_in words else None))
 
 abbrev pub split_in : List (List ℕ) → Option Mark
 split_in (column ∷ at ∷ tag ∷ words) = do

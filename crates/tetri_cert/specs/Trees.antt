@@ -10,14 +10,14 @@ use Rattle.tetri_cert.specs.declared.marks.Mark.{Mark}
 use Rattle.tetri_cert.specs.declared.marks.Mark.TheVariants.{Split, Close, Whole, Rest}
 use Rattle.tetri_cert.specs.NodeBounds.{◌>>=◌, node_bound, sides_before}
 
--- how many places are open behind a node, where k are open beside it
+-- how many subtrees are still to come behind a node, where k others were to come
 abbrev pub places_behind : Mark → ℕ → ℕ
 places_behind (Split j at licence) k = suc (suc k)
 places_behind (Close q ws) k = k
 places_behind (Whole q ws worth point) k = k
 places_behind (Rest q ws) k = k
 
--- how many nodes there are that are no rest
+-- how many nodes there are other than rests
 abbrev pub nodes_in : List Mark → ℕ
 nodes_in [] = 0
 nodes_in (Split j at licence ∷ ms) = suc (nodes_in ms)

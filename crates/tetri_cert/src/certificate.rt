@@ -12,8 +12,7 @@ use std::fmt::Write;
 /// Why no plan is worth more than the bound.
 #[derive(Drop)]
 pub enum Certificate {
-    /// The bound is the sum of the tops. Beside it stands the size of the instance's program, or 0 and 0 where
-    /// none is built.
+    /// The bound is the sum of the tops. The two numbers are 0 and 0; a check refuses any others.
     Tops { columns: u64, rows: u64 },
     /// The bound is that of a tree over the instance's program, its marks in preorder.
     Tree(Items<Mark>),

@@ -3,7 +3,7 @@
 /// Which test a certificate fails.
 #[derive(Clone, Copy, Debug, PartialEq, Eq)]
 pub enum TreeWhy {
-    /// It is not of a kind that the instance allows, or other numbers stand beside its word. No tree fails this by itself.
+    /// A tree stands where none may, or `tops` has other numbers than 0 and 0. `bound` never answers this.
     Kind,
     /// Its marks are not one tree in preorder.
     Shape,
@@ -15,13 +15,14 @@ pub enum TreeWhy {
     Row,
     /// A weight is below 0.
     Negative,
-    /// The multiplier is below 0, or it is 0 and the weighed number is not below 0.
+    /// `q` is below 0, or `q` is 0 and the weighed number is not below 0.
     Denominator,
-    /// A point does not lie in the node's region, breaks a row, or has another objective than its worth.
+    /// A point names a column outside the program, does not lie in the node's region, breaks a row, or has another objective than its worth.
     Point,
 }
 
-/// The first fault of a tree, in preorder from node 0. `Past` names the column at which the weighed number left the range.
+/// The first fault of a tree, in preorder from node 0. `Past` names the first column at which a number of the weighing leaves the
+/// range, and 0 also where that is in the sum over the rows.
 #[derive(Clone, Copy, Debug, PartialEq, Eq)]
 pub enum TreeFault {
     Bad { node: u64, why: TreeWhy },

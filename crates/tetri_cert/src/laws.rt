@@ -26,7 +26,7 @@ pub fn same_programs_answer_same()
     ensures { SameProgramsAnswerSame }
 {}
 
-/// A fault names one of the nodes, or the first one where the marks are no tree.
+/// A fault names a node of the list, or node 0.
 pub fn faults_name_nodes()
     ensures { FaultsNameNodes }
 {}

@@ -17,8 +17,9 @@ pub struct FracCell {
     pub value: Frac,
 }
 
-/// Why a region was split: its best point, which is not whole; the place of the first number that left the range; or that
-/// the run was too long. The cells of a point ascend by column, and none is 0.
+/// The reason that a split gives, which no test looks at: the region's best point, which is not whole; the place of the first
+/// number that left the range; or that the run was too long. In a plain mark the cells of a point ascend by column, and none
+/// is 0.
 #[derive(Drop)]
 pub enum Licence {
     Point(Items<FracCell>),
@@ -28,7 +29,8 @@ pub enum Licence {
 
 /// A node of a tree in preorder. A split gives a region with `column` at `at + 1` or more, and then one with `column` at
 /// `at` or less. The others end a region: closed by its weighed number over `q`, with a whole point of this worth, or left as
-/// it is. Weights ascend by row and cells by column, and none is 0.
+/// it is. `q` is how often the
+/// objective is taken. In a plain mark weights ascend by row and cells by column, and none is 0.
 #[derive(Drop)]
 pub enum Mark {
     Split {

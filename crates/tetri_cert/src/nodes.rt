@@ -7,7 +7,7 @@ ghost use Rattle.tetri_ip.specs.Forming.{weigh_answer};
 ghost use Rattle.tetri_ip.specs.Points.{IsFit, IsInBox, bounds_of};
 ghost use Rattle.tetri_ip.specs.Weighed.{AreOfRows};
 ghost use Rattle.tetri_cert.specs.Cells.{is_whole_point};
-ghost use Rattle.tetri_cert.specs.NodeBounds.{capped, is_negative, is_past_row, node_bound, split_bound, weights_bound};
+ghost use Rattle.tetri_cert.specs.NodeBounds.{bound_by, capped, is_unknown_row, multiplied, node_bound, quotient_at, split_bound, weights_bound};
 ghost use Rattle.tetri_cert.specs.Trees.{Gives};
 
 use crate::faults::{TreeFault, TreeWhy};
@@ -16,22 +16,11 @@ use crate::points::is_whole_point;
 use std::alloc::Global;
 use tetri_ip::{ColumnIndex, Program, Region, WeighFault, Weight, weigh, weigh_by};
 
-fn has_past_row(rows: usize, weights: &[Weight]) -> bool
-    ensures { result ≡ list_any (is_past_row rows) weights.now }
+fn has_unknown_row(rows: usize, weights: &[Weight]) -> bool
+    ensures { result ≡ list_any (is_unknown_row rows) weights.now }
 {
     for w in weights {
         if w.row as usize >= rows {
-            return true;
-        }
-    }
-    false
-}
-
-fn has_negative(weights: &[Weight]) -> bool
-    ensures { result ≡ list_any (λ w. is_negative w.by) weights.now }
-{
-    for w in weights {
-        if w.by < 0 {
             return true;
         }
     }
@@ -82,6 +71,34 @@ fn cap(z: i128) -> u64
     }
 }
 
+// The floor of a weighed number over q, or that q is no multiplier of it.
+fn quotient(node: u64, q: i128, weighed: i128) -> Result<u64, TreeFault>
+    ensures { Gives result (multiplied node q (quotient_at node q weighed)) }
+{
+    if q > 0 {
+        return Ok(cap(weighed.div_euclid(q)));
+    }
+    if q == 0 && weighed < 0 {
+        return Ok(0);
+    }
+    bad(node, TreeWhy::Denominator)
+}
+
+// What a fault of weighing is at this node.
+fn weigh_fault(node: u64, q: i128, fault: WeighFault) -> Result<u64, TreeFault>
+    ensures { Gives result (bound_by node q (Err fault)) }
+{
+    match fault {
+        WeighFault::Negative(_) => bad(node, TreeWhy::Negative),
+        WeighFault::Past(column) => {
+            if q < 0 {
+                return bad(node, TreeWhy::Denominator);
+            }
+            Err(TreeFault::Past { node, column })
+        }
+    }
+}
+
 #[tactic(auto, using(crate::proofs::Signed::signed), unfolding(crate::specs::NodeBounds::weights_bound))]
 fn test_weights(
     index: &ColumnIndex,
@@ -96,27 +113,13 @@ fn test_weights(
     requires index { IsIndexOf p.now index.now }
     ensures { Gives result (weights_bound p.now (bounds_of r.now) node q weights.now) }
 {
-    if has_past_row(p.rows.len(), weights) {
+    if has_unknown_row(p.rows.len(), weights) {
         return bad(node, TreeWhy::Row);
     }
-    if has_negative(weights) {
-        return bad(node, TreeWhy::Negative);
+    match weigh_any(index, p, r, q, weights) {
+        Ok(weighed) => quotient(node, q, weighed),
+        Err(fault) => weigh_fault(node, q, fault),
     }
-    if q < 0 {
-        return bad(node, TreeWhy::Denominator);
-    }
-    let weighed = match weigh_any(index, p, r, q, weights) {
-        Ok(weighed) => weighed,
-        Err(WeighFault::Past(column)) => return Err(TreeFault::Past { node, column }),
-        Err(WeighFault::Negative(_)) => return bad(node, TreeWhy::Negative),
-    };
-    if q > 0 {
-        return Ok(cap(weighed.div_euclid(q)));
-    }
-    if weighed < 0 {
-        return Ok(0);
-    }
-    bad(node, TreeWhy::Denominator)
 }
 
 fn bad(node: u64, why: TreeWhy) -> Result<u64, TreeFault>

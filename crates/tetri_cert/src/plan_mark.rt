@@ -8,7 +8,7 @@ pub enum PlanMark {
     Optimal,
     /// The budget was spent before the value reached the bound.
     Spent,
-    /// The instance is too large for an exact plan, or no exact plan is built.
+    /// The value is below the bound, and the certificate is `tops`.
     Wide,
 }
 

@@ -15,7 +15,7 @@ use thiserror::Error;
 /// Why no mark is read.
 #[derive(Clone, Copy, Debug, PartialEq, Eq, Error)]
 pub enum MarkFault {
-    /// The line is none of a mark.
+    /// The line is not the line of a mark.
     #[error("not a mark")]
     NotMark,
     /// There is no memory for the mark.

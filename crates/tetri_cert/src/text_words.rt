@@ -1,6 +1,6 @@
-// Marks of words.
+// Reading a mark from the words of a line.
 ghost use Rattle.std.specs.Prelude.{◌≡◌, IfOk, map};
-ghost use Rattle.tetri_cert.specs.NodeText.{close_in, kind_in, length_in, node_by_tag, node_of_words, past_in, point_in, licence_by_tag, rest_in, split_in, whole_in};
+ghost use Rattle.tetri_cert.specs.NodeText.{close_in, kind_in, long_in, node_by_tag, node_of_words, past_in, point_in, licence_by_tag, rest_in, split_in, whole_in};
 
 use crate::lists::{cells_in, frac_cells_in, weights_in};
 use crate::words::{small_number, whole_number};
@@ -172,7 +172,7 @@ fn mark_by_tag(alloc: Global, tag: &[u8], words: &[&[u8]]) -> Result<Option<Mark
     Ok(None)
 }
 
-/// The mark of a line's words, which are parted by one space; None exactly where they are none of a plain mark's line.
+/// The mark of a line's words, which are parted by one space; None exactly where they are not those of a plain mark's line.
 pub fn mark_of_words(alloc: Global, words: &[&[u8]]) -> Result<Option<Mark>, AllocError>
     ensures { IfOk result (λ o. o ≡ node_of_words (map (λ x. x.now) words.now)) }
 {

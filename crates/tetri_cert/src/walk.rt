@@ -141,7 +141,7 @@ impl Walk {
     }
 }
 
-/// How many marks there are that are no rest.
+/// How many marks there are other than rests.
 pub fn count_nodes(marks: &[Mark]) -> u64
     ensures { result ≡ nodes_in marks.now }
 {

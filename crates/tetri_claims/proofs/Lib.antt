@@ -1,1 +1,2 @@
 pub mod CertifiedLemmas
+pub mod ProgramLemmas

@@ -19,7 +19,7 @@ pub record MayHaveTree (s : Space) : Type 0 where
   pub columns : column_count s ≤ 2000
   pub rows : row_count s ≤ 2000
 
--- the certificate is of a kind that the instance allows; beside the tops stands no size of a program as long as none is searched
+-- the certificate is of a kind that the instance allows: `tops` with 0 and 0, or a tree where one may stand
 abbrev pub IsOfKind : Space → Certificate → Type 0
 IsOfKind s (Tops columns rows) = (columns ≡ 0) × (rows ≡ 0)
 IsOfKind s (Tree marks) = MayHaveTree s
@@ -33,18 +33,18 @@ abbrev pub IsBoundOf : Space → Certificate → ℕ → Type 0
 IsBoundOf s (Tops columns rows) bound = bound ≡ tops_in s
 IsBoundOf s (Tree marks) bound = TreeAnswers s marks (Ok bound)
 
--- how many nodes are counted beside a certificate: those of a tree that are no rest
+-- how many nodes are counted beside a certificate: those of a tree other than rests
 abbrev pub counted_nodes : Certificate → ℕ
 counted_nodes (Tops columns rows) = 0
 counted_nodes (Tree marks) = nodes_in marks
 
--- why a plan is not known to be optimal: no tree was searched, or the budget was spent on it
+-- the mark where the value is below the bound: `wide` with tops; `spent` with a tree that counts as many nodes as the budget
 abbrev pub IsCutShort : ℕ → Certificate → Planned → Type 0
 IsCutShort budget (Tops columns rows) p = p.mark ≡ Wide
 IsCutShort budget (Tree marks) p = (p.mark ≡ Spent) × (p.nodes ≡ budget)
 
 -- The certificate is of a kind that the instance allows, the bound is the one that it gives, its nodes are counted, and the mark
--- is `optimal` or tells why it is not.
+-- goes with it.
 pub record IsCertified (s : Space) (budget : ℕ) (p : Planned) : Type 0 where
   pub kind : IsOfKind s p.certificate
   pub bound : IsBoundOf s p.certificate p.bound

@@ -16,7 +16,7 @@ IsThriftyForAll s a = All (λ b. IsThriftyFor a b.job b.expr) s.bids
 abbrev pub BoundsEveryLawful : Space → ℕ → Type 0
 BoundsEveryLawful s bound = (a : List Grant) → IsLawful s a → total_in s a ≤ bound
 
--- The plan is what it says, its bound aside: the grants are lawful, thrifty and worth the value, which is at least `low`, and
+-- All that is asked of a plan but that its bound holds: the grants are lawful, thrifty and worth the value, which is at least `low`, and
 -- `optimal` stands exactly where value and bound are equal.
 pub record IsHonest (s : Space) (low : ℕ) (p : Planned) : Type 0 where
   pub lawful : IsLawful s p.grants
@@ -25,7 +25,7 @@ pub record IsHonest (s : Space) (low : ℕ) (p : Planned) : Type 0 where
   pub at_least : low ≤ p.value
   pub optimal : (p.mark ≡ Optimal) ↔ (p.value ≡ p.bound)
 
--- The plan is what it says, and no lawful allotment is worth more than its bound.
+-- The plan is honest, and no lawful allotment is worth more than its bound.
 pub record IsGood (s : Space) (low : ℕ) (p : Planned) : Type 0 where
   pub honest : IsHonest s low p
   pub bounded : BoundsEveryLawful s p.bound

@@ -4,4 +4,6 @@
 
 mod laws;
 
-pub use laws::{certificates_bound, trees_have_one_answer};
+pub use laws::{
+    bounds_are_of_proper_trees, certificates_bound, programs_earn_little, trees_have_one_answer,
+};

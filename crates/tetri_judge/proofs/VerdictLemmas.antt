@@ -13,7 +13,8 @@ use Rattle.tetri_claims.specs.Planned.{Planned}
 use Rattle.tetri_claims.proofs.CertifiedLemmas.{certificates_bound, one_answer}
 use Rattle.tetri_compile.specs.Flat.{plain, program_of}
 use Rattle.tetri_ip.specs.declared.programs.Program.{Program}
-use Rattle.tetri_judge.specs.Verdict.{AnswersBound, FailsAt, IsFirstFailed, Passes, PassesRangeAt, Shows, Stands, Test, attained, at_least, bounded, certified, lawful, marked, test_of, thrifty, verdict_of}
+use Rattle.tetri_judge.specs.Answers.{AnswersBound, verdict_of}
+use Rattle.tetri_judge.specs.Verdict.{FailsAt, IsFirstFailed, LeavesRangeAt, Passes, Shows, Stands, Test, attained, at_least, bound_given, lawful, marked, proper, test_of, thrifty}
 use Rattle.tetri_judge.specs.declared.verdict.Verdict.{Verdict}
 use Rattle.tetri_judge.specs.declared.verdict.Verdict.TheVariants.{Unlawful, WrongValue, WasteGrant, BelowCarry, BadTree, Past, WrongBound, WrongMark, NoMemory}
 use Rattle.tetri_judge.proofs.WastedLemmas.{none_wasted}
@@ -36,7 +37,7 @@ module _ (s : Space) where
   fails_not_stands (Tree marks) node why (inl h) stands = h.2 stands.kind
   fails_not_stands (Tree marks) node why (inr h) stands = no_bound marks _ stands.bound h.1 stands.gives
 
-  past_not_stands : (c : Certificate) (node column : ℕ) → PassesRangeAt s c node column → Stands s c → ⊥
+  past_not_stands : (c : Certificate) (node column : ℕ) → LeavesRangeAt s c node column → Stands s c → ⊥
   past_not_stands (Tops columns rows) node column h stands = h
   past_not_stands (Tree marks) node column h stands = no_bound marks _ stands.bound h.1 stands.gives
 
@@ -62,7 +63,7 @@ module _ (s : Space) (carried budget : ℕ) (p : Planned) where
 
   -- what passes each test is good and certified
   pub passing_is_certified : ((t : Test) → Passes s carried budget p t) → IsCertified s budget p
-  passing_is_certified pass = record { kind = (pass certified).kind; bound = pass bounded; nodes = (pass marked).nodes; mark = (pass marked).either }
+  passing_is_certified pass = record { kind = (pass proper).kind; bound = pass bound_given; nodes = (pass marked).nodes; mark = (pass marked).either }
 
   pub passing_is_honest : ((t : Test) → Passes s carried budget p t) → IsHonest s carried p
   passing_is_honest pass = record { lawful = pass lawful; thrifty = pass thrifty; attained = pass attained; at_least = pass at_least; optimal = (pass marked).optimal }
@@ -70,14 +71,14 @@ module _ (s : Space) (carried budget : ℕ) (p : Planned) where
   pub passing_is_good : IsSound s → ((t : Test) → Passes s carried budget p t) → IsGood s carried p
   passing_is_good sound pass = record { honest = passing_is_honest pass; bounded = certificates_bound s budget p sound (passing_is_certified pass) }
 
-  -- what is what it says and certified passes each test
+  -- an honest and certified plan passes each test
   pub certified_passes : IsHonest s carried p → IsCertified s budget p → (t : Test) → Passes s carried budget p t
   certified_passes honest cert lawful = honest.lawful
   certified_passes honest cert attained = honest.attained
   certified_passes honest cert thrifty = honest.thrifty
   certified_passes honest cert at_least = honest.at_least
-  certified_passes honest cert certified = record { kind = cert.kind; bound = p.bound; gives = cert.bound }
-  certified_passes honest cert bounded = cert.bound
+  certified_passes honest cert proper = record { kind = cert.kind; bound = p.bound; gives = cert.bound }
+  certified_passes honest cert bound_given = cert.bound
   certified_passes honest cert marked = record { optimal = honest.optimal; either = cert.mark; nodes = cert.nodes }
 
 -- a tree's fault over the instance's program is the certificate's

@@ -1,2 +1,3 @@
 pub mod Wasted
 pub mod Verdict
+pub mod Answers

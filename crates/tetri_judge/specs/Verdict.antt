@@ -27,11 +27,12 @@ pub data Test : Type 0 where
   attained : Test
   thrifty : Test
   at_least : Test
-  certified : Test
-  bounded : Test
+  proper : Test
+  bound_given : Test
   marked : Test
 
--- `optimal` stands where value and bound are equal, else the mark tells why they are not, and the certificate's nodes are counted
+-- `optimal` stands exactly where value and bound are equal; otherwise `wide` goes with tops, and `spent` with a tree that counts as
+-- many nodes as the budget; the nodes are counted rightly
 pub record IsRightlyMarked (budget : ℕ) (p : Planned) : Type 0 where
   pub optimal : (p.mark ≡ Optimal) ↔ (p.value ≡ p.bound)
   pub either : (p.mark ≡ Optimal) ⊎ IsCutShort budget p.certificate p
@@ -51,23 +52,23 @@ FailsAt s (Tree marks) node why =
     ((node ≡ 0) × (why ≡ Kind) × (IsOfKind s (Tree marks) → ⊥)) ⊎ (IsOfKind s (Tree marks) × TreeAnswers s marks (Err (faults.Bad node why)))
 
 -- a number that is formed to weigh at this node leaves the range, first at this column
-abbrev pub PassesRangeAt : Space → Certificate → ℕ → ℕ → Type 0
-PassesRangeAt s (Tops columns rows) node column = ⊥
-PassesRangeAt s (Tree marks) node column = IsOfKind s (Tree marks) × TreeAnswers s marks (Err (faults.Past node column))
+abbrev pub LeavesRangeAt : Space → Certificate → ℕ → ℕ → Type 0
+LeavesRangeAt s (Tops columns rows) node column = ⊥
+LeavesRangeAt s (Tree marks) node column = IsOfKind s (Tree marks) × TreeAnswers s marks (Err (faults.Past node column))
 
--- the test of which a verdict speaks; memory is taken for the test of the certificate alone
+-- the test of which a verdict speaks; want of memory speaks of none, and its line here is never used
 abbrev pub test_of : Verdict → Test
 test_of (Unlawful u) = lawful
 test_of (WrongValue printed found) = attained
 test_of (WasteGrant place) = thrifty
 test_of (BelowCarry printed carry) = at_least
-test_of (BadTree node why) = certified
-test_of (Past node column) = certified
-test_of (WrongBound printed found) = bounded
+test_of (BadTree node why) = proper
+test_of (Past node column) = proper
+test_of (WrongBound printed found) = bound_given
 test_of WrongMark = marked
-test_of NoMemory = certified
+test_of NoMemory = proper
 
--- a plan for this instance, before which this much is carried over, with this budget
+-- for an instance, the worth of what is carried over, the budget, and a plan
 module _ (s : Space) (carried budget : ℕ) (p : Planned) where
   -- the plan passes this test
   abbrev pub Passes : Test → Type 0
@@ -75,8 +76,8 @@ module _ (s : Space) (carried budget : ℕ) (p : Planned) where
   Passes attained = total_in s p.grants ≡ p.value
   Passes thrifty = IsThriftyForAll s p.grants
   Passes at_least = carried ≤ p.value
-  Passes certified = Stands s p.certificate
-  Passes bounded = IsBoundOf s p.certificate p.bound
+  Passes proper = Stands s p.certificate
+  Passes bound_given = IsBoundOf s p.certificate p.bound
   Passes marked = IsRightlyMarked budget p
 
   -- the plan passes each test that is made before this one
@@ -85,9 +86,9 @@ module _ (s : Space) (carried budget : ℕ) (p : Planned) where
   PassesBefore attained = Passes lawful
   PassesBefore thrifty = Passes lawful × Passes attained
   PassesBefore at_least = Passes lawful × Passes attained × Passes thrifty
-  PassesBefore certified = Passes lawful × Passes attained × Passes thrifty × Passes at_least
-  PassesBefore bounded = Passes lawful × Passes attained × Passes thrifty × Passes at_least × Passes certified
-  PassesBefore marked = Passes lawful × Passes attained × Passes thrifty × Passes at_least × Passes certified × Passes bounded
+  PassesBefore proper = Passes lawful × Passes attained × Passes thrifty × Passes at_least
+  PassesBefore bound_given = Passes lawful × Passes attained × Passes thrifty × Passes at_least × Passes proper
+  PassesBefore marked = Passes lawful × Passes attained × Passes thrifty × Passes at_least × Passes proper × Passes bound_given
 
   -- the plan fails a test as this verdict says
   abbrev pub Shows : Verdict → Type 0
@@ -96,7 +97,7 @@ module _ (s : Space) (carried budget : ℕ) (p : Planned) where
   Shows (WasteGrant place) = first_wasted s.bids p.grants ≡ Some place
   Shows (BelowCarry printed carry) = (printed ≡ p.value) × (carry ≡ carried) × (printed < carry)
   Shows (BadTree node why) = FailsAt s p.certificate node why
-  Shows (Past node column) = PassesRangeAt s p.certificate node column
+  Shows (Past node column) = LeavesRangeAt s p.certificate node column
   Shows (WrongBound printed found) = (printed ≡ p.bound) × IsBoundOf s p.certificate found × (found ≢ printed)
   Shows WrongMark = IsRightlyMarked budget p → ⊥
   Shows NoMemory = ⊥
@@ -110,32 +111,3 @@ module _ (s : Space) (carried budget : ℕ) (p : Planned) where
   abbrev pub IsVerdict : {U : Type 0} → Result U Verdict → Type 0
   IsVerdict (Ok u) = (t : Test) → Passes t
   IsVerdict (Err v) = (v ≡ NoMemory) ⊎ IsFirstFailed v
-
--- What the tests of the grants answer, whatever the budget: the first four tests are passed, or the first that is failed.
-abbrev pub AnswersGrants : {U : Type 0} → Result U Verdict → Space → ℕ → Planned → Type 0
-AnswersGrants (Ok u) s carried p = (budget : ℕ) → PassesBefore s carried budget p certified
-AnswersGrants (Err v) s carried p = (budget : ℕ) → IsFirstFailed s carried budget p v
-
--- what is wrong with a tree, as a verdict
-abbrev pub verdict_of : TreeFault → Verdict
-verdict_of (faults.Bad node why) = BadTree node why
-verdict_of (faults.Past node column) = Past node column
-verdict_of faults.NoMemory = NoMemory
-
--- What a certificate answers: the bound that it gives, or how it fails its tests.
-abbrev pub AnswersBound : Result ℕ Verdict → Space → Certificate → Type 0
-AnswersBound (Ok bound) s c = IsOfKind s c × IsBoundOf s c bound
-AnswersBound (Err (Unlawful u)) s c = ⊥
-AnswersBound (Err (WrongValue printed found)) s c = ⊥
-AnswersBound (Err (WasteGrant place)) s c = ⊥
-AnswersBound (Err (BelowCarry printed carry)) s c = ⊥
-AnswersBound (Err (BadTree node why)) s c = FailsAt s c node why
-AnswersBound (Err (Past node column)) s c = PassesRangeAt s c node column
-AnswersBound (Err (WrongBound printed found)) s c = ⊥
-AnswersBound (Err WrongMark) s c = ⊥
-AnswersBound (Err NoMemory) s c = Unit {0}
-
--- The program over which a tree may stand, if one may.
-abbrev pub IsTreeProgram : Space → Option Compiled → Type 0
-IsTreeProgram s None = MayHaveTree s → ⊥
-IsTreeProgram s (Some c) = MayHaveTree s × (plain c.program ≡ program_of s) × IsFit c.program

@@ -2,7 +2,8 @@
 ghost use Rattle.std.specs.Prelude.{◌≡◌, ◌↔◌, IfOk, IsTrue};
 ghost use Rattle.tetri_cert.specs.declared.certificate.Certificate.TheVariants as certificates;
 ghost use Rattle.tetri_claims.specs.Certified.{IsCutShort, counted_nodes};
-ghost use Rattle.tetri_judge.specs.Verdict.{AnswersBound, IsRightlyMarked, IsTreeProgram, verdict_of};
+ghost use Rattle.tetri_judge.specs.Answers.{AnswersBound, IsTreeProgram, verdict_of};
+ghost use Rattle.tetri_judge.specs.Verdict.{IsRightlyMarked};
 ghost use Rattle.tetri_report.specs.Block.{block};
 ghost use Rattle.tetri_report.specs.PlanOf.{planned};
 ghost use Rattle.tetri_space.specs.Sound.{IsSound};

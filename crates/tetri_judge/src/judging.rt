@@ -1,8 +1,9 @@
 // The judge of one cycle.
 ghost use Rattle.std.specs.Prelude.{◌≡◌, ◌⊎◌, OnOk, Ok, Err};
 ghost use Rattle.tetri_claims.specs.Certified.{IsCertified};
-ghost use Rattle.tetri_claims.specs.Good.{IsGood};
-ghost use Rattle.tetri_judge.specs.Verdict.{AnswersGrants, IsVerdict, Passes, PassesBefore, Test, certified};
+ghost use Rattle.tetri_claims.specs.Good.{IsGood, IsHonest};
+ghost use Rattle.tetri_judge.specs.Answers.{AnswersGrants};
+ghost use Rattle.tetri_judge.specs.Verdict.{IsVerdict, PassesBefore, proper};
 ghost use Rattle.tetri_report.specs.Block.{block};
 ghost use Rattle.tetri_report.specs.PlanOf.{planned};
 ghost use Rattle.tetri_space.specs.Sound.{IsSound};
@@ -51,7 +52,7 @@ fn test_certificate(
     c: &Cycle,
 ) -> Result<(), Verdict>
     requires sound { IsSound (space inst.now) }
-    requires granted { PassesBefore (space inst.now) carry budget (planned (block c.now)) certified }
+    requires granted { PassesBefore (space inst.now) carry budget (planned (block c.now)) proper }
     ensures { IsVerdict (space inst.entry.now) carry budget (planned (block c.now)) result }
 {
     let found = match bound_of(alloc, inst, &c.certificate) {
@@ -70,9 +71,8 @@ fn test_certificate(
     Ok(())
 }
 
-/// Whether the plan of a cycle is good for the instance, worth at least `carry`, and certified; if not, the first test that it
-/// fails. It trusts nothing that the cycle says, and uses neither a search nor the simplex method: it goes once over the
-/// certificate. Memory is taken for the certificate alone.
+/// Whether the plan of a cycle is good for the instance, worth at least `carry`, and certified for the budget; if not, the first
+/// test that it fails. It trusts nothing that the cycle says, and uses neither a search nor the simplex method.
 pub fn judge(
     alloc: Global,
     inst: &Instance,
@@ -84,8 +84,8 @@ pub fn judge(
     ensures verdict { IsVerdict (space inst.entry.now) carry budget (planned (block c.now)) result }
     ensures good { OnOk result (IsGood (space inst.entry.now) carry (planned (block c.now))
         × IsCertified (space inst.entry.now) budget (planned (block c.now))) }
-    ensures complete { ((test : Test) → Passes (space inst.entry.now) carry budget (planned (block c.now)) test)
-        → (result ≡ Ok tt) ⊎ (result ≡ Err Verdict.NoMemory) }
+    ensures complete { IsHonest (space inst.entry.now) carry (planned (block c.now))
+        → IsCertified (space inst.entry.now) budget (planned (block c.now)) → (result ≡ Ok tt) ⊎ (result ≡ Err Verdict.NoMemory) }
 {
     match test_grants(inst, carry, c) {
         Ok(()) => {}

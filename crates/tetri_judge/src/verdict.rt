@@ -13,9 +13,9 @@ pub enum Verdict {
     WasteGrant(u64),
     /// The value is less than that of what is carried over.
     BelowCarry { printed: u64, carry: u64 },
-    /// The certificate does not stand, at this node of its tree or as a whole at node 0.
+    /// The certificate fails a test at this node; its kind and its shape are told at node 0.
     BadTree { node: u64, why: TreeWhy },
-    /// At this node a number that is formed to weigh leaves the range; the column is 0 for the sum over the rows.
+    /// At this node a number of the weighing leaves the range, first at this column; 0 also where it is in the sum over the rows.
     Past { node: u64, column: u32 },
     /// The certificate gives another bound than the printed one.
     WrongBound { printed: u64, found: u64 },

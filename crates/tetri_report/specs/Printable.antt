@@ -47,7 +47,7 @@ pub record IsPrintable (s : Scenario) (b : Block) : Type 0 where
 abbrev pub AreSmall : List ℕ → Type 0
 AreSmall ns = All (λ n. n < 2 ^ 32) ns
 
--- the numbers of a node are in their ranges where it may be printed
+-- the numbers of the tops; a tree needs nothing here, since its nodes are plain where it may be printed
 abbrev pub IsCertificateInRange : Certificate → Type 0
 IsCertificateInRange (Tops columns rows) = (columns < 2 ^ 64) × (rows < 2 ^ 64)
 IsCertificateInRange (Tree marks) = Unit {0}

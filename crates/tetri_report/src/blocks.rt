@@ -19,7 +19,7 @@ use tetri_trace::Trace;
 /// Why a line of a report is not read.
 #[derive(Clone, Copy, Debug, PartialEq, Eq)]
 pub enum ReportFault {
-    /// The line of this number, counted from 1, is none of a report, may not stand there, or names no job or node.
+    /// The line of this number, counted from 1, is not a line of a report, may not stand there, or names no job or node.
     Malformed(u64),
     /// There is no memory for what the line says.
     NoMemory,

@@ -5,7 +5,7 @@ use tetri_strl::Allotment;
 
 /// A cycle of a run: its number, what happened at its beginning, its plan and what was launched. `starts` has
 /// one slot for each grant, and `launched` the numbers of jobs, ascending. Worths are whole numbers, `nodes`
-/// counts the nodes of the search tree.
+/// counts the nodes of the certificate's tree other than rests.
 #[derive(Drop)]
 pub struct Cycle {
     pub number: u32,

@@ -10,7 +10,7 @@ use Rattle.tetri_cert.specs.declared.certificate.Certificate.TheVariants.{Tops, 
 use Rattle.tetri_cert.specs.declared.faults.TreeWhy.{TreeWhy}
 use Rattle.tetri_cert.specs.declared.marks.Mark.{Mark}
 use Rattle.tetri_cert.proofs.FaultLemmas.{faults_name_nodes}
-use Rattle.tetri_judge.specs.Verdict.{FailsAt, IsFirstFailed, PassesRangeAt, Shows}
+use Rattle.tetri_judge.specs.Verdict.{FailsAt, IsFirstFailed, LeavesRangeAt, Shows}
 use Rattle.tetri_judge.specs.Wasted.{first_wasted, lesser}
 use Rattle.tetri_judge.specs.declared.verdict.Verdict.{Verdict}
 use Rattle.tetri_judge.specs.declared.verdict.Verdict.TheVariants as verdicts
@@ -197,7 +197,7 @@ fails_within i (Tree marks) node why (inl h) = omega (arith, h.0)
 fails_within i (Tree marks) node why (inr h) =
     ⊎_elim (λ lt. omega (arith, lt, length-map marks lines.Node)) (λ first. omega (arith, first)) ((faults_name_nodes h.1.0 marks node).0 why h.1.2)
 
-past_within : (i : Space) (c : Certificate) (node column : ℕ) → PassesRangeAt i c node column → node ≤ length (certificate_lines c)
+past_within : (i : Space) (c : Certificate) (node column : ℕ) → LeavesRangeAt i c node column → node ≤ length (certificate_lines c)
 past_within i (Tops columns rows) node column h = absurd h
 past_within i (Tree marks) node column h = omega (arith, (faults_name_nodes h.1.0 marks node).1 column h.1.2, length-map marks lines.Node)
 

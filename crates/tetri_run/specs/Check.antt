@@ -97,6 +97,6 @@ abbrev pub ComesTo : Scenario → Checking → List (List ℕ) → Result ℕ (�
 ComesTo t c [] outcome = EndsAs t c outcome
 ComesTo t c (line ∷ rest) outcome = RefusesAs t c line outcome ⊎ ((behind : Checking) × IsPassed t c line behind × ComesTo t behind rest outcome)
 
--- the report is refused at this line, which fails the first test that fails
+-- the report is refused at this line, for the first test that fails
 abbrev pub IsRefusedAt : Scenario → List ℕ → ℕ → Why → Type 0
 IsRefusedAt t bytes line why = ComesTo t unchecked (lines_in bytes) (Err (line, why))

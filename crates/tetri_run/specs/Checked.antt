@@ -37,7 +37,7 @@ AnswersVerdict (Refused line why) v first b = (line ≡ first + place_of b v) ×
 AnswersVerdict ReadFault v first b = ⊥
 AnswersVerdict NoMemory v first b = v ≡ verdicts.NoMemory
 
--- What the tests of a plan answer, where the cycle's first line has this number: it is what it says and certified, or the first
+-- What the tests of a plan answer, where the cycle's first line has this number: it is honest and certified, or the first
 -- test that it fails refuses the line at its place.
 abbrev pub AnswersPlan : {U : Type 0} → Result U CheckHalt → Space → ℕ → ℕ → ℕ → Block → Type 0
 AnswersPlan (Ok u) i carried budget first b = IsHonest i carried (planned b) × IsCertified i budget (planned b)
@@ -74,8 +74,8 @@ pub record IsBehind (t : Scenario) (past : List Block) (s : Snapshot) (tally : R
   pub small_worth : tally.worth ≤ length past * 2 ^ 64
   pub small_optimal : tally.optimal ≤ length past
 
--- The lines so far may stand. A cycle has no more events, grants, lines of its certificate and launches than there are lines from
--- its first one on, but for the plan and the certificate, and a start for each grant. Where a summary was read, the report is closed.
+-- The lines so far may stand. A cycle has at most one event, grant, line of its certificate or launch more than there are lines from
+-- its first one on, since an empty block counts a line of a certificate already; and it has a start for each grant. Where a summary was read, the report is closed.
 pub record IsInOrder (first : ℕ) (r : Reading) : Type 0 where
   pub sane : r.fault ≡ None
   pub paged : first + (events r.block + length r.block.grants + length (certificate_lines r.block.certificate) + length r.block.launched) ≤ r.lines + 2

@@ -24,8 +24,8 @@ occurrences_in b = record { ended = b.ended; cancelled = b.cancelled; over = b.o
 abbrev pub instance_at : Scenario → Snapshot → Space
 instance_at t s = instance_of t (begin t s)
 
--- The plan of a cycle is what it says for this instance, worth at least what is carried over, and certified for this budget; each
--- grant is told with its leaf's start, and all that is launched is told.
+-- The plan of a cycle is honest for this instance, worth at least what is carried over, and certified for this budget; each grant is
+-- told with its leaf's start, and exactly the launched jobs are listed.
 pub record IsPlanFor (i : Space) (budget : ℕ) (carry : List Grant) (b : Block) : Type 0 where
   pub honest : IsHonest i (total_in i carry) (planned b)
   pub certified : IsCertified i budget (planned b)

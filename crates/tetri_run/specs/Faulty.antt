@@ -30,7 +30,7 @@ why_of (verdicts.WrongBound printed found) = Some (whys.WrongBound printed found
 why_of verdicts.WrongMark = Some whys.WrongMark
 why_of verdicts.NoMemory = None
 
--- the place of the line, counted from the cycle's first one, at which a verdict refuses its plan
+-- the place of the line, counted from the cycle's first one, at which a verdict refuses its plan; want of memory refuses none
 abbrev pub place_of : Block → Verdict → ℕ
 place_of b (verdicts.Unlawful u) = grant_place b u.grant
 place_of b (verdicts.WrongValue printed found) = plan_place b

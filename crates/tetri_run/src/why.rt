@@ -9,7 +9,7 @@ use tetri_space::Unlawful;
 /// Why a report is refused: the first test that it fails, in the order in which a check makes them.
 #[derive(Clone, Copy, Debug, PartialEq, Eq)]
 pub enum Why {
-    /// The line is none of a report, may not stand there, or names no job or node; or the summary is missing.
+    /// The line is not a line of a report, may not stand there, or names no job or node; or the summary is missing.
     Malformed,
     /// The line has more than 1,048,576 bytes.
     LineTooLong,
@@ -21,9 +21,9 @@ pub enum Why {
     WasteGrant(u64),
     /// The value is less than that of what is carried over.
     BelowCarry { printed: u64, carry: u64 },
-    /// The certificate does not stand, at this node of its tree or as a whole at node 0.
+    /// The certificate fails a test at this node; its kind and its shape are told at node 0.
     BadTree { node: u64, why: TreeWhy },
-    /// At this node a number that is formed to weigh leaves the range; the column is 0 for the sum over the rows.
+    /// At this node a number of the weighing leaves the range, first at this column; 0 also where it is in the sum over the rows.
     Past { node: u64, column: u32 },
     /// The certificate gives another bound than the printed one.
     WrongBound { printed: u64, found: u64 },
