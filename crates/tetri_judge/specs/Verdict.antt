@@ -1,18 +1,14 @@
 -- What the judge says of a plan.
-use Rattle.std.specs.Prelude.{◌≡◌, ◌≢◌, ◌<◌, ◌≤◌, ◌↔◌, ◌⊎◌, ℕ, Option, Some, None, Result, Ok, Err}
+use Rattle.std.specs.Prelude.{◌≡◌, ◌≢◌, ◌<◌, ◌≤◌, ◌↔◌, ◌⊎◌, ℕ, Some, Result, Ok, Err}
 use Rattle.tetri_cert.specs.declared.certificate.Certificate.{Certificate}
 use Rattle.tetri_cert.specs.declared.certificate.Certificate.TheVariants.{Tops, Tree}
-use Rattle.tetri_cert.specs.declared.faults.TreeFault.{TreeFault}
 use Rattle.tetri_cert.specs.declared.faults.TreeFault.TheVariants as faults
 use Rattle.tetri_cert.specs.declared.faults.TreeWhy.{TreeWhy}
 use Rattle.tetri_cert.specs.declared.faults.TreeWhy.TheVariants.{Kind}
 use Rattle.tetri_cert.specs.declared.plan_mark.PlanMark.TheVariants.{Optimal}
-use Rattle.tetri_claims.specs.Certified.{IsBoundOf, IsCutShort, IsOfKind, MayHaveTree, TreeAnswers, counted_nodes}
+use Rattle.tetri_claims.specs.Certified.{IsBoundOf, IsCutShort, IsOfKind, TreeAnswers, counted_nodes}
 use Rattle.tetri_claims.specs.Good.{IsThriftyForAll}
 use Rattle.tetri_claims.specs.Planned.{Planned}
-use Rattle.tetri_compile.specs.declared.compiling.Compiled.{Compiled}
-use Rattle.tetri_compile.specs.Flat.{plain, program_of}
-use Rattle.tetri_ip.specs.Points.{IsFit}
 use Rattle.tetri_space.specs.Broken.{IsFirstBroken}
 use Rattle.tetri_space.specs.Lawful.{IsLawful}
 use Rattle.tetri_space.specs.Space.{Space}
