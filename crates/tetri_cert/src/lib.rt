@@ -30,8 +30,4 @@ pub use text_words::mark_of_words;
 pub use walk::{Walk, bound, count_nodes};
 
 #[cfg(test)]
-mod certificate_tests;
-#[cfg(test)]
 mod tests;
-#[cfg(test)]
-mod text_tests;
