@@ -1,4 +1,5 @@
 pub mod Broken
+pub mod Closed
 pub mod Finding
 pub mod Free
 pub mod Lawful
