@@ -3,7 +3,6 @@ pub mod Closed
 pub mod Finding
 pub mod Free
 pub mod Lawful
-pub mod Lists
 pub mod Partitions
 pub mod Sound
 pub mod Space
