@@ -1,5 +1,5 @@
--- In which slots closures close a node, and what an index of them keeps.
-use Rattle.std.specs.Prelude.{◌≡◌, ◌⊎◌, ℕ, ◌+◌, ◌<◌, ◌≤◌, ◌==◌, ◌&&◌, Bool, true, false, not, nat_le, List, [], ◌∷◌, All, AllPairs, length}
+-- In which slots closures close a node.
+use Rattle.std.specs.Prelude.{◌≡◌, ℕ, ◌+◌, ◌<◌, ◌≤◌, ◌==◌, ◌&&◌, Bool, false, not, nat_le, List, [], ◌∷◌, All, length}
 use Rattle.std.specs.List.{list_any}
 use Rattle.std.specs.List.Sorted.{IsStrictlyIncreasing}
 use Rattle.tetri_space.specs.declared.closure.Closure.{Closure}
@@ -22,17 +22,6 @@ pub record IsSoundClosure (nodes : ℕ) (c : Closure) : Type 0 where
 pub record AreSoundClosures (nodes : ℕ) (cs : List Closure) : Type 0 where
   pub few : length cs ≤ 4096
   pub each : All (IsSoundClosure nodes) cs
-
--- a span of a lesser node, or of the same node with a slot between them
-abbrev pub StandsBefore : Closure → Closure → Type 0
-StandsBefore c d = (c.node < d.node) ⊎ ((c.node ≡ d.node) × (c.to + 1 < d.from))
-
--- The spans close exactly what the closures do. They ascend by node and slot, and those of a node neither overlap nor
--- touch.
-pub record AreSpansOf (cs spans : List Closure) : Type 0 where
-  pub some_slots : All (λ c. c.from ≤ c.to) spans
-  pub ordered : AllPairs StandsBefore spans
-  pub same : (n t : ℕ) → is_closed_by spans n t ≡ is_closed_by cs n t
 
 -- of ascending numbers, an odd number is at most `t`
 abbrev pub is_odd_at : List ℕ → ℕ → Bool

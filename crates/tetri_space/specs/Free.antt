@@ -3,7 +3,7 @@ use Rattle.std.specs.Prelude.{◌≡◌, ℕ, ◌<◌, ◌≤◌, ◌&&◌, Bool
 use Rattle.std.specs.List.{list_any, range_with_len}
 use Rattle.tetri_strl.specs.declared.expr.Leaf.{Leaf}
 use Rattle.tetri_space.specs.Closed.{is_closed_by}
-use Rattle.tetri_space.specs.Space.{Space}
+use Rattle.tetri_space.specs.Space.{Space, Covers}
 
 -- the node is closed in this slot
 abbrev pub is_closed : Space → ℕ → ℕ → Bool
@@ -15,6 +15,10 @@ pub record IsFree (s : Space) (node slot : ℕ) : Type 0 where
   pub not_drained : slice_get s.drained node ≡ Some false
   pub idle : slice_index s.busy_until node ≤ slot
   pub not_closed : is_closed s node slot ≡ false
+
+-- the leaf may use the node in each of its slots
+abbrev pub IsFreeThroughout : Space → Leaf → ℕ → Type 0
+IsFreeThroughout s l n = (slot : ℕ) → Covers l slot → IsFree s n slot
 
 -- the node is there and not drained, and nothing runs on it in this slot or later
 abbrev pub is_idle : Space → ℕ → ℕ → Bool
@@ -28,6 +32,6 @@ is_free s n t = is_idle s n t && not (is_closed s n t)
 abbrev pub slots : Leaf → List ℕ
 slots l = range_with_len l.start l.dur
 
--- the leaf may use the node in each of its slots
+-- the test of `IsFreeThroughout`
 abbrev pub is_free_throughout : Space → Leaf → ℕ → Bool
 is_free_throughout s l n = is_idle s n l.start && not (list_any (is_closed s n) (slots l))

@@ -6,4 +6,5 @@ pub mod Lawful
 pub mod Partitions
 pub mod Sound
 pub mod Space
+pub mod Spans
 pub mod Total

@@ -1,15 +1,15 @@
 // Closures with an index by node.
-ghost use Rattle.std.specs.Prelude.{◌≡◌, ℕ, ◌+◌, ◌*◌, ◌^◌, ◌<◌, ◌≤◌, ◌++◌, [], List, length, All, AllPairs, IfOk, OnOk, drop};
+ghost use Rattle.std.specs.Prelude.{◌≡◌, ℕ, ◌<◌, ◌^◌, ◌++◌, [], List, All, IfOk, OnOk};
 ghost use Rattle.std.specs.List.{list_any, range_with_len};
-ghost use Rattle.std.specs.List.Sorted.{IsNonDecreasingBy};
-ghost use Rattle.tetri_space.specs.Closed.{AreSpansOf, AreTurns, is_closed_by, is_past, place_of, turns_in};
+ghost use Rattle.tetri_space.specs.Closed.{AreTurns, is_closed_by};
 
 use crate::Closure;
+use crate::spans::{first_reaching, meets, push_ends, spans_of};
 use std::alloc::{AllocError, Global};
 use std::marker::Model;
 
-/// Closures, in the order in which they were given. A look-up goes by an index: for each node the
-/// spans of slots in which it is closed, found by binary search. It is made once.
+/// Closures, in the order in which they were given. A look-up goes by an index that is made once: for
+/// each node the spans of slots in which it is closed, found by binary search.
 #[derive(Drop)]
 pub struct Closures {
     given: Vec<Closure>,
@@ -18,7 +18,7 @@ pub struct Closures {
 
 impl Model for Closures {
     ghost use Rattle.std.specs.Prelude.{List};
-    ghost use Rattle.tetri_space.specs.Closed.{AreSpansOf};
+    ghost use Rattle.tetri_space.specs.Spans.{AreSpansOf};
     ghost use Rattle.tetri_space.specs.declared.closure.Closure.{Closure};
 
     ghost Value = { List Closure };
@@ -26,52 +26,6 @@ impl Model for Closures {
     ghost view = { λ c. c.given.items };
 
     ghost invariant = { λ c. AreSpansOf c.given.items c.spans.items };
-}
-
-// A number that ascends by node, and by first slot within a node.
-fn place(closure: &Closure) -> u64
-    ensures { result ≡ place_of closure.now }
-{
-    u64::from(closure.node) * 4_294_967_296 + u64::from(closure.from)
-}
-
-// The closures that close some slot, ascending by node and first slot.
-fn sorted(alloc: Global, given: &[Closure]) -> Result<Vec<Closure>, AllocError>
-    ensures same { IfOk result (λ v. (n t : ℕ) → is_closed_by v.items n t ≡ is_closed_by given.now n t) }
-    ensures some_slots { IfOk result (λ v. All (λ c. c.from ≤ c.to) v.items) }
-    ensures ascending { IfOk result (λ v. IsNonDecreasingBy place_of v.items) }
-{
-    let mut closures = Vec::new(alloc);
-    for closure in given {
-        if closure.from <= closure.to {
-            closures.push(*closure)?;
-        }
-    }
-    closures.sort_unstable_by_key(|closure| place(closure));
-    Ok(closures)
-}
-
-// The spans of ascending closures: those of a node that overlap or touch are one.
-fn merged(alloc: Global, closures: &[Closure]) -> Result<Vec<Closure>, AllocError>
-    requires some_slots { All (λ c. c.from ≤ c.to) closures.now }
-    requires ascending { IsNonDecreasingBy place_of closures.now }
-    ensures { IfOk result (λ v. AreSpansOf closures.now v.items) }
-{
-    let mut spans = Vec::new(alloc);
-    let Some((first, rest)) = closures.split_first() else {
-        return Ok(spans);
-    };
-    let mut last = *first;
-    for closure in rest {
-        if last.node == closure.node && (closure.from <= last.to || closure.from - last.to == 1) {
-            last.to = last.to.max(closure.to);
-        } else {
-            spans.push(last)?;
-            last = *closure;
-        }
-    }
-    spans.push(last)?;
-    Ok(spans)
 }
 
 impl Closures {
@@ -89,12 +43,8 @@ impl Closures {
     pub fn of(alloc: Global, given: Vec<Closure>) -> Result<Self, AllocError>
         ensures { IfOk result (λ c. c ≡ given.items) }
     {
-        let closures = sorted(alloc, given.as_slice())?;
-        let spans = merged(alloc, closures.as_slice())?;
-        Ok(Closures {
-            given,
-            spans,
-        })
+        let spans = spans_of(alloc, given.as_slice())?;
+        Ok(Closures { given, spans })
     }
 
     /// The closures as they were given.
@@ -131,6 +81,7 @@ impl Closures {
         turns: &mut Vec<u32>,
     ) -> Result<(), AllocError>
         requires few { base < 2 ^ 31 }
+        requires early { now < 2 ^ 31 }
         requires within { All (λ c. c.to < 2 ^ 31) self.now }
         ensures { OnOk result ((ts : List ℕ) × (turns.new.items ≡ turns.old.items ++ ts) × AreTurns self.now node now base ts) }
     {
