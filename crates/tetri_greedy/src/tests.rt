@@ -12,7 +12,7 @@ use std::process::Abort;
 use std::rc::Rc;
 use std::test::Fail;
 use tetri_cluster::{NodeSet, Sets};
-use tetri_space::Instance;
+use tetri_space::{Closures, Instance};
 use tetri_strl::{Expr, Leaf};
 
 fn four_nodes(alloc: Global) -> Result<NodeSet, AllocError>
@@ -49,6 +49,7 @@ fn without_jobs(alloc: Global) -> Result<Instance, AllocError>
         sets: Rc::new(alloc, one_set(alloc)?)?,
         busy_until: vec![in alloc; 5, 7, 5, 5, 5, 5]?,
         drained: vec![in alloc; false, false, true, false, false, false]?,
+        closures: Rc::new(alloc, Closures::new(alloc))?,
         jobs: Vec::new(alloc),
     })
 }
