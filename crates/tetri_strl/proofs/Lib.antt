@@ -7,6 +7,7 @@ pub mod ThriftOfOthers
 pub mod ThriftyLemmas
 pub mod TreeLemmas
 pub mod TrimLemmas
+pub mod TrimOfOthers
 pub mod TrimThrift
 pub mod TrimWorth
 pub mod WasteLemmas
