@@ -1,5 +1,6 @@
 pub mod AlignedLemmas
 pub mod GrantLemmas
+pub mod GrantedWorth
 pub mod OneStart
 pub mod PartsApart
 pub mod PruneLemmas

@@ -57,3 +57,13 @@ module _ (P : Grant → Type 0) (job : ℕ) (ns : List ℕ) where
 
 pub trimmed_of_job : (P : Grant → Type 0) (a : List Grant) (job : ℕ) (t : Tree) → All P a → All (λ g. P g × (g.job ≡ job)) (trimmed a job t)
 trimmed_of_job P a job t all = earning P job (idle (leaf_worth a job) t) a all
+
+-- a filter by both tests
+pub filter-both : (p q : Grant → Bool) (a : List Grant) → filter (λ g. p g && q g) a ≡ filter q (filter p a)
+filter-both p q [] = refl
+filter-both p q (g ∷ gs) = by_tests (p g) (filter-both p q gs)
+  where
+    by_tests : (b : Bool) → filter (λ h. p h && q h) gs ≡ filter q (filter p gs) →
+        cond (b && q g) (g ∷ filter (λ h. p h && q h) gs) (filter (λ h. p h && q h) gs) ≡ filter q (cond b (g ∷ filter p gs) (filter p gs))
+    by_tests true e = ap (λ xs. cond (q g) (g ∷ xs) xs) e
+    by_tests false e = e
