@@ -16,7 +16,7 @@ use Rattle.tetri_compile.specs.Draft.{Draft, bid_rows, bid_tallies, bid_uppers, 
 use Rattle.tetri_compile.specs.Flat.{column_count}
 use Rattle.tetri_compile.specs.Forms.{Form, Limit, plain_limit}
 use Rattle.tetri_compile.specs.Small.{IsSmallForm, IsSmallLimit}
-use Rattle.tetri_compile.specs.Walked.{Grows, IsReady, inside, next_column, room}
+use Rattle.tetri_compile.specs.Walked.{Grows, IsReady, inside, next_column, room, usable}
 use Rattle.tetri_compile.proofs.SmallLemmas.{bid_rows_small, bid_tallies_few, bid_tallies_in, free_few, objective_small, supply_small}
 use Rattle.tetri_compile.proofs.WidthLemmas.{bids_ready}
 
@@ -32,31 +32,31 @@ made_same us vs f g rs qs cs ds a b c d = ap (λ x. made x f rs cs) a ∙ ap (λ
 
 module _ (s : Space) (p : Parts) (are : ArePartitionsOf s p) (o walked full : Outline) (f : Form)
     (no_uppers : o.uppers.items ≡ []) (no_rows : o.rows.items ≡ []) (no_tallies : o.tallies.items ≡ [])
-    (is : f ≡ objective (inside s) (room s) p.bids (next_column o))
-    (bids : Grows o walked (bid_uppers (inside s) (room s) p.bids) (bid_rows (inside s) (room s) p.bids (next_column o)) (bid_tallies (inside s) (room s) p.bids (next_column o)))
-    (supplied : Grows walked full [] (supply (inside s) (room s) walked.tallies.items (range_with_len s.now s.window) (range_with_len 0 (length (partitions s)))) []) where
+    (is : f ≡ objective (inside s) (usable s) p.bids (next_column o))
+    (bids : Grows o walked (bid_uppers (inside s) (usable s) p.bids) (bid_rows (inside s) (usable s) p.bids (next_column o)) (bid_tallies (inside s) (usable s) p.bids (next_column o)))
+    (supplied : Grows walked full [] (supply (room s) walked.tallies.items (range_with_len s.now s.window) (range_with_len 0 (length (partitions s)))) []) where
   none_yet : next_column o ≡ 0
   none_yet = ap (λ (us : List ℕ). length us) no_uppers
 
-  tallies_are : walked.tallies.items ≡ bid_tallies (inside s) (room s) (live_bids s) 0
+  tallies_are : walked.tallies.items ≡ bid_tallies (inside s) (usable s) (live_bids s) 0
   tallies_are =
-      bids.tallies ∙ ap (λ (cs : List Tally). cs ++ bid_tallies (inside s) (room s) p.bids (next_column o)) no_tallies
-      ∙ ap (λ (n : ℕ). bid_tallies (inside s) (room s) p.bids n) none_yet ∙ ap (λ (bs : List Bid). bid_tallies (inside s) (room s) bs 0) are.bids
+      bids.tallies ∙ ap (λ (cs : List Tally). cs ++ bid_tallies (inside s) (usable s) p.bids (next_column o)) no_tallies
+      ∙ ap (λ (n : ℕ). bid_tallies (inside s) (usable s) p.bids n) none_yet ∙ ap (λ (bs : List Bid). bid_tallies (inside s) (usable s) bs 0) are.bids
 
-  rows_are : map plain_limit walked.rows.items ≡ bid_rows (inside s) (room s) (live_bids s) 0
+  rows_are : map plain_limit walked.rows.items ≡ bid_rows (inside s) (usable s) (live_bids s) 0
   rows_are =
-      bids.rows ∙ ap (λ rs. map plain_limit rs ++ bid_rows (inside s) (room s) p.bids (next_column o)) no_rows
-      ∙ ap (λ (n : ℕ). bid_rows (inside s) (room s) p.bids n) none_yet ∙ ap (λ (bs : List Bid). bid_rows (inside s) (room s) bs 0) are.bids
+      bids.rows ∙ ap (λ rs. map plain_limit rs ++ bid_rows (inside s) (usable s) p.bids (next_column o)) no_rows
+      ∙ ap (λ (n : ℕ). bid_rows (inside s) (usable s) p.bids n) none_yet ∙ ap (λ (bs : List Bid). bid_rows (inside s) (usable s) bs 0) are.bids
 
   pub draft_is : outline_draft full f ≡ draft s
   draft_is =
       made_same full.uppers.items (draft s).uppers f (draft s).objective (map plain_limit full.rows.items) (draft s).rows full.tallies.items (draft s).tallies
-      (supplied.uppers ∙ append-nil walked.uppers.items ∙ bids.uppers ∙ ap (λ (us : List ℕ). us ++ bid_uppers (inside s) (room s) p.bids) no_uppers
-      ∙ ap (λ (bs : List Bid). bid_uppers (inside s) (room s) bs) are.bids)
-      (is ∙ ap (λ (n : ℕ). objective (inside s) (room s) p.bids n) none_yet ∙ ap (λ (bs : List Bid). objective (inside s) (room s) bs 0) are.bids)
+      (supplied.uppers ∙ append-nil walked.uppers.items ∙ bids.uppers ∙ ap (λ (us : List ℕ). us ++ bid_uppers (inside s) (usable s) p.bids) no_uppers
+      ∙ ap (λ (bs : List Bid). bid_uppers (inside s) (usable s) bs) are.bids)
+      (is ∙ ap (λ (n : ℕ). objective (inside s) (usable s) p.bids n) none_yet ∙ ap (λ (bs : List Bid). objective (inside s) (usable s) bs 0) are.bids)
       (supplied.rows
-      ∙ ap (λ (rs : List Limit). rs ++ supply (inside s) (room s) walked.tallies.items (range_with_len s.now s.window) (range_with_len 0 (length (partitions s)))) rows_are
-      ∙ ap (λ (cs : List Tally). bid_rows (inside s) (room s) (live_bids s) 0 ++ supply (inside s) (room s) cs (range_with_len s.now s.window) (range_with_len 0 (length (partitions s)))) tallies_are)
+      ∙ ap (λ (rs : List Limit). rs ++ supply (room s) walked.tallies.items (range_with_len s.now s.window) (range_with_len 0 (length (partitions s)))) rows_are
+      ∙ ap (λ (cs : List Tally). bid_rows (inside s) (usable s) (live_bids s) 0 ++ supply (room s) cs (range_with_len s.now s.window) (range_with_len 0 (length (partitions s)))) tallies_are)
       (supplied.tallies ∙ append-nil walked.tallies.items ∙ tallies_are)
 
 module _ (s : Space) (sound : IsSoundSpace s) (p : Parts) (are : ArePartitionsOf s p) where
@@ -69,11 +69,11 @@ module _ (s : Space) (sound : IsSoundSpace s) (p : Parts) (are : ArePartitionsOf
   draft_small few =
       let bs = live_bids s in
       let top = column_count s in
-      let cs = bid_tallies (inside s) (room s) bs 0 in (
-        objective_small (inside s) (room s) top few bs sound_bids (omega arith),
-        Each-append (IsSmallLimit top) (bid_rows (inside s) (room s) bs 0) (supply (inside s) (room s) cs (range_with_len s.now s.window) (range_with_len 0 (length (partitions s))))
-            (bid_rows_small (inside s) (room s) top few bs 0 sound_bids (omega arith))
-            (supply_small (inside s) (room s) top few (free_few s sound) cs (bid_tallies_in (inside s) (room s) top few bs 0 (omega arith)) (bid_tallies_few (inside s) (room s) top few bs 0)
+      let cs = bid_tallies (inside s) (usable s) bs 0 in (
+        objective_small (inside s) (usable s) top few bs sound_bids (omega arith),
+        Each-append (IsSmallLimit top) (bid_rows (inside s) (usable s) bs 0) (supply (room s) cs (range_with_len s.now s.window) (range_with_len 0 (length (partitions s))))
+            (bid_rows_small (inside s) (usable s) top few bs 0 sound_bids (omega arith))
+            (supply_small (inside s) (usable s) top few (room s) (free_few s sound) cs (bid_tallies_in (inside s) (usable s) top few bs 0 (omega arith)) (bid_tallies_few (inside s) (usable s) top few bs 0)
             (range_with_len s.now s.window) (range_with_len 0 (length (partitions s)))),
       )
 

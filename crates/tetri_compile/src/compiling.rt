@@ -16,7 +16,7 @@ ghost use Rattle.tetri_compile.specs.Draft.{bid_rows, bid_tallies, bid_uppers, o
 ghost use Rattle.tetri_compile.specs.Flat.{IsCompiled, column_count, row_count};
 ghost use Rattle.tetri_compile.specs.Gain.{most_gain};
 ghost use Rattle.tetri_compile.specs.Room.{AreRooms};
-ghost use Rattle.tetri_compile.specs.Walked.{Grows, IsReady, inside, next_column, room};
+ghost use Rattle.tetri_compile.specs.Walked.{Grows, IsReady, inside, next_column, usable};
 
 use crate::flattening::{counts_from, flatten};
 use crate::outline::{Outline, Share};
@@ -61,12 +61,12 @@ fn walk_bids(
     requires partitions { ArePartitionsOf (space inst.now) (parts_of parts.now) }
     requires rooms { AreRooms (space inst.now) rooms.now }
     requires ready { Each (λ b. IsSound b.expr × EachLeaf (IsReady (space inst.now) (parts_of parts.now)) b.expr) (parts_of parts.now).bids }
-    requires fits { next_column out.old + length (bid_uppers (inside (space inst.now)) (room (space inst.now)) (parts_of parts.now).bids) < 2 ^ 31 }
-    ensures form { IfOk result (λ f. f.items ≡ objective (inside (space inst.entry.now)) (room (space inst.entry.now)) (parts_of parts.now).bids (next_column out.old)) }
+    requires fits { next_column out.old + length (bid_uppers (inside (space inst.now)) (usable (space inst.now)) (parts_of parts.now).bids) < 2 ^ 31 }
+    ensures form { IfOk result (λ f. f.items ≡ objective (inside (space inst.entry.now)) (usable (space inst.entry.now)) (parts_of parts.now).bids (next_column out.old)) }
     ensures grows { OnOk result (Grows out.old out.new
-        (bid_uppers (inside (space inst.entry.now)) (room (space inst.entry.now)) (parts_of parts.now).bids)
-        (bid_rows (inside (space inst.entry.now)) (room (space inst.entry.now)) (parts_of parts.now).bids (next_column out.old))
-        (bid_tallies (inside (space inst.entry.now)) (room (space inst.entry.now)) (parts_of parts.now).bids (next_column out.old))) }
+        (bid_uppers (inside (space inst.entry.now)) (usable (space inst.entry.now)) (parts_of parts.now).bids)
+        (bid_rows (inside (space inst.entry.now)) (usable (space inst.entry.now)) (parts_of parts.now).bids (next_column out.old))
+        (bid_tallies (inside (space inst.entry.now)) (usable (space inst.entry.now)) (parts_of parts.now).bids (next_column out.old))) }
 {
     let mut form = Vec::new(alloc);
     for offer in parts.offers() {

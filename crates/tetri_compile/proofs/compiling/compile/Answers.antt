@@ -7,7 +7,7 @@ use Rattle.tetri_space.specs.Space.{space}
 use Rattle.tetri_compile.specs.Draft.{Draft, draft}
 use Rattle.tetri_compile.specs.Flat.{FlatProgram, column_count, count_of, flat, plain, program_of}
 use Rattle.tetri_compile.specs.Forms.{Form}
-use Rattle.tetri_compile.specs.Walked.{inside, room}
+use Rattle.tetri_compile.specs.Walked.{inside, usable}
 use Rattle.tetri_compile.specs.Small.{IsSmallForm, IsSmallLimit}
 use Rattle.tetri_compile.proofs.CompileLemmas.{draft_is, draft_small, outline_draft, sound_bids, zeros_all}
 use Rattle.tetri_compile.proofs.CountLemmas.{counts_are}
@@ -64,7 +64,7 @@ returns-clause-fit c =
     c.in_ok-program.ensures ∙ ap (λ (f : Form). flat (outline_draft c.add_supply.new.out f)) c.deref.ensures.value ∙ ap flat is in
     let bids = sound_bids s c.requires.sound (parts_of c.args.parts.now) c.requires.partitions in
     let small = draft_small s c.requires.sound (parts_of c.args.parts.now) c.requires.partitions c.requires.columns in
-    program_fit (draft s) (column_count s) c.requires.columns refl c.requires.rows (bid_uppers_small (inside s) (room s) (live_bids s) bids) small.0 small.1 c.in_ok-program.program program
+    program_fit (draft s) (column_count s) c.requires.columns refl c.requires.rows (bid_uppers_small (inside s) (usable s) (live_bids s) bids) small.0 small.1 c.in_ok-program.program program
 
 pub returns-clause-counts : goal.returns-clause-counts
 returns-clause-counts c =
@@ -76,7 +76,7 @@ returns-clause-counts c =
     c.in_ok-program.ensures ∙ ap (λ (f : Form). flat (outline_draft c.add_supply.new.out f)) c.deref.ensures.value ∙ ap flat is in
     let bids = sound_bids s c.requires.sound (parts_of c.args.parts.now) c.requires.partitions in
     let counts = c.in_ok-counts.ensures ∙ ap (map count_of) (c.deref-2.ensures.value ∙ ap (λ (d : Draft). d.tallies) is) in
-    counts_are (inside s) (room s) (live_bids s) bids (draft s) refl refl c.in_ok-program.program program c.in_ok-counts.counts.items counts
+    counts_are (inside s) (usable s) (live_bids s) bids (draft s) refl refl c.in_ok-program.program program c.in_ok-counts.counts.items counts
 
 pub returns-clause-bounded : goal.returns-clause-bounded
 returns-clause-bounded c =
@@ -87,4 +87,4 @@ returns-clause-bounded c =
     let program : plain c.in_ok-program.program ≡ program_of s =
     c.in_ok-program.ensures ∙ ap (λ (f : Form). flat (outline_draft c.add_supply.new.out f)) c.deref.ensures.value ∙ ap flat is in
     let bids = sound_bids s c.requires.sound (parts_of c.args.parts.now) c.requires.partitions in
-    gain_small (inside s) (room s) (live_bids s) bids (draft s) c.requires.columns refl refl c.in_ok-program.program program
+    gain_small (inside s) (usable s) (live_bids s) bids (draft s) c.requires.columns refl refl c.in_ok-program.program program
