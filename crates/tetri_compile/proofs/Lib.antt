@@ -9,6 +9,7 @@ pub mod FitLemmas
 pub mod FlatLemmas
 pub mod FormLemmas
 pub mod FormSizes
+pub mod GainLaws
 pub mod GainLemmas
 pub mod GrantLemmas
 pub mod KidLemmas
