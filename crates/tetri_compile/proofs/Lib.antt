@@ -20,6 +20,7 @@ pub mod OutlineLemmas
 pub mod ProgramLemmas
 pub mod RoomLemmas
 pub mod SizeLemmas
+pub mod SlotLemmas
 pub mod SmallLemmas
 pub mod TallyLemmas
 pub mod ThriftOfLeft
