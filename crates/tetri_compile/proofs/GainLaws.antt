@@ -1,11 +1,11 @@
 -- No point of a program whose lower bounds are 0 earns more than its columns can.
-use Rattle.std.proofs.Common.{◌≡◌, ℕ, zero, suc, ◌+◌, ◌*◌, ◌<◌, ◌≤◌, ◌≢◌, cond, true, false, List, [], ◌∷◌, length, get_or, All, sym, ap, ◌∙◌, subst, arith, refl, ⊎_elim}
+use Rattle.std.proofs.Common.{◌≡◌, ℕ, zero, suc, ◌+◌, ◌*◌, ◌<◌, ◌≤◌, cond, true, false, List, [], ◌∷◌, length, All, sym, ap, ◌∙◌, subst, arith, refl, ⊎_elim, true≢false}
 use Rattle.std.specs.Prelude.{unsigned_abs, ◌≤ℤ◌}
 use Rattle.std.specs.List.{range_with_len}
 use Rattle.std.proofs.Math.Nat.{mul-le-mul_left}
-use Rattle.std.proofs.lemmas.Bool.{cond_both, cases_lt}
+use Rattle.std.proofs.lemmas.Bool.{cond_both, cases_lt, ltb-false}
 use Rattle.std.proofs.lemmas.Int.{ints}
-use borrow.Author.Differences.{up, down}
+use borrow.Author.Differences.{up}
 use lib.IntN.{ℤ, pos, negsuc, ◌+ℤ◌, ◌*ℤ◌}
 use lib.Signed.{lt_z}
 use Rattle.tetri_algebra.specs.IntegerRing.{ℤ_ring}
@@ -23,11 +23,10 @@ cost_gain c m n le =
   where
     above : (z : ℤ) → lt_z (pos 0) z ≡ true → (z *ℤ pos m) ≤ℤ pos (unsigned_abs z * n)
     above (pos a) e = let g : a * m ≤ a * n = mul-le-mul_left a le in omega (arith, ints, g)
-    above (negsuc a) e = absurd cc
+    above (negsuc a) e = absurd (true≢false (sym e))
 
     not_above : (z : ℤ) → lt_z (pos 0) z ≡ false → (z *ℤ pos m) ≤ℤ pos 0
-    not_above (pos zero) e = omega (arith, ints)
-    not_above (pos (suc a)) e = absurd cc
+    not_above (pos a) e = let none : a ≡ 0 = omega (arith, ltb-false 0 a e) in subst (λ (k : ℕ). (pos k *ℤ pos m) ≤ℤ pos 0) (sym none) (omega (arith, ints))
     not_above (negsuc a) e = omega (arith, ints)
 
 whole_gain : (c x u : ℤ) → pos 0 ≤ℤ x → x ≤ℤ u → (c *ℤ x) ≤ℤ pos (cond (lt_z (pos 0) c) (unsigned_abs c * unsigned_abs u) 0)

@@ -1,5 +1,6 @@
 pub mod BoxLemmas
 pub mod ByPartLemmas
+pub mod CoefficientLemmas
 pub mod CompileLemmas
 pub mod CountLemmas
 pub mod EntryLemmas
@@ -16,6 +17,7 @@ pub mod KidLemmas
 pub mod LawLemmas
 pub mod LawfulLemmas
 pub mod ManyJobs
+pub mod NumberLemmas
 pub mod OutlineLemmas
 pub mod ProgramLemmas
 pub mod RoomLemmas

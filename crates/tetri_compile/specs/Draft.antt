@@ -1,12 +1,13 @@
 -- The program of a list of bids, by forms and limits, and the columns that count nodes.
-use Rattle.std.specs.Prelude.{ℕ, ◌+◌, Bool, ◌&&◌, ◌==◌, nat_lt, nat_le, List, [], ◌∷◌, ◌++◌, length}
+use Rattle.std.specs.Prelude.{ℕ, ◌+◌, Bool, ◌&&◌, ◌==◌, nat_lt, nat_le, List, [], ◌∷◌, ◌++◌, length, map}
 use Rattle.std.specs.List.{filter, range_with_len}
 use Rattle.tetri_strl.specs.declared.expr.Leaf.{Leaf}
 use Rattle.tetri_strl.specs.Tree.{Tree, one, join, scale, barrier, Trees, none, more}
 use Rattle.tetri_space.specs.Space.{Bid, Space}
 use Rattle.tetri_space.specs.Partitions.{live_bids, partitions, parts_in, available}
+use Rattle.tetri_compile.specs.declared.outline.Outline.{Outline}
 use Rattle.tetri_compile.specs.declared.outline.Tally.{Tally}
-use Rattle.tetri_compile.specs.Forms.{Form, share, Limit}
+use Rattle.tetri_compile.specs.Forms.{Form, share, Limit, plain_limit}
 use Rattle.tetri_compile.specs.Usable.{usable_by}
 use Rattle.tetri_compile.specs.Walk.{own_uppers, uppers, width, form, rows}
 
@@ -78,6 +79,10 @@ pub record Draft : Type 0 where
   pub objective : Form
   pub rows : List Limit
   pub tallies : List Tally
+
+-- what an outline says, and what its columns earn
+abbrev pub outline_draft : Outline → Form → Draft
+outline_draft o f = record { uppers = o.uppers.items; objective = f; rows = map plain_limit o.rows.items; tallies = o.tallies.items }
 
 -- the program of these bids over these partitions
 abbrev pub draft_of : Space → List Bid → List (List ℕ) → Draft
