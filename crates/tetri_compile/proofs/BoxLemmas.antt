@@ -1,5 +1,5 @@
 -- The marks and counts of fair grants lie in the program's box.
-use Rattle.std.proofs.Common.{ℕ, ◌≤◌, min, Bool, true, false, cond, List, [], ◌∷◌, ◌++◌, length, map, Contains, refl, arith, le_trans, ◌≡◌}
+use Rattle.std.proofs.Common.{ℕ, ◌+◌, ◌<◌, ◌≤◌, min, Bool, true, false, cond, List, [], ◌∷◌, ◌++◌, length, map, Contains, refl, arith, le_trans, ◌≡◌}
 use Rattle.tetri_strl.specs.declared.expr.Leaf.{Leaf}
 use Rattle.tetri_strl.specs.declared.grants.Grant.{Grant}
 use Rattle.tetri_strl.specs.Aligned.{EachLeaf, EachLeafOf}

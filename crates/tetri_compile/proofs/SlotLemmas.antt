@@ -14,12 +14,12 @@ pub record IsSomeSlot (p : ℕ → Bool) (a n : ℕ) : Type 0 where
 
 pub any_in_range : (p : ℕ → Bool) (a n : ℕ) → list_any p (range_with_len a n) ≡ true → IsSomeSlot p a n
 any_in_range p a zero e = absurd (true≢false (sym e))
-any_in_range p a (suc n) e = by_first (p a) refl e
+any_in_range p a (suc n) e = by_first (p a) refl e (any_in_range p (a + 1) n)
   where
-    by_first : (b : Bool) → p a ≡ b → (b || list_any p (range_with_len (a + 1) n)) ≡ true → IsSomeSlot p a (suc n)
-    by_first true first h = record { slot = a; low = omega arith; high = omega arith; passes = first }
-    by_first false first h =
-        let at = any_in_range p (a + 1) n h in
+    by_first : (b : Bool) → p a ≡ b → (b || list_any p (range_with_len (a + 1) n)) ≡ true → (list_any p (range_with_len (a + 1) n) ≡ true → IsSomeSlot p (a + 1) n) → IsSomeSlot p a (suc n)
+    by_first true first h later = record { slot = a; low = omega arith; high = omega arith; passes = first }
+    by_first false first h later =
+        let at = later h in
         record { slot = at.slot; low = omega (arith, at.low); high = omega (arith, at.high); passes = at.passes }
 
 -- where none passes, one of them fails
@@ -28,8 +28,8 @@ none_in_range p a n t none low high = false_from_ne_true (p t) (λ e. true≢fal
 
 pub none_of : {X : Type 0} (p : X → Bool) (xs : List X) → list_any p xs ≡ false → Each (λ x. p x ≡ false) xs
 none_of p [] e = tt
-none_of p (x ∷ xs) e = by_first (p x) refl e
+none_of p (x ∷ xs) e = by_first (p x) refl e (none_of p xs)
   where
-    by_first : (b : Bool) → p x ≡ b → (b || list_any p xs) ≡ false → (p x ≡ false) × Each (λ y. p y ≡ false) xs
-    by_first true first h = absurd (true≢false h)
-    by_first false first h = (first, none_of p xs h)
+    by_first : (b : Bool) → p x ≡ b → (b || list_any p xs) ≡ false → (list_any p xs ≡ false → Each (λ y. p y ≡ false) xs) → (p x ≡ false) × Each (λ y. p y ≡ false) xs
+    by_first true first h later = absurd (true≢false h)
+    by_first false first h later = (first, later h)
