@@ -13,7 +13,7 @@ use Rattle.tetri_base.proofs.ListLaws.{Each-map, Each-all, Each-append, Each-acr
 use Rattle.tetri_compile.specs.declared.outline.Tally.{Tally}
 use Rattle.tetri_compile.specs.Draft.{bid_tallies, draft}
 use Rattle.tetri_compile.specs.Walk.{width}
-use Rattle.tetri_compile.proofs.TallyLemmas.{IsOf, tallies_leaf, tallies_other}
+use Rattle.tetri_compile.proofs.ProgramLaws.{Each-has, IsOf, counts_are, tallies_leaf, tallies_other}
 use Rattle.std.specs.List.Sorted.{IsNonDecreasingBy, IsPermutation}
 use lib.IntN.{ℤ}
 use Rattle.tetri_ip.specs.Points.{IsPoint, box_of}
@@ -23,8 +23,6 @@ use Rattle.tetri_compile.specs.declared.compiling.Compiled.{Compiled}
 use Rattle.tetri_compile.specs.declared.taking.Taken.{Taken}
 use Rattle.tetri_compile.specs.Counting.{AreCountsOf, taken_at}
 use Rattle.tetri_compile.specs.Flat.{IsCompiled}
-use Rattle.tetri_compile.proofs.CountLemmas.{counts_are}
-use Rattle.tetri_compile.proofs.FairLemmas.{Each-has}
 use Rattle.tetri_assign.specs.Assigned.{all_held, assigned, count_at, gathered}
 use Rattle.tetri_assign.specs.Taking.{NEVER, back_at, backs, taken_from, want_of, wants_from}
 use Rattle.tetri_assign.specs.declared.held.Held.{Held}

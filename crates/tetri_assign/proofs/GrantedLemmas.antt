@@ -16,15 +16,13 @@ use Rattle.tetri_compile.specs.declared.outline.Tally.{Tally}
 use Rattle.tetri_compile.specs.Draft.{tallies, bid_uppers, objective, bid_rows, bid_tallies}
 use Rattle.tetri_compile.specs.Forms.{at_point, run, AreMet, Within}
 use Rattle.tetri_compile.specs.Walk.{own_uppers, uppers, width, form, rows}
-use Rattle.tetri_compile.proofs.FormLemmas.{at_point-append, Within-split, AreMet-split}
-use Rattle.tetri_compile.proofs.TallyLemmas.{IsOf, tallies_leaf}
+use Rattle.tetri_compile.proofs.ProgramLaws.{AreMet-split, IsOf, Within-split, at_point-append, tallies_leaf, worth_of_bids}
 use Rattle.tetri_assign.specs.Assigned.{Piece, piece, pieces, all_held, held_before, gathered}
 use Rattle.tetri_base.specs.Order.{in_order}
 use Rattle.tetri_assign.proofs.Counted.{AtLeaves, AtLeavesOf, IsCounted}
 use Rattle.tetri_assign.proofs.FormBelow.{form_le}
 use Rattle.tetri_assign.proofs.LeafSums.{EachLeaf-at, AtLeaves-map, tree_sum, number_sum, few}
 use Rattle.tetri_compile.specs.Allotted.{granted_in}
-use Rattle.tetri_compile.proofs.FairLemmas.{worth_of_bids}
 use Rattle.tetri_assign.proofs.HeldLemmas.{weigh_pieces, granted_weigh}
 use Rattle.tetri_assign.proofs.Meeting.{parts, inside, usable, cs, IsMeeting, ordered, made_pieces, part_ascends, parts_differ, right, rows_met, zeros_vanish, cond_zero}
 use Rattle.tetri_assign.proofs.Pieces.{IsExact}

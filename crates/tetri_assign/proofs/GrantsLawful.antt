@@ -16,7 +16,7 @@ use Rattle.tetri_compile.specs.declared.outline.Tally.{Tally}
 use Rattle.std.proofs.lemmas.Option.{same_Some}
 use Rattle.tetri_compile.specs.Sizes.{covers}
 use Rattle.tetri_compile.specs.Usable.{is_shut}
-use Rattle.tetri_compile.proofs.FairLemmas.{Each-has}
+use Rattle.tetri_compile.proofs.ProgramLaws.{Each-has}
 use Rattle.tetri_assign.specs.Assigned.{Piece, held, all_held}
 use Rattle.tetri_assign.specs.declared.held.Held.{Held}
 use Rattle.tetri_assign.proofs.Turns.{EachPair-get}

@@ -23,9 +23,7 @@ use Rattle.tetri_space.proofs.PrunedLemmas.{IsLeafOf, AllLeavesOf, lefts_good, l
 use Rattle.tetri_compile.specs.Draft.{draft}
 use Rattle.tetri_compile.specs.Flat.{FlatProgram, FlatRow, coefficient, plain, program_of}
 use Rattle.tetri_compile.specs.Forms.{Within}
-use Rattle.tetri_compile.proofs.FairLemmas.{lt_from_test, le_from_test}
-use Rattle.tetri_compile.proofs.FlatLemmas.{at_column, RowsMet, meets_to, flat_met, flat_objective}
-use Rattle.tetri_compile.proofs.LawfulLemmas.{goods, other_jobs, live_total}
+use Rattle.tetri_compile.proofs.ProgramLaws.{RowsMet, at_column, flat_met, flat_objective, goods, le_from_test, live_total, lt_from_test, meets_to, other_jobs}
 use Rattle.tetri_assign.specs.Assigned.{assigned}
 use Rattle.tetri_assign.specs.Granting.{GrantsCounts}
 use Rattle.tetri_assign.proofs.GrantedLemmas.{granted_sum, granted_parts, earns_no_less}

@@ -8,8 +8,7 @@ use Rattle.tetri_space.specs.Partitions.{is_closed_part, part_at}
 use Rattle.tetri_space.specs.Space.{Space}
 use Rattle.tetri_space.proofs.ClosedLaws.{idle_later}
 use Rattle.tetri_compile.specs.Usable.{is_shut}
-use Rattle.tetri_compile.proofs.FairLemmas.{Each-has}
-use Rattle.tetri_compile.proofs.SlotLemmas.{none_in_range, none_of}
+use Rattle.tetri_compile.proofs.ProgramLaws.{Each-has, none_in_range, none_of}
 
 pub idle_of_free : (i : Space) (n t : ℕ) → is_free i n t ≡ true → is_idle i n t ≡ true
 idle_of_free i n t e = (and_parts (is_idle i n t) (not (is_closed i n t)) e).0

@@ -16,8 +16,7 @@ use Rattle.tetri_compile.specs.Draft.{bid_uppers, bid_rows, bid_tallies, leaf_ta
 use Rattle.tetri_compile.specs.Forms.{AreMet, Within}
 use Rattle.tetri_compile.specs.Usable.{is_shut, usable_by}
 use Rattle.tetri_compile.specs.Walk.{own_uppers, uppers, uppers_of, width}
-use Rattle.tetri_compile.proofs.FormLemmas.{AreMet-split, Within-split}
-use Rattle.tetri_compile.proofs.TallyLemmas.{IsOf, tallies_leaf}
+use Rattle.tetri_compile.proofs.ProgramLaws.{AreMet-split, IsOf, Within-split, tallies_leaf}
 use Rattle.std.proofs.lemmas.Option.{same_Some}
 use Rattle.tetri_strl.proofs.WorthLemmas.{each_good}
 use Rattle.tetri_compile.specs.Sizes.{covers}

@@ -13,7 +13,7 @@ use Rattle.tetri_space.specs.Space.{Space}
 use Rattle.tetri_base.proofs.ListLaws.{test_from_eq, bit-le, bit_or-le, common-le, sum_of-le, sum_of-eq, sum_of-plus, sum_of-zero, sum_of-swap, Each-map, Each-all, Each-both, Each-at, Each-from, any_from, has-filter, filter-ascends}
 use Rattle.tetri_compile.specs.declared.outline.Tally.{Tally}
 use Rattle.tetri_compile.specs.Draft.{is_held}
-use Rattle.tetri_compile.proofs.FairLemmas.{lt_from_test, le_from_test}
+use Rattle.tetri_compile.proofs.ProgramLaws.{le_from_test, lt_from_test}
 use Rattle.tetri_compile.specs.Sizes.{covers}
 use Rattle.tetri_assign.specs.Assigned.{Piece, is_taken, spare, piece, pieces}
 

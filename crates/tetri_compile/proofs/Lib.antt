@@ -18,6 +18,7 @@ pub mod LawLemmas
 pub mod LawfulLemmas
 pub mod NumberLemmas
 pub mod OutlineLemmas
+pub mod ProgramLaws
 pub mod ProgramLemmas
 pub mod RoomLemmas
 pub mod SizeLemmas
