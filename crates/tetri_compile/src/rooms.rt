@@ -74,13 +74,7 @@ fn idle_at(inst: &Instance, rooms: &Rooms, part: u32, slot: u32) -> u64
 }
 
 /// How many nodes of a partition of the instance are free in a slot from now on.
-pub fn room_at(
-    inst: &Instance,
-    parts: &Partitions,
-    rooms: &Rooms,
-    part: u32,
-    slot: u32,
-) -> u64
+pub fn room_at(inst: &Instance, parts: &Partitions, rooms: &Rooms, part: u32, slot: u32) -> u64
     requires sound { IsSound (space inst.now) }
     requires partitions { ArePartitionsOf (space inst.now) (parts_of parts.now) }
     requires rooms { AreRooms (space inst.now) rooms.now }
@@ -95,13 +89,7 @@ pub fn room_at(
 }
 
 /// How many nodes of a partition of the instance a leaf may get that does not start before now.
-pub fn usable_by(
-    inst: &Instance,
-    parts: &Partitions,
-    rooms: &Rooms,
-    part: u32,
-    leaf: &Leaf,
-) -> u64
+pub fn usable_by(inst: &Instance, parts: &Partitions, rooms: &Rooms, part: u32, leaf: &Leaf) -> u64
     requires sound { IsSound (space inst.now) }
     requires partitions { ArePartitionsOf (space inst.now) (parts_of parts.now) }
     requires rooms { AreRooms (space inst.now) rooms.now }
