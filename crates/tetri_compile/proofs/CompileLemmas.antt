@@ -94,8 +94,8 @@ module _ (s : Space) (sound : IsSoundSpace s) (p : Parts) (are : ArePartitionsOf
 
   -- ---- the program of this draft
   module _ (few : column_count s ≤ 2000) (few_rows : row_count s ≤ 2000) (q : Program) (is : plain q ≡ program_of s) where
-    pub program_is_fit : IsFit q
-    program_is_fit =
+    pub compiled_is_fit : IsFit q
+    compiled_is_fit =
         let small = draft_small few in
         program_fit (draft s) (column_count s) few refl few_rows (bid_uppers_small (inside s) (usable s) (live_bids s) sound_bids) small.0 small.1 q is
 

@@ -1,5 +1,5 @@
 -- Of programs, their walks and their points: what crates above may cite.
-pub use Rattle.tetri_compile.proofs.CompileLemmas.{draft_small, program_is_fit, sound_bids}
+pub use Rattle.tetri_compile.proofs.CompileLemmas.{draft_small, compiled_is_fit, sound_bids}
 pub use Rattle.tetri_compile.proofs.CountLemmas.{counts_are}
 pub use Rattle.tetri_compile.proofs.FairLemmas.{Each-has, granted_total, le_from_test, lt_from_test, worth_of_bids}
 pub use Rattle.tetri_compile.proofs.FitLemmas.{program_fit}
