@@ -1,9 +1,9 @@
 // The grants of a job that earn something.
-ghost use Rattle.std.specs.Prelude.{◌≡◌, ◌==◌, ◌++◌, if◌then◌else◌, IfOk, OnOk};
+ghost use Rattle.std.specs.Prelude.{◌≡◌, ◌==◌, ◌++◌, filter, if◌then◌else◌, IfOk, OnOk};
 ghost use Rattle.std.specs.List.{list_any};
 ghost use Rattle.tetri_strl.specs.Thrifty.{IsThriftyFor};
 ghost use Rattle.tetri_strl.specs.Tree.{numbers, tree, trees};
-ghost use Rattle.tetri_strl.specs.Trim.{earns, idle, idle_but_first, trimmed};
+ghost use Rattle.tetri_strl.specs.Trim.{IsPartOf, earns, idle, idle_but_first, trimmed};
 ghost use Rattle.tetri_strl.specs.WellMade.{AreSound, IsSound, IsWellMade};
 ghost use Rattle.tetri_strl.specs.Worth.{leaf_worth, worth_of};
 
@@ -19,17 +19,33 @@ use std::alloc::{AllocError, Global};
 pub fn trim(alloc: Global, e: &Expr, job: u32, a: &Allotment) -> Result<Allotment, AllocError>
     requires { IsWellMade (tree e.now) }
     ensures list { IfOk result (λ made. made ≡ trimmed a.now job (tree e.now)) }
+    ensures part { IfOk result (λ made. IsPartOf made (filter (λ g. g.job == job) a.now)) }
     ensures thrifty { IfOk result (λ made. IsThriftyFor made job (tree e.now)) }
     ensures worth { IfOk result (λ made. worth_of made job (tree e.now) ≡ worth_of a.now job (tree e.now)) }
 {
-    let idle = idle_leaves(alloc, e, job, a.as_slice())?;
     let mut made = Allotment::new(alloc);
-    for grant in a.as_slice() {
+    trim_into(alloc, e, job, a.as_slice(), &mut made)?;
+    Ok(made)
+}
+
+/// Puts what `trim` keeps of these grants last in a list. Its only error is want of memory.
+pub fn trim_into(
+    alloc: Global,
+    e: &Expr,
+    job: u32,
+    grants: &[Grant],
+    made: &mut Allotment,
+) -> Result<(), AllocError>
+    requires { IsSound (tree e.now) }
+    ensures { OnOk result (made.new ≡ made.old ++ trimmed grants.now job (tree e.now)) }
+{
+    let idle = idle_leaves(alloc, e, job, grants)?;
+    for grant in grants {
         if is_earning(grant, job, &idle) {
             made.push(copy_grant(alloc, grant)?)?;
         }
     }
-    Ok(made)
+    Ok(())
 }
 
 /// The numbers of the leaves whose grants earn nothing, as `trim` says it. Its only error is want of
