@@ -13,7 +13,7 @@ use Rattle.tetri_base.proofs.ListLaws.{Each-map, Each-all, Each-append, Each-acr
 use Rattle.tetri_compile.specs.declared.outline.Tally.{Tally}
 use Rattle.tetri_compile.specs.Draft.{bid_tallies, draft}
 use Rattle.tetri_compile.specs.Walk.{width}
-use Rattle.tetri_compile.proofs.ProgramLaws.{Each-has, IsOf, counts_are, tallies_leaf, tallies_other}
+use Rattle.tetri_compile.proofs.ProgramLaws.{Each-has, all_of, IsOf, counts_are, tallies_leaf, tallies_other}
 use Rattle.std.specs.List.Sorted.{IsNonDecreasingBy, IsPermutation}
 use lib.IntN.{ℤ}
 use Rattle.tetri_ip.specs.Points.{IsPoint, box_of}
@@ -28,7 +28,6 @@ use Rattle.tetri_assign.specs.Taking.{NEVER, back_at, backs, taken_from, want_of
 use Rattle.tetri_assign.specs.declared.held.Held.{Held}
 use Rattle.tetri_assign.specs.declared.wants.Want.{Want}
 use Rattle.tetri_assign.proofs.BackLemmas.{IsOpenAt, first_backs, taken_sum}
-use Rattle.tetri_assign.proofs.GrantsLawful.{all_of}
 use Rattle.tetri_assign.proofs.Law.{meeting}
 use Rattle.tetri_assign.proofs.LawfulFacts.{not_closed}
 use Rattle.tetri_assign.proofs.MarkLemmas.{each_of, parts_small}
