@@ -8,6 +8,7 @@ pub mod FirstLemmas
 pub mod FreeLemmas
 pub mod FrontLemmas
 pub mod GroupLemmas
+pub mod InstanceLaws
 pub mod JobLemmas
 pub mod LawLemmas
 pub mod LawfulLemmas

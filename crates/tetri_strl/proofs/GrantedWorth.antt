@@ -46,8 +46,8 @@ held_or_not (m ∷ ms) n = by_test (cases_Bool (m == n)) (held_or_not ms n)
     by_test (inr other) (inr away) = inr (away_from away)
       where
         away_from : (Contains ms n → ⊥) → Contains (m ∷ ms) n → ⊥
-        away_from none (zero, lt, e) = true≢false (sym (test_from_eq m n e) ∙ other)
-        away_from none (suc k, lt, e) = none (k, omega (arith, lt), e)
+        away_from never (zero, lt, e) = true≢false (sym (test_from_eq m n e) ∙ other)
+        away_from never (suc k, lt, e) = never (k, omega (arith, lt), e)
 
 -- one of the numbers is held, or none is
 some_held : (held ns : List ℕ) → ((n : ℕ) × Contains ns n × Contains held n) ⊎ ((n : ℕ) → Contains ns n → Contains held n → ⊥)
@@ -58,7 +58,7 @@ some_held held (m ∷ ms) = by_first (held_or_not held m) (some_held held ms)
         ((n : ℕ) × Contains (m ∷ ms) n × Contains held n) ⊎ ((n : ℕ) → Contains (m ∷ ms) n → Contains held n → ⊥)
     by_first (inl at) rest = inl (m, (0, omega arith, refl), at)
     by_first (inr away) (inl w) = inl (w.0, (suc w.1.0, omega (arith, w.1.1), w.1.2), w.2)
-    by_first (inr away) (inr none) = inr (away_from away none)
+    by_first (inr away) (inr never) = inr (away_from away never)
       where
         away_from : (Contains held m → ⊥) → ((n : ℕ) → Contains ms n → Contains held n → ⊥) → (n : ℕ) → Contains (m ∷ ms) n → Contains held n → ⊥
         away_from first rest n (zero, lt, e) there = first (subst (Contains held) (sym e) there)

@@ -1,5 +1,6 @@
 pub mod AlignedLemmas
 pub mod GrantLemmas
+pub mod ExprLaws
 pub mod GrantedWorth
 pub mod OneStart
 pub mod PartsApart
