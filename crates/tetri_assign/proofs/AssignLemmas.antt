@@ -5,7 +5,7 @@ use Rattle.std.specs.List.{list_all, range_with_len}
 use Rattle.tetri_strl.specs.declared.expr.Leaf.{Leaf}
 use Rattle.tetri_strl.specs.Tree.{leaves}
 use Rattle.tetri_strl.specs.WellMade.{IsSound}
-use Rattle.tetri_strl.proofs.PartsApart.{AreApart}
+use Rattle.tetri_strl.proofs.ExprLaws.{AreApart}
 use Rattle.tetri_base.specs.Lists.{sum_of, has, Each, EachPair, Ascends}
 use Rattle.tetri_space.specs.Partitions.{part_at, set_at, asked, live_bids, partitions, closed_sets}
 use Rattle.tetri_space.specs.Space.{Bid, Space, leaf_in}

@@ -27,7 +27,7 @@ use Rattle.tetri_space.specs.Free.{IsFree, is_free}
 use Rattle.tetri_space.specs.GrantOrder.{ComesBefore}
 use Rattle.tetri_space.specs.Lawful.{MayBeGranted, IsLawfulGrant, IsLawful}
 use Rattle.tetri_space.specs.Lawful.{AreApart as GrantsApart}
-use Rattle.tetri_space.proofs.FreeLemmas.{free_decides}
+use Rattle.tetri_space.proofs.InstanceLaws.{free_decides}
 use Rattle.tetri_assign.proofs.HeldLemmas.{IsOther, AreGathered, gathered_right, leaf_before}
 use Rattle.tetri_assign.proofs.Meeting.{parts, inside, IsMeeting, IsOpen, IsPlaced, made_pieces, part_ascends, parts_differ, right, ps_open, ps_placed, leaf_is, same_leaf_apart, HaveNoNode}
 use Rattle.tetri_assign.proofs.GrantedLemmas.{made, granted_few}

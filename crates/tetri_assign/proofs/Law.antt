@@ -18,9 +18,8 @@ use Rattle.tetri_space.specs.Partitions.{live_bids, asked, closed_sets}
 use Rattle.tetri_space.specs.Sound.{IsSound}
 use Rattle.tetri_space.specs.Space.{Bid, Space, leaf_in}
 use Rattle.tetri_space.specs.Total.{total_in}
-use Rattle.tetri_space.proofs.LeafLemmas.{leaf_in-found}
+use Rattle.tetri_space.proofs.InstanceLaws.{leaf_in-found, IsLeafOf, AllLeavesOf, lefts_good, lefts_jobs, lefts_leaves}
 use Rattle.tetri_base.proofs.ListLaws.{Each-at}
-use Rattle.tetri_space.proofs.PrunedLemmas.{IsLeafOf, AllLeavesOf, lefts_good, lefts_jobs, lefts_leaves}
 use Rattle.tetri_compile.specs.Draft.{draft}
 use Rattle.tetri_compile.specs.Flat.{FlatProgram, FlatRow, coefficient, plain, program_of}
 use Rattle.tetri_compile.specs.Forms.{Within}

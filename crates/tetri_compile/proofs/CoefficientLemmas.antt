@@ -9,11 +9,11 @@ use Rattle.tetri_strl.specs.declared.expr.Leaf.{Leaf}
 use Rattle.tetri_strl.specs.Tree.{greatest, least, added, Tree, one, join, scale, barrier, Trees, none, more}
 use Rattle.tetri_strl.specs.WellMade.{PEAK, peak, peaks, IsSound, AreSound}
 use Rattle.tetri_strl.specs.Worth.{greatest_of, added_of}
-use Rattle.tetri_strl.proofs.WorthLemmas.{worth_le_peak}
+use Rattle.tetri_strl.proofs.ExprLaws.{worth_le_peak}
 use Rattle.tetri_base.specs.Lists.{Each}
 use Rattle.tetri_base.proofs.ListLaws.{Each-append, Each-map, sum_of-append, test_from_ne}
 use Rattle.tetri_space.specs.Space.{Bid}
-use Rattle.tetri_space.proofs.PartsLemmas.{filter_shorter}
+use Rattle.tetri_space.proofs.InstanceLaws.{filter_shorter}
 use Rattle.tetri_compile.specs.declared.outline.Tally.{Tally}
 use Rattle.tetri_compile.specs.Draft.{bid_rows, bid_uppers, is_held, objective, part_supply, supply, supply_row, tally_form}
 use Rattle.tetri_compile.specs.Flat.{coefficient}

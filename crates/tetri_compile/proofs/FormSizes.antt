@@ -9,7 +9,7 @@ use Rattle.tetri_strl.specs.declared.expr.Leaf.{Leaf}
 use Rattle.tetri_strl.specs.Tree.{greatest, least, added, Tree, one, join, scale, barrier, Trees, none, more}
 use Rattle.tetri_strl.specs.WellMade.{peak, peaks, IsSound, AreSound}
 use Rattle.tetri_strl.specs.Worth.{greatest_of, added_of}
-use Rattle.tetri_strl.proofs.WorthLemmas.{worth_le_peak}
+use Rattle.tetri_strl.proofs.ExprLaws.{worth_le_peak}
 use Rattle.tetri_base.specs.Lists.{Each}
 use Rattle.tetri_compile.specs.Forms.{share, Form, times, run}
 use Rattle.tetri_compile.specs.Walk.{ones, best, uppers, uppers_of, width, form, forms}

@@ -13,7 +13,7 @@ use Rattle.tetri_space.specs.Partitions.{alike, asked, available, closed_sets, l
 use Rattle.tetri_space.specs.Sound.{IsSound as IsSoundSpace}
 use Rattle.tetri_space.specs.Space.{Bid, Space}
 use Rattle.tetri_base.proofs.ListLaws.{Each-append, Each-filter, Each-map, bit-le}
-use Rattle.tetri_space.proofs.PartsLemmas.{filter_shorter}
+use Rattle.tetri_space.proofs.InstanceLaws.{filter_shorter}
 use Rattle.tetri_compile.specs.declared.outline.Tally.{Tally}
 use Rattle.tetri_compile.specs.Draft.{bid_rows, bid_tallies, bid_uppers, is_held, leaf_tallies, objective, part_supply, supply, supply_row, tallies, tallies_of, tally_form}
 use Rattle.tetri_compile.specs.Forms.{Form, limit, run, share, times}
