@@ -1,6 +1,7 @@
 pub mod Scenario
 pub mod Sound
 pub mod Answers
+pub mod Closed
 pub mod Fields
 pub mod Objects
 pub mod Notices

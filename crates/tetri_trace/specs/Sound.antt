@@ -6,6 +6,7 @@ use Rattle.tetri_strl.specs.WellMade.{IsWellMade}
 use Rattle.tetri_cluster.specs.Names.{is_name, differ}
 use Rattle.tetri_cluster.specs.Cluster.{names_of}
 use Rattle.tetri_cluster.specs.Sets.{AreSets}
+use Rattle.tetri_space.specs.Closures.{IsSoundClosure}
 use Rattle.tetri_trace.specs.declared.trace.Header.{Header}
 use Rattle.tetri_trace.specs.declared.trace.Event.{Event}
 use Rattle.tetri_trace.specs.declared.trace.Happening.{Happening}
