@@ -1,5 +1,5 @@
 -- What the values of a JSON object say.
-use Rattle.std.specs.Prelude.{ℕ, ◌&&◌, ℤ, pos, negsuc, List, [], ◌∷◌, length, Bool, nat_le, int_le, is_some, if◌then◌else◌, Option, Some, None, option_map, option_and_then, ok_or, Result, Ok, Err, codes}
+use Rattle.std.specs.Prelude.{ℕ, ◌&&◌, ℤ, pos, negsuc, List, [], ◌∷◌, Bool, nat_le, int_le, is_some, if◌then◌else◌, Option, Some, None, option_map, option_and_then, ok_or, Result, Ok, Err, codes}
 use Rattle.std.specs.Str.{is_utf8}
 use Rattle.serde_json.specs.Data.{Data, Items, no_items, item}
 use Rattle.serde_json.specs.Read.{read}
@@ -7,7 +7,6 @@ use Rattle.serde_json.specs.Find.{get, as_null, as_number, as_i64, as_str, as_ar
 use Rattle.tetri_cluster.specs.Names.{is_name}
 use Rattle.tetri_cluster.specs.declared.cluster.NodeText.{NodeText}
 use Rattle.tetri_base.specs.ResultSteps.{◌>>=◌}
-use Rattle.tetri_trace.specs.declared.closures.ClosureText.{ClosureText}
 use Rattle.tetri_trace.specs.declared.fault.Field.{Field}
 use Rattle.tetri_trace.specs.declared.fault.TraceWhy.{TraceWhy}
 use Rattle.tetri_trace.specs.declared.fault.TraceWhy.TheVariants.{MissingField, NotJson, NotObject}
@@ -88,27 +87,3 @@ node_in d =
 abbrev pub nodes_in : Items → Option (List NodeText)
 nodes_in no_items = Some []
 nodes_in (item d ds) = option_and_then (λ n. option_map (λ ns. n ∷ ns) (nodes_in ds)) (node_in d)
-
--- the first and the last slot of a closure, at most 30,000, of which the last is not below the first
-abbrev pub slots_in : Data → Option (ℕ × ℕ)
-slots_in d =
-    option_and_then (λ from. option_map (λ to. (from, to)) (option_and_then (number_in from 30000) (get (codes "to") d))) (option_and_then (number_in 0 30000) (get (codes "from") d))
-
--- a closure, with the name of its node
-abbrev pub closure_in : Data → Option ClosureText
-closure_in d =
-    option_and_then (λ node. option_map (λ slots. record { node = node; from = slots.0; to = slots.1 }) (slots_in d)) (option_and_then name_in (get (codes "node") d))
-
--- each item of a list as a closure
-abbrev pub closures_in : Items → Option (List ClosureText)
-closures_in no_items = Some []
-closures_in (item d ds) = option_and_then (λ c. option_map (λ cs. c ∷ cs) (closures_in ds)) (closure_in d)
-
--- at most 4,096 closures
-abbrev pub few_closures : List ClosureText → Option (List ClosureText)
-few_closures cs = if nat_le (length cs) 4096 then Some cs else None
-
--- the closures of a header, none where they are left out
-abbrev pub closures_of : Option Data → Option (List ClosureText)
-closures_of None = Some []
-closures_of (Some d) = option_and_then few_closures (option_and_then closures_in (as_array d))

@@ -1,8 +1,8 @@
 pub mod Scenario
 pub mod Sound
 pub mod Answers
-pub mod Closed
 pub mod Fields
+pub mod Closures
 pub mod Objects
 pub mod Notices
 pub mod Lines

@@ -1,15 +1,14 @@
 -- What the objects of a trace say: the first is the header, and each later one an event.
-use Rattle.std.specs.Prelude.{ℕ, ◌&&◌, ℤ, List, [], ◌∷◌, ◌++◌, length, nat_le, is_none, if◌then◌else◌, Option, Some, None, option_map, option_and_then, ok_or, Result, Ok, Err, codes}
+use Rattle.std.specs.Prelude.{ℕ, ◌&&◌, ℤ, List, [], ◌∷◌, ◌++◌, length, nat_le, is_none, if◌then◌else◌, Option, Some, None, option_and_then, ok_or, Result, Ok, Err, codes}
 use Rattle.serde_json.specs.Data.{Data}
 use Rattle.serde_json.specs.Find.{get, as_array, as_str}
-use Rattle.tetri_cluster.specs.Names.{first_repeated, number_of}
+use Rattle.tetri_cluster.specs.Names.{first_repeated}
 use Rattle.tetri_cluster.specs.Cluster.{names_of}
 use Rattle.tetri_cluster.specs.declared.cluster.NodeText.{NodeText}
 use Rattle.tetri_base.specs.ResultSteps.{◌>>=◌}
-use Rattle.tetri_trace.specs.Fields.{required, has_key, optional, name_in, slot_in, number_in, unit_of, late_of, nodes_in, closures_of}
+use Rattle.tetri_trace.specs.Fields.{required, has_key, optional, name_in, slot_in, number_in, unit_of, late_of, nodes_in}
 use Rattle.tetri_trace.specs.Scenario.{Scenario}
-use Rattle.tetri_space.specs.declared.closures.Closure.{Closure}
-use Rattle.tetri_trace.specs.declared.closures.ClosureText.{ClosureText}
+use Rattle.tetri_trace.specs.Closures.{closures_at, closures_of}
 use Rattle.tetri_trace.specs.declared.event.EventKey.{EventKey}
 use Rattle.tetri_trace.specs.declared.event.EventKey.TheVariants.{Arrive, Cancel, Drain, Undrain, Fail}
 use Rattle.tetri_trace.specs.declared.event.Notice as code
@@ -28,12 +27,6 @@ cluster_in d = option_and_then some_nodes (option_and_then nodes_in (as_array d)
 -- nodes whose names differ
 abbrev pub named_apart : List NodeText → Result (List NodeText) TraceWhy
 named_apart nodes = if is_none (first_repeated (names_of nodes)) then Ok nodes else Err NameTaken
-
--- closures with the numbers of their nodes, where each node is there
-abbrev pub closures_at : List (List ℕ) → List ClosureText → Option (List Closure)
-closures_at names [] = Some []
-closures_at names (c ∷ cs) =
-    option_and_then (λ node. option_map (λ closures. (record { node = node; from = c.from; to = c.to }) ∷ closures) (closures_at names cs)) (number_of c.node names)
 
 -- a trace of a header alone
 unfoldable pub header_in : Data → Result Scenario TraceWhy

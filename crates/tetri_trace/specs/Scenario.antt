@@ -2,7 +2,7 @@
 use Rattle.std.specs.Prelude.{ℕ, ℤ, List, map}
 use Rattle.tetri_strl.specs.Tree.{Tree, tree}
 use Rattle.tetri_cluster.specs.declared.cluster.NodeText.{NodeText}
-use Rattle.tetri_space.specs.declared.closures.Closure.{Closure}
+use Rattle.tetri_space.specs.declared.closure.Closure.{Closure}
 use Rattle.tetri_trace.specs.declared.trace.Header.{Header}
 use Rattle.tetri_trace.specs.declared.trace.Work.{Work}
 use Rattle.tetri_trace.specs.declared.trace.Work.TheVariants.{Strl}

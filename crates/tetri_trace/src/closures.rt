@@ -3,11 +3,10 @@ ghost use Rattle.std.specs.Prelude.{◌≡◌, ◌≤◌, All, length, codes, If
 ghost use Rattle.serde_json.specs.Find.{as_array};
 ghost use Rattle.serde_json.specs.View.{view};
 ghost use Rattle.tetri_cluster.specs.Cluster.{names_of};
-ghost use Rattle.tetri_space.specs.Closures.{IsSoundClosure};
+ghost use Rattle.tetri_space.specs.Closed.{AreSoundClosures, IsSoundClosure};
 ghost use Rattle.tetri_trace.specs.Answers.{Gives};
-ghost use Rattle.tetri_trace.specs.Closed.{IsWithinLimits};
-ghost use Rattle.tetri_trace.specs.Fields.{closure_in, closures_in, closures_of, optional, slots_in};
-ghost use Rattle.tetri_trace.specs.Objects.{closures_at};
+ghost use Rattle.tetri_trace.specs.Closures.{closure_in, closures_at, closures_in, closures_of, slots_in, IsWithinLimits};
+ghost use Rattle.tetri_trace.specs.Fields.{optional};
 ghost use Rattle.tetri_trace.specs.declared.fault.Field.TheVariants as fields;
 ghost use Rattle.tetri_trace.specs.declared.fault.TraceWhy.TheVariants as whys;
 
@@ -116,9 +115,8 @@ pub(crate) fn closures_at(
     requires within { All IsWithinLimits texts.now }
     requires few { length texts.now ≤ 4096 }
     ensures value { Gives (λ c. c) result (ok_or (closures_at (names_of cluster.now) texts.now) whys.NoSuchNode) }
-    ensures sound { IfOk result (λ c. All (IsSoundClosure (length cluster.now)) c) }
-    ensures few { IfOk result (λ c. length c ≤ 4096) }
+    ensures sound { IfOk result (λ c. AreSoundClosures (length cluster.now) c) }
 {
     let closures = numbered(alloc, cluster, texts)?;
-    Ok(Closures::build(alloc, closures)?)
+    Ok(Closures::of(alloc, closures)?)
 }
