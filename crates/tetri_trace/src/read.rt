@@ -6,14 +6,14 @@ ghost use Rattle.tetri_trace.specs.Answers.{AnswersTrace, fault_at};
 ghost use Rattle.tetri_trace.specs.Draft.{so_far, IsSoundDraft};
 ghost use Rattle.tetri_trace.specs.Lines.{ended, scenario_in};
 ghost use Rattle.tetri_trace.specs.Scenario.{scenario};
-ghost use Rattle.tetri_trace.specs.Sound.{IsSound};
+ghost use Rattle.tetri_trace.specs.Sound.{HasNumberedLeaves, IsSound};
 
 use crate::draft::{Draft, finished};
 use crate::fault::{Stop, TraceFault, TraceWhy};
 use crate::lines::{LINE_MOST, add_line};
 use crate::trace::Trace;
 use std::alloc::Global;
-use tetri_io::{Line, LineFault, Shelf, read_line_at};
+use tetri_io::{Line, LineFault, LineReader, Shelf};
 
 /// The trace that a name holds. `Read` comes only where the count of the name's faults rose. `Bad` comes
 /// exactly where a line is faulty, with the first such line and the first fault that holds there.
@@ -21,23 +21,24 @@ pub fn read_trace<S: Shelf>(alloc: Global, shelf: &mut S, name: &str) -> Result<
     ensures exact { (content : List ℕ) → S.told shelf.old name.now ≡ Some content
         → AnswersTrace result (scenario_in content) }
     ensures sound { IfOk result (λ t. IsSound (scenario t)) }
+    ensures numbered { IfOk result (λ t. HasNumberedLeaves (scenario t)) }
     ensures same { S.told shelf.new ≡ S.told shelf.old }
     ensures read { IsErrOf result TraceFault.Read
         → Rose (S.faults shelf.old name.now) (S.faults shelf.new name.now) }
     ensures later { (other : List ℕ) → S.faults shelf.old other ≤ S.faults shelf.new other }
 {
+    let Ok(mut reader) = LineReader::new(alloc) else {
+        return Err(TraceFault::NoMemory);
+    };
     let mut draft = None;
     let mut line = 1u64;
-    let mut offset = 0u64;
     'lines: loop {
-        match read_line_at(alloc, shelf, name, offset, LINE_MOST) {
+        match reader.next_line(alloc, shelf, name, LINE_MOST) {
             Ok(Line::Text { bytes, next }) => {
-                match add_line(alloc, draft, &bytes, next) {
-                    Ok(more) => draft = more,
-                    Err(stop) => return Err(fault_at(line, stop)),
+                if let Err(stop) = add_line(alloc, &mut draft, &bytes, next) {
+                    return Err(fault_at(line, stop));
                 }
                 line += 1;
-                offset = next;
             }
             Ok(Line::End) => return ended(alloc, draft, line),
             Err(LineFault::TooLong) => {
@@ -55,6 +56,7 @@ fn ended(alloc: Global, draft: Option<Draft>, line: u64) -> Result<Trace, TraceF
     ensures not_read { IsErrOf result TraceFault.Read → ⊥ }
     ensures exact { AnswersTrace result (ended (option_map so_far draft) line) }
     ensures sound { IfOk result (λ t. IsSound (scenario t)) }
+    ensures numbered { IfOk result (λ t. HasNumberedLeaves (scenario t)) }
 {
     match draft {
         Some(draft) => match finished(alloc, draft) {
