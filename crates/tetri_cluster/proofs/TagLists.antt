@@ -76,7 +76,7 @@ pub put_new : (tags lists : List (List ℕ)) (t : List ℕ) (node : ℕ) → num
     → tag_list (tags ++ t ∷ []) (lists ++ (node ∷ []) ∷ []) q ≡ tag_list tags lists q ++ cond (bytes_eq q t) (node ∷ []) []
 put_new tags lists t node none count q = by_test (bytes_eq q t) refl
   where
-    abbrev wider : List (List ℕ)
+    wider : List (List ℕ)
     wider = lists ++ (node ∷ []) ∷ []
 
     moved : place q (tags ++ t ∷ []) ≡ cond (place q tags == length tags) (length tags + cond (bytes_eq q t) 0 1) (place q tags)
@@ -88,7 +88,7 @@ put_new tags lists t node none count q = by_test (bytes_eq q t) refl
     by_test : (b : Bool) → bytes_eq q t ≡ b → get_or wider (place q (tags ++ t ∷ [])) [] ≡ get_or lists (place q tags) [] ++ cond b (node ∷ []) []
     by_test true e =
         let last : place q tags ≡ length tags = ap (λ n. place n tags) (same_bytes q t e) ∙ place_none t tags none in
-        let now : place q (tags ++ t ∷ []) ≡ length lists = moved ∙ ap (λ c. cond c (length tags + cond (bytes_eq q t) 0 1) (place q tags)) (eq-eqb _ _ last) ∙ ap (λ c. length tags + cond c 0 1) e ∙ add-zero ∙ sym count in
+        let now : place q (tags ++ t ∷ []) ≡ length lists = moved ∙ ap (λ c. cond c (length tags + cond (bytes_eq q t) 0 1) (place q tags)) (eq-eqb _ _ last) ∙ ap (λ c. length tags + cond c 0 1) e ∙ add-zero (length tags) ∙ sym count in
         rw (now, absent (place q tags) (omega (arith, last, count))) (get_or-append_seam lists (node ∷ []) [] [])
     by_test false e = elim (cases_lt (place q tags) (length tags)) [
       | inl less ↦
@@ -108,22 +108,24 @@ tag_list_none tags lists t none count = get_or_past lists (place t tags) (omega 
 pub tag_list_some : (tags lists : List (List ℕ)) (t : List ℕ) (m : ℕ) → number_of t tags ≡ Some m → tag_list tags lists t ≡ get_or lists m []
 tag_list_some tags lists t m found = ap (λ n. get_or lists n []) (place_is t tags m found).0
 
+-- one tag more
+one_copy : (at n : ℕ) (x q : List ℕ) (xs : List (List ℕ)) → list_any (nat_eq n) (map (λ _. at) (filter (bytes_eq q) xs)) ≡ ((n == at) && is_among q xs) → (b : Bool)
+    → list_any (nat_eq n) (map (λ _. at) (cond b (x ∷ filter (bytes_eq q) xs) (filter (bytes_eq q) xs))) ≡ ((n == at) && (b || is_among q xs))
+one_copy at n x q xs rest false = rest
+one_copy at n x q xs rest true = by_other (n == at) rest
+  where
+    by_other : (c : Bool) → list_any (nat_eq n) (map (λ _. at) (filter (bytes_eq q) xs)) ≡ (c && is_among q xs) → (c || list_any (nat_eq n) (map (λ _. at) (filter (bytes_eq q) xs))) ≡ (c && true)
+    by_other true f = refl
+    by_other false f = f
+
 -- as often as a node has a tag, it is the node
-copies : (at n : ℕ) (q : List ℕ) (names : List (List ℕ)) → list_any (nat_eq n) (map (λ _. at) (filter (bytes_eq q) names)) ≡ (n == at) && is_among q names
+copies : (at n : ℕ) (q : List ℕ) (names : List (List ℕ)) → list_any (nat_eq n) (map (λ _. at) (filter (bytes_eq q) names)) ≡ ((n == at) && is_among q names)
 copies at n q [] = by_test (n == at)
   where
     by_test : (b : Bool) → false ≡ (b && false)
     by_test true = refl
     by_test false = refl
-copies at n q (x ∷ xs) = by_test (bytes_eq q x) refl
-  where
-    by_test : (b : Bool) → bytes_eq q x ≡ b → list_any (nat_eq n) (map (λ _. at) (cond b (x ∷ filter (bytes_eq q) xs) (filter (bytes_eq q) xs))) ≡ (n == at) && (b || is_among q xs)
-    by_test true e = by_other (n == at) refl
-      where
-        by_other : (c : Bool) → (n == at) ≡ c → (c || list_any (nat_eq n) (map (λ _. at) (filter (bytes_eq q) xs))) ≡ c && true
-        by_other true f = refl
-        by_other false f = copies at n q xs ∙ ap (λ d. d && is_among q xs) f
-    by_test false e = copies at n q xs
+copies at n q (x ∷ xs) = one_copy at n x q xs (copies at n q xs) (bytes_eq q x)
 
 -- no node before the first is listed
 none_before : (at n : ℕ) (q : List ℕ) (nodes : List NodeText) → n < at → list_any (nat_eq n) (tagged_from at q nodes) ≡ false
@@ -138,7 +140,7 @@ none_before at n q (x ∷ xs) lt =
 pub listed_members : (at m : ℕ) (q : List ℕ) (nodes : List NodeText) → list_any (nat_eq (at + m)) (tagged_from at q nodes) ≡ is_among q (tags_at nodes m)
 listed_members at m q [] = refl
 listed_members at zero q (x ∷ xs) =
-    let here : (at + 0 == at) ≡ true = eq-eqb (at + 0) at add-zero in
+    let here : (at + 0 == at) ≡ true = eq-eqb (at + 0) at (add-zero at) in
     list_any-append (nat_eq (at + 0)) (map (λ _. at) (filter (bytes_eq q) x.tags)) (tagged_from (at + 1) q xs)
     ∙ ap (λ b. b || list_any (nat_eq (at + 0)) (tagged_from (at + 1) q xs)) (copies at (at + 0) q x.tags ∙ ap (λ b. b && is_among q x.tags) here)
     ∙ ap (λ b. is_among q x.tags || b) (none_before (at + 1) (at + 0) q xs (omega arith))
@@ -167,15 +169,15 @@ listed_within at most q (x ∷ xs) le =
 
 some_copies : (at : ℕ) (q : List ℕ) (names : List (List ℕ)) → is_among q names ≡ nat_lt 0 (length (map (λ (_ : List ℕ). at) (filter (bytes_eq q) names)))
 some_copies at q [] = refl
-some_copies at q (x ∷ xs) = by_test (bytes_eq q x)
+some_copies at q (x ∷ xs) = by_test (some_copies at q xs) (bytes_eq q x)
   where
-    by_test : (b : Bool) → (b || is_among q xs) ≡ nat_lt 0 (length (map (λ (_ : List ℕ). at) (cond b (x ∷ filter (bytes_eq q) xs) (filter (bytes_eq q) xs))))
-    by_test true = refl
-    by_test false = some_copies at q xs
+    by_test : is_among q xs ≡ nat_lt 0 (length (map (λ (_ : List ℕ). at) (filter (bytes_eq q) xs))) → (b : Bool) → (b || is_among q xs) ≡ nat_lt 0 (length (map (λ (_ : List ℕ). at) (cond b (x ∷ filter (bytes_eq q) xs) (filter (bytes_eq q) xs))))
+    by_test h true = sym (lt-ltb 0 (suc (length (map (λ (_ : List ℕ). at) (filter (bytes_eq q) xs)))) (omega arith))
+    by_test h false = h
 
 some_of_two : (xs ys : List ℕ) → nat_lt 0 (length (xs ++ ys)) ≡ (nat_lt 0 (length xs) || nat_lt 0 (length ys))
 some_of_two [] ys = refl
-some_of_two (x ∷ xs) ys = refl
+some_of_two (x ∷ xs) ys = lt-ltb 0 (suc (length (xs ++ ys))) (omega arith) ∙ sym (ap (λ b. b || nat_lt 0 (length ys)) (lt-ltb 0 (suc (length xs)) (omega arith)))
 
 -- a tag is known where some node is listed
 pub known_listed : (at : ℕ) (q : List ℕ) (nodes : List NodeText) → knows_tag nodes q ≡ nat_lt 0 (length (tagged_from at q nodes))

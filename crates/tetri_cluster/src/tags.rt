@@ -1,9 +1,29 @@
 // The nodes of each tag.
-ghost use Rattle.std.specs.Prelude.{◌≡◌, ◌≤◌, ◌++◌, ◌∷◌, [], List, ℕ, length, map, filter, bytes_eq, if◌then◌else◌, IfOk, OnOk};
+ghost use Rattle.std.specs.Prelude.{◌≡◌, ◌≤◌, false, ◌++◌, ◌∷◌, [], List, ℕ, length, map, filter, bytes_eq, if◌then◌else◌, IfOk, OnOk};
+ghost use Rattle.tetri_cluster.specs.Names.{is_among};
 ghost use Rattle.tetri_cluster.specs.Tags.{tag_list, tagged_from};
 
 use crate::{NameList, NameTable, NodeSet, NodeText};
 use std::alloc::{AllocError, Global};
+
+// Puts a node in the list of a tag that is new.
+fn put_first(
+    alloc: Global,
+    tags: &mut NameTable,
+    lists: &mut Vec<NodeSet>,
+    tag: &[u8],
+    node: u32,
+) -> Result<(), AllocError>
+    requires { is_among tag.now tags.old ≡ false }
+    ensures tags { OnOk result (tags.new ≡ tags.old ++ tag.now ∷ []) }
+    ensures lists { OnOk result (lists.new.items ≡ lists.old.items ++ (node ∷ []) ∷ []) }
+{
+    let mut list = NodeSet::new(alloc);
+    list.push(node)?;
+    let _new = tags.add(tag)?;
+    lists.push(list)?;
+    Ok(())
+}
 
 // Puts a node last in the list of a tag, which is a new one where the tag has none.
 fn put(
@@ -18,15 +38,10 @@ fn put(
     ensures put { OnOk result ((q : List ℕ) → tag_list tags.new lists.new.items q
         ≡ tag_list tags.old lists.old.items q ++ (if bytes_eq q tag.now then node ∷ [] else [])) }
 {
-    if let Some(number) = tags.number(tag) {
-        lists[number].push(node)?;
-        return Ok(());
+    match tags.number(tag) {
+        Some(number) => lists[number].push(node),
+        None => put_first(alloc, tags, lists, tag, node),
     }
-    let mut list = NodeSet::new(alloc);
-    list.push(node)?;
-    let _new = tags.add(tag)?;
-    lists.push(list)?;
-    Ok(())
 }
 
 // Puts a node last in the list of each of these tags.

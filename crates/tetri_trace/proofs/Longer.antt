@@ -97,7 +97,7 @@ with_event_sound s at what sound next known none = record {
   in_run = All-push (λ e. e.at < s.header.until) s.events event sound.in_run next.in_run;
   known = All-push (λ e. NamesKnown t e.what) s.events event (All-weaker (λ e. NamesKnown s e.what) (λ e. NamesKnown t e.what) (λ e. known_kept s t (omega arith) refl e.what) s.events sound.known) (known_kept s t (omega arith) refl what known);
   arrive_in_time = All-push (λ e. ArrivesAt t e.at e.what) s.events event sound.arrive_in_time (arrives_none t at what none);
-  arrive_once = λ job lt. omega (arith, counted_more job s.events event, ap (λ b. cond b 1 0) (none job), sound.arrive_once job lt);
+  arrive_once = λ job lt. omega (arith, counted_more job s.events event, ap {B = ℕ} (λ b. cond b 1 0) (none job), sound.arrive_once job lt);
   cancels = all_pairs_push (λ e f. CancelsNothingLater e.what f.what) s.events event sound.cancels (λ k d lt. cancels_none (get_or s.events k d).what what none);
 }
   where
@@ -140,15 +140,16 @@ module _ (s : Scenario) (at job : ℕ) (d : Submission) where
   arrived_by slot (Undrain node) le here in_time = absurd (false≢true here)
   arrived_by slot (Fail node) le here in_time = absurd (false≢true here)
 
+  arrived_in : (e : Event) (es : List Event) → e.at ≤ at → ArrivesAt s e.at e.what → (1 ≤ count_by (λ (f : Event). is_arrival job f.what) es → (get_or s.submissions job d).arrival ≤ at)
+      → 1 ≤ count_by (λ (f : Event). is_arrival job f.what) (e ∷ es) → (b : Bool) → is_arrival job e.what ≡ b → (get_or s.submissions job d).arrival ≤ at
+  arrived_in e es le in_time rest some true h = arrived_by e.at e.what le h in_time
+  arrived_in e es le in_time rest some false h = rest (omega (arith, some, sum_by-cons (λ (f : Event). cond (is_arrival job f.what) 1 0) e es, ap {B = ℕ} (λ b. cond b 1 0) h))
+
   arrived_before : (es : List Event) → All (λ e. e.at ≤ at) es → All (λ e. ArrivesAt s e.at e.what) es → 1 ≤ count_by (λ (e : Event). is_arrival job e.what) es → (get_or s.submissions job d).arrival ≤ at
   arrived_before [] before in_time some = absurd (omega arith)
-  arrived_before (e ∷ es) before in_time some = by_test (is_arrival job e.what) refl
-    where
-      by_test : (b : Bool) → is_arrival job e.what ≡ b → (get_or s.submissions job d).arrival ≤ at
-      by_test true h = arrived_by e.at e.what (All-head (λ (f : Event). f.at ≤ at) e es before) h (All-head (λ (f : Event). ArrivesAt s f.at f.what) e es in_time)
-      by_test false h =
-          arrived_before es (All-tail (λ (f : Event). f.at ≤ at) e es before) (All-tail (λ (f : Event). ArrivesAt s f.at f.what) e es in_time)
-          (omega (arith, some, sum_by-cons (λ (f : Event). cond (is_arrival job f.what) 1 0) e es, ap (λ b. cond b 1 0) h))
+  arrived_before (e ∷ es) before in_time some =
+      arrived_in e es (All-head (λ (f : Event). f.at ≤ at) e es before) (All-head (λ (f : Event). ArrivesAt s f.at f.what) e es in_time)
+      (arrived_before es (All-tail (λ (f : Event). f.at ≤ at) e es before) (All-tail (λ (f : Event). ArrivesAt s f.at f.what) e es in_time)) some (is_arrival job e.what) refl
 
 -- a job that is not there did not arrive
 unknown_job : (s : Scenario) (what : Happening) → NamesKnown s what → is_arrival (length s.submissions) what ≡ false
@@ -161,7 +162,7 @@ unknown_job s (Fail node) known = refl
 none_arrived : (s : Scenario) (es : List Event) → All (λ e. NamesKnown s e.what) es → count_by (λ (e : Event). is_arrival (length s.submissions) e.what) es ≡ 0
 none_arrived s [] known = refl
 none_arrived s (e ∷ es) known =
-    omega (arith, sum_by-cons (λ (f : Event). cond (is_arrival (length s.submissions) f.what) 1 0) e es, ap (λ b. cond b 1 0) (unknown_job s e.what (All-head (λ (f : Event). NamesKnown s f.what) e es known)), none_arrived s es (All-tail (λ (f : Event). NamesKnown s f.what) e es known))
+    omega (arith, sum_by-cons (λ (f : Event). cond (is_arrival (length s.submissions) f.what) 1 0) e es, ap {B = ℕ} (λ b. cond b 1 0) (unknown_job s e.what (All-head (λ (f : Event). NamesKnown s f.what) e es known)), none_arrived s es (All-tail (λ (f : Event). NamesKnown s f.what) e es known))
 
 module _ (s : Scenario) (job : Submission) (sound : IsSound s) (next : IsNextSlot s job.arrival) (good : IsSoundSubmission s job) (few : length s.submissions < 100000)
     (different : differ (job_names (s.submissions ++ job ∷ [])) ≡ true) where
@@ -184,10 +185,10 @@ module _ (s : Scenario) (job : Submission) (sound : IsSound s) (next : IsNextSlo
   once : (k : ℕ) → k < length (s.submissions ++ job ∷ []) → count_by (λ (e : Event). is_arrival k e.what) (s.events ++ event ∷ []) ≡ 1
   once k lt =
       elim (cases_lt k (length s.submissions)) [
-        | inl less ↦ omega (arith, counted_more k s.events event, sound.arrive_once k less, ap (λ b. cond b 1 0) (unknown_other k less))
+        | inl less ↦ omega (arith, counted_more k s.events event, sound.arrive_once k less, ap {B = ℕ} (λ b. cond b 1 0) (unknown_other k less))
         | inr least ↦ let e : length s.submissions ≡ k = omega (arith, more) in
             subst (λ n. count_by (λ (f : Event). is_arrival n f.what) (s.events ++ event ∷ []) ≡ 1) e
-            (omega (arith, counted_more (length s.submissions) s.events event, none_arrived s s.events sound.known, ap (λ b. cond b 1 0) (eq-eqb (length s.submissions) (length s.submissions) refl)))
+            (omega (arith, counted_more (length s.submissions) s.events event, none_arrived s s.events sound.known, ap {B = ℕ} (λ b. cond b 1 0) (eq-eqb (length s.submissions) (length s.submissions) refl)))
       ]
     where
       unknown_other : (k : ℕ) → k < length s.submissions → (length s.submissions == k) ≡ false

@@ -61,17 +61,16 @@ add_event s d = do
   happened s at said.1
 
 -- The first object is the header, and each later one an event.
-abbrev pub add_object : Option Scenario → Data → Result Scenario TraceWhy
-add_object None d = header_in d
-add_object (Some s) d = add_event s d
+abbrev pub add_object : Option Scenario → Data → Result (Option Scenario) TraceWhy
+add_object None d = header_in d >>= λ s. Ok (Some s)
+add_object (Some s) d = add_event s d >>= λ t. Ok (Some t)
 
 -- a line, with the offset behind it and its line feed, after those that made this trace
 unfoldable pub add_line : Option Scenario → List ℕ × ℕ → Result (Option Scenario) TraceWhy
 add_line so_far line =
     if nat_lt 1048576 (length line.0) then Err LineTooLong else (if nat_lt 67108864 line.1 then Err TraceTooLong else (if is_blank line.0 then Ok so_far else (do
       object ← object_in line.0
-      s ← add_object so_far object
-      Ok (Some s))))
+      add_object so_far object)))
 
 -- a trace has a header, which is missed at the line behind the last one
 abbrev pub ended : Option Scenario → ℕ → Result Scenario (ℕ × TraceWhy)

@@ -1,8 +1,7 @@
 // A trace, line by line.
-ghost use Rattle.std.specs.Prelude.{◌≡◌, ◌≤◌, Ok, Some, OnOk, option_map};
+ghost use Rattle.std.specs.Prelude.{◌≡◌, ◌≤◌, OnOk, option_map};
 ghost use Rattle.std.specs.Option.{ForSome};
 ghost use Rattle.serde_json.specs.View.{view};
-ghost use Rattle.tetri_base.specs.ResultSteps.{◌>>=◌};
 ghost use Rattle.tetri_trace.specs.Answers.{Gives};
 ghost use Rattle.tetri_trace.specs.Draft.{so_far, IsSoundDraft};
 ghost use Rattle.tetri_trace.specs.Lines.{add_event, add_line, add_object, is_blank, is_blank_byte};
@@ -47,7 +46,7 @@ fn add_event(alloc: Global, draft: &mut Draft, object: &Value) -> Result<(), Sto
 // The first object is the header, and each later one an event.
 fn add_object(alloc: Global, draft: &mut Option<Draft>, object: &Value) -> Result<(), Stop>
     requires { ForSome draft.old IsSoundDraft }
-    ensures gives { Gives (λ _. option_map so_far draft.new) result (add_object (option_map so_far draft.old) (view object.now) >>= λ s. Ok (Some s)) }
+    ensures gives { Gives (λ _. option_map so_far draft.new) result (add_object (option_map so_far draft.old) (view object.now)) }
     ensures sound { OnOk result (ForSome draft.new IsSoundDraft) }
 {
     match draft {

@@ -1,6 +1,7 @@
-use Rattle.std.proofs.Common.{rules, ◌≡◌, ◌∙◌, ◌+◌, ◌-◌, ◌<◌, ◌≤◌, true, false, Err, Contains, List, ℕ, length, sym, ap, subst, arith, take_all}
+use Rattle.std.proofs.Common.{rules, ◌≡◌, ◌∙◌, ◌+◌, ◌-◌, ◌<◌, ◌≤◌, true, false, Ok, Err, Contains, List, ℕ, length, sym, ap, subst, arith, take_all}
 use Rattle.std.specs.Prelude.{slice_range}
 use Rattle.std.proofs.lemmas.Result.{err_from_is_err_and}
+use Rattle.tetri_io.specs.Line.{AnswersLine, line_or_end}
 use Rattle.tetri_io.specs.LineReader.{ahead}
 use Rattle.tetri_io.specs.Lines.{line_of}
 use Rattle.tetri_io.proofs.Ahead.{kept_piece, left_behind, length_part, nothing_left}
@@ -12,8 +13,11 @@ returns-then-not-branch-clause-line g c = λ content told.
     let told' = ap (λ f. f c.args.name.now) c.pieces.invariant.same ∙ told in
     let none : c.in_ok-fill.field-0 ≡ false = search rules in
     let left = c.in_ok-fill.ensures.ended content told' none in
-    let place = c.in_ok-fill.ensures.place in
-    rw (c.line_or_end.ensures, place) (last_read c.args.limit c.args.self.now.at c.pieces.self.at content c.pieces.bytes (c.pieces.invariant.lines content told) (omega (arith, c.pieces.invariant.place, c.pieces.bytes.ok.0)) (omega (arith, c.pieces.invariant.short, c.pieces.bytes.ok.0)) (omega (arith, left, place)) (c.pieces.invariant.within content told))
+    let place : c.fill.new.self.at ≡ c.pieces.self.at = c.in_ok-fill.ensures.place in
+    let same : c.line_or_end.result ≡ line_or_end c.pieces.bytes c.pieces.self.at = c.line_or_end.ensures ∙ ap (line_or_end c.pieces.bytes) place in
+    let answer : AnswersLine c.args.limit c.args.self.now.at content (Ok (line_or_end c.pieces.bytes c.pieces.self.at)) =
+    last_read c.args.limit c.args.self.now.at c.pieces.self.at content c.pieces.bytes (c.pieces.invariant.lines content told) (omega (arith, c.pieces.invariant.place, c.pieces.bytes.ok.0)) (omega (arith, c.pieces.invariant.short, c.pieces.bytes.ok.0)) (omega (arith, left, place)) (c.pieces.invariant.within content told) in
+    subst (λ line. AnswersLine c.args.limit c.args.self.now.at content (Ok line)) (sym same) answer
 
 pub returns-in_err-front-clause-line : goal.returns-in_err-front-clause-line
 returns-in_err-front-clause-line g c = λ content told.
