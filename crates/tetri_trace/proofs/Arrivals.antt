@@ -35,6 +35,7 @@ text_job_sound t j named in_run late good = record {
   not_too_early = late.0;
   not_too_late = late.1;
   well_made = good.well_made;
+  numbered = good.numbered;
   known_sets = leaves_have (λ l. l.set < length t.sets) (expr_of j.demand) good.known;
   starts = leaves_have (λ l. (j.arrival ≤ l.start) × (l.start ≤ j.arrival + 10000)) (expr_of j.demand) good.starts;
 }

@@ -2,7 +2,7 @@
 use Rattle.std.specs.Prelude.{◌<◌, ◌≤◌, ℕ, List, All, map}
 use Rattle.tetri_trace.specs.declared.draft.Draft.{Draft}
 use Rattle.tetri_trace.specs.Scenario.{Scenario, submission}
-use Rattle.tetri_trace.specs.Sound.{IsSound, HasNumberedLeaves}
+use Rattle.tetri_trace.specs.Sound.{IsSound}
 
 -- what a draft says
 abbrev pub so_far : Draft → Scenario
@@ -15,13 +15,8 @@ so_far d = record {
   events = d.events.items;
 }
 
--- a sound trace, whose expressions have their leaves in order
-pub record IsWellRead (s : Scenario) : Type 0 where
-  pub sound : IsSound s
-  pub numbered : HasNumberedLeaves s
-
 abbrev pub IsSoundDraft : Draft → Type 0
-IsSoundDraft d = IsWellRead (so_far d)
+IsSoundDraft d = IsSound (so_far d)
 
 abbrev pub with_sets : Scenario → List (List ℕ) → Scenario
 with_sets s sets = record s { sets = sets }

@@ -1,6 +1,6 @@
 -- Which traces are sound.
-use Rattle.std.specs.Prelude.{◌≡◌, ◌+◌, ◌<◌, ◌≤◌, ◌==◌, ℕ, pos, negsuc, ◌≤ℤ◌, Bool, true, false, All, AllPairs, count_by, length, slice_index_or}
-use Rattle.std.specs.List.{range_with_len}
+use Rattle.std.specs.Prelude.{◌≡◌, ◌+◌, ◌<◌, ◌≤◌, ℕ, pos, negsuc, ◌≤ℤ◌, true, map, All, AllPairs, length, Option, Some, None}
+use Rattle.std.specs.List.{filter_map, zip, range_with_len}
 use Rattle.tetri_strl.specs.Tree.{leaves, numbers}
 use Rattle.tetri_strl.specs.WellMade.{IsWellMade}
 use Rattle.tetri_cluster.specs.Names.{is_name, differ}
@@ -29,6 +29,7 @@ pub record IsSoundSubmission (s : Scenario) (j : Submission) : Type 0 where
   pub not_too_early : negsuc 9999 ≤ℤ j.late
   pub not_too_late : j.late ≤ℤ pos 10000
   pub well_made : IsWellMade (expr_of j.demand)
+  pub numbered : numbers (expr_of j.demand) ≡ range_with_len 0 (length (leaves (expr_of j.demand)))
   pub known_sets : All (λ l. l.set < length s.sets) (leaves (expr_of j.demand))
   pub starts : All (λ l. (j.arrival ≤ l.start) × (l.start ≤ j.arrival + 10000)) (leaves (expr_of j.demand))
 
@@ -45,21 +46,15 @@ abbrev pub CancelsNothingLater : Happening → Happening → Type 0
 CancelsNothingLater (Cancel job) (Arrive other) = job ≡ other → ⊥
 CancelsNothingLater _ _ = Unit {0}
 
--- a job that arrives does so at its slot
-abbrev pub ArrivesAt : Scenario → ℕ → Happening → Type 0
-ArrivesAt s at (Arrive job) = (d : Submission) → (slice_index_or s.submissions job d).arrival ≡ at
-ArrivesAt s at (Cancel job) = Unit {0}
-ArrivesAt s at (Drain node) = Unit {0}
-ArrivesAt s at (Undrain node) = Unit {0}
-ArrivesAt s at (Fail node) = Unit {0}
-
--- whether this job arrives
-abbrev pub is_arrival : ℕ → Happening → Bool
-is_arrival job (Arrive other) = other == job
-is_arrival job (Cancel other) = false
-is_arrival job (Drain node) = false
-is_arrival job (Undrain node) = false
-is_arrival job (Fail node) = false
+abbrev pub arrival_in : Event → Option (ℕ × ℕ)
+arrival_in e = by_kind e.what
+  where
+    by_kind : Happening → Option (ℕ × ℕ)
+    by_kind (Arrive job) = Some (e.at, job)
+    by_kind (Cancel job) = None
+    by_kind (Drain node) = None
+    by_kind (Undrain node) = None
+    by_kind (Fail node) = None
 
 pub record IsSound (s : Scenario) : Type 0 where
   pub header : IsSoundHeader s.header
@@ -78,14 +73,6 @@ pub record IsSound (s : Scenario) : Type 0 where
   pub events_ascend : AllPairs (λ e f. e.at ≤ f.at) s.events
   pub in_run : All (λ e. e.at < s.header.until) s.events
   pub known : All (λ e. NamesKnown s e.what) s.events
-  pub arrive_in_time : All (λ e. ArrivesAt s e.at e.what) s.events
-  pub arrive_once : (job : ℕ) → job < length s.submissions → count_by (λ e. is_arrival job e.what) s.events ≡ 1
+  -- each job arrives once, at its slot, in the order of the numbers
+  pub arrivals : filter_map arrival_in s.events ≡ zip (map (λ j. j.arrival) s.submissions) (range_with_len 0 (length s.submissions))
   pub cancels : AllPairs (λ e f. CancelsNothingLater e.what f.what) s.events
-
--- the leaves have the numbers 0, 1, 2 and so on, in order
-abbrev pub IsNumberedInOrder : Submission → Type 0
-IsNumberedInOrder j = numbers (expr_of j.demand) ≡ range_with_len 0 (length (leaves (expr_of j.demand)))
-
--- what a trace that was read has besides, and a sound one need not have
-abbrev pub HasNumberedLeaves : Scenario → Type 0
-HasNumberedLeaves s = All IsNumberedInOrder s.submissions

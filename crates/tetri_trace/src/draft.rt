@@ -2,7 +2,7 @@
 ghost use Rattle.std.specs.Prelude.{◌≡◌, IfOk, IsOkUnless};
 ghost use Rattle.tetri_trace.specs.Draft.{so_far, IsSoundDraft};
 ghost use Rattle.tetri_trace.specs.Scenario.{scenario};
-ghost use Rattle.tetri_trace.specs.Sound.{HasNumberedLeaves, IsSound};
+ghost use Rattle.tetri_trace.specs.Sound.{IsSound};
 
 use crate::fault::Stop;
 use crate::jobs::Jobs;
@@ -28,7 +28,6 @@ pub(crate) fn finished(alloc: Global, draft: Draft) -> Result<Trace, Stop>
     requires { IsSoundDraft draft }
     ensures same { IfOk result (λ t. scenario t ≡ so_far draft) }
     ensures sound { IfOk result (λ t. IsSound (scenario t)) }
-    ensures numbered { IfOk result (λ t. HasNumberedLeaves (scenario t)) }
     ensures memory { IsOkUnless result Stop.NoMemory }
 {
     Ok(Trace {

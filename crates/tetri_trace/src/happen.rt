@@ -1,5 +1,5 @@
 // What an event does to the trace that is read so far.
-ghost use Rattle.std.specs.Prelude.{◌≡◌, ◌<◌, ◌≤◌, ◌≤ℤ◌, pos, negsuc, ℕ, true, false, nat_lt, AllPairs, length, IfOk, OnOk, IsOkUnless, ok_or};
+ghost use Rattle.std.specs.Prelude.{◌≡◌, ◌<◌, ◌≤◌, ◌≤ℤ◌, pos, negsuc, true, false, nat_lt, AllPairs, None, length, IfOk, OnOk, IsOkUnless, ok_or};
 ghost use Rattle.std.specs.List.{list_any};
 ghost use Rattle.tetri_cluster.specs.Cluster.{names_of};
 ghost use Rattle.tetri_cluster.specs.Names.{is_among, is_name, number_of};
@@ -12,7 +12,7 @@ ghost use Rattle.tetri_trace.specs.Lines.{admitted, arrived, happened, next_slot
 ghost use Rattle.tetri_trace.specs.Notices.{IsGoodNotice};
 ghost use Rattle.tetri_trace.specs.Objects.{notice};
 ghost use Rattle.tetri_trace.specs.Scenario.{job_names, submission};
-ghost use Rattle.tetri_trace.specs.Sound.{is_arrival, IsNumberedInOrder, IsSoundSubmission, NamesKnown};
+ghost use Rattle.tetri_trace.specs.Sound.{arrival_in, IsSoundSubmission, NamesKnown};
 ghost use Rattle.tetri_trace.specs.declared.fault.TraceWhy.TheVariants as whys;
 
 use crate::draft::Draft;
@@ -57,7 +57,7 @@ fn with_event(draft: &mut Draft, at: u32, what: Happening) -> Result<(), Stop>
     requires sound { IsSoundDraft draft.old }
     requires next { IsNextSlot (so_far draft.old) at }
     requires known { NamesKnown (so_far draft.old) what }
-    requires no_arrival { (job : ℕ) → is_arrival job what ≡ false }
+    requires no_arrival { arrival_in (record { at = at; what = what }) ≡ None }
     ensures same { OnOk result (so_far draft.new ≡ with_event (so_far draft.old) at what) }
     ensures sound { OnOk result (IsSoundDraft draft.new) }
     ensures memory { IsOkUnless result Stop.NoMemory }
@@ -71,7 +71,6 @@ fn with_job(draft: &mut Draft, job: Job) -> Result<(), Stop>
     requires sound { IsSoundDraft draft.old }
     requires next { IsNextSlot (so_far draft.old) job.arrival }
     requires job { IsSoundSubmission (so_far draft.old) (submission job) }
-    requires numbered { IsNumberedInOrder (submission job) }
     requires new { is_among job.name (job_names (so_far draft.old).submissions) ≡ false }
     ensures gives { Gives (λ _. so_far draft.new) result (admitted (so_far draft.old) (submission job)) }
     ensures sound { OnOk result (IsSoundDraft draft.new) }

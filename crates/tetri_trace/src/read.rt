@@ -6,7 +6,7 @@ ghost use Rattle.tetri_trace.specs.Answers.{AnswersTrace, fault_at};
 ghost use Rattle.tetri_trace.specs.Draft.{so_far, IsSoundDraft};
 ghost use Rattle.tetri_trace.specs.Lines.{ended, scenario_in};
 ghost use Rattle.tetri_trace.specs.Scenario.{scenario};
-ghost use Rattle.tetri_trace.specs.Sound.{HasNumberedLeaves, IsSound};
+ghost use Rattle.tetri_trace.specs.Sound.{IsSound};
 
 use crate::draft::{Draft, finished};
 use crate::fault::{Stop, TraceFault, TraceWhy};
@@ -21,7 +21,6 @@ pub fn read_trace<S: Shelf>(alloc: Global, shelf: &mut S, name: &str) -> Result<
     ensures exact { (content : List ℕ) → S.told shelf.old name.now ≡ Some content
         → AnswersTrace result (scenario_in content) }
     ensures sound { IfOk result (λ t. IsSound (scenario t)) }
-    ensures numbered { IfOk result (λ t. HasNumberedLeaves (scenario t)) }
     ensures same { S.told shelf.new ≡ S.told shelf.old }
     ensures read { IsErrOf result TraceFault.Read
         → Rose (S.faults shelf.old name.now) (S.faults shelf.new name.now) }
@@ -56,7 +55,6 @@ fn ended(alloc: Global, draft: Option<Draft>, line: u64) -> Result<Trace, TraceF
     ensures not_read { IsErrOf result TraceFault.Read → ⊥ }
     ensures exact { AnswersTrace result (ended (option_map so_far draft) line) }
     ensures sound { IfOk result (λ t. IsSound (scenario t)) }
-    ensures numbered { IfOk result (λ t. HasNumberedLeaves (scenario t)) }
 {
     match draft {
         Some(draft) => match finished(alloc, draft) {

@@ -18,7 +18,7 @@ returns-in-Some-clause-put c =
     let old = c.index_mut.result.now in
     let listed : old ≡ get_or lists m [] = c.index_mut.ensures.value ∙ get_or_default lists m old [] (omega (arith, c.in-Some.ensures.within, c.requires)) in
     let put = λ (more : c.push.new.self ≡ old ++ c.args.node ∷ []) (same : c.push.new.self ≡ old ++ c.args.node ∷ []) (q : List ℕ).
-        ap (λ l. tag_list tags (set lists m l) q) (more ∙ ap (λ l. l ++ c.args.node ∷ []) listed) ∙ put_known tags lists c.args.tag.now m c.args.node (sym c.in-Some.ensures.value) c.requires q in
+    ap (λ l. tag_list tags (set lists m l) q) (more ∙ ap (λ l. l ++ c.args.node ∷ []) listed) ∙ put_known tags lists c.args.tag.now m c.args.node (sym c.in-Some.ensures.value) c.requires q in
     then_so c.push.result _ _ _ put c.push.ensures.ok c.push.ensures.ok
 
 pub returns-in-None-clause-put : goal.returns-in-None-clause-put
@@ -27,5 +27,5 @@ returns-in-None-clause-put c =
     let lists = c.args.lists.now.items in
     let t = c.args.tag.now in
     let put = λ (more : c.put_first.new.tags ≡ tags ++ t ∷ []) (longer : c.put_first.new.lists.items ≡ lists ++ (c.args.node ∷ []) ∷ []) (q : List ℕ).
-        ap (λ ts. tag_list ts c.put_first.new.lists.items q) more ∙ ap (λ ls. tag_list (tags ++ t ∷ []) ls q) longer ∙ put_new tags lists t c.args.node (sym c.in-None.ensures.value) c.requires q in
+    ap (λ ts. tag_list ts c.put_first.new.lists.items q) more ∙ ap (λ ls. tag_list (tags ++ t ∷ []) ls q) longer ∙ put_new tags lists t c.args.node (sym c.in-None.ensures.value) c.requires q in
     then_so c.put_first.result _ _ _ put c.put_first.ensures.tags c.put_first.ensures.lists

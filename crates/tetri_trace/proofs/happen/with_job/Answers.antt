@@ -1,10 +1,9 @@
 use Rattle.std.proofs.Common.{◌≡◌, ◌∙◌, ◌<◌, ◌++◌, ◌∷◌, [], sym, ap, map, length, subst, arith}
 use Rattle.std.proofs.lemmas.List.{length-map, map-append}
 use Rattle.tetri_cluster.specs.Names.{differ}
-use Rattle.std.proofs.lemmas.List.Elements.{All-push}
-use Rattle.tetri_trace.specs.Draft.{so_far, IsWellRead}
+use Rattle.tetri_trace.specs.Draft.{so_far}
 use Rattle.tetri_trace.specs.Scenario.{submission, job_names}
-use Rattle.tetri_trace.specs.Sound.{IsNumberedInOrder}
+use Rattle.tetri_trace.specs.Sound.{IsSound}
 use Rattle.tetri_trace.specs.declared.trace.Happening.TheVariants.{Arrive}
 use Rattle.tetri_trace.proofs.Longer.{with_job_sound}
 use Rattle.tetri_trace.proofs.happen.with_job.Goals as goal
@@ -19,5 +18,5 @@ returns-clause-sound c =
     let few : length s.submissions < 100000 = omega (arith, c.if-len-ge-JOBS_MOST.false, c.len.ensures.value, length-map items submission) in
     let events = c.in_ok-push-2.ensures.items ∙ ap (λ n. s.events ++ (record { at = job.arrival; what = Arrive n }) ∷ []) count in
     let different = ap (λ js. differ (job_names js)) (sym jobs) ∙ c.in_ok-push.ensures.differ in
-    subst IsWellRead (sym (ap (λ js. record s { submissions = js; events = c.push-2.new.self.items }) jobs ∙ ap (λ es. record s { submissions = s.submissions ++ job ∷ []; events = es }) events))
-    (record { sound = with_job_sound s job c.requires.sound.sound c.requires.next c.requires.job few different; numbered = All-push IsNumberedInOrder s.submissions job c.requires.sound.numbered c.requires.numbered })
+    subst IsSound (sym (ap (λ js. record s { submissions = js; events = c.push-2.new.self.items }) jobs ∙ ap (λ es. record s { submissions = s.submissions ++ job ∷ []; events = es }) events))
+    (with_job_sound s job c.requires.sound c.requires.next c.requires.job few different)

@@ -6,8 +6,5 @@ use Rattle.tetri_trace.proofs.happen.with_text.Goals as goal
 
 pub returns-in-Ok-clause-sound : goal.returns-in-Ok-clause-sound
 returns-in-Ok-clause-sound c =
-    record {
-      sound = with_sets_sound (so_far c.args.draft.now) c.read_expr.new.sets c.requires.sound.sound c.len.ensures.are_sets (omega (arith, c.len.ensures.value, c.len.ensures.most)) (c.in-Ok.ensures.within c.requires.sound.sound.known_nodes)
-          (omega (arith, ap length c.in-Ok.ensures.kept, length-take (length c.args.draft.now.sets) c.read_expr.new.sets));
-      numbered = c.requires.sound.numbered;
-    }
+    with_sets_sound (so_far c.args.draft.now) c.read_expr.new.sets c.requires.sound c.len.ensures.are_sets (omega (arith, c.len.ensures.value, c.len.ensures.most)) (c.in-Ok.ensures.within c.requires.sound.known_nodes)
+    (omega (arith, ap length c.in-Ok.ensures.kept, length-take (length c.args.draft.now.sets) c.read_expr.new.sets))

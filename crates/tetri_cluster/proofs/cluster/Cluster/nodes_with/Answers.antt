@@ -11,7 +11,7 @@ returns-in-Some-clause-members c = λ node.
     let lists = c.self.inside.by_tag.items in
     let there : c.in-Some.number < length lists = omega (arith, c.in-Some.ensures.within, c.self.invariant.3) in
     let listed : c.as_slice.result.now ≡ tagged_from 0 tag c.args.self.now = c.as_slice.ensures ∙ c.index.ensures ∙ get_or_default lists c.in-Some.number c.index.result.now [] there
-        ∙ sym (tag_list_some c.self.inside.tags lists tag c.in-Some.number (sym c.in-Some.ensures.value)) ∙ c.self.invariant.4 tag ∙ ap (tagged_from 0 tag) c.self.view_is in
+    ∙ sym (tag_list_some c.self.inside.tags lists tag c.in-Some.number (sym c.in-Some.ensures.value)) ∙ c.self.invariant.4 tag ∙ ap (tagged_from 0 tag) c.self.view_is in
     ap (list_any (nat_eq node)) listed ∙ ap (λ n. list_any (nat_eq n) (tagged_from 0 tag c.args.self.now)) (sym (zero-add node)) ∙ listed_members 0 node tag c.args.self.now
 
 pub returns-in-Some-clause-within : goal.returns-in-Some-clause-within
@@ -20,7 +20,7 @@ returns-in-Some-clause-within c =
     let lists = c.self.inside.by_tag.items in
     let there : c.in-Some.number < length lists = omega (arith, c.in-Some.ensures.within, c.self.invariant.3) in
     let listed : c.as_slice.result.now ≡ tagged_from 0 tag c.args.self.now = c.as_slice.ensures ∙ c.index.ensures ∙ get_or_default lists c.in-Some.number c.index.result.now [] there
-        ∙ sym (tag_list_some c.self.inside.tags lists tag c.in-Some.number (sym c.in-Some.ensures.value)) ∙ c.self.invariant.4 tag ∙ ap (tagged_from 0 tag) c.self.view_is in
+    ∙ sym (tag_list_some c.self.inside.tags lists tag c.in-Some.number (sym c.in-Some.ensures.value)) ∙ c.self.invariant.4 tag ∙ ap (tagged_from 0 tag) c.self.view_is in
     subst (All (λ n. n < length c.args.self.now)) (sym listed) (listed_within 0 (length c.args.self.now) tag c.args.self.now (omega arith))
 
 pub returns-in-Some-clause-known : goal.returns-in-Some-clause-known
@@ -29,7 +29,7 @@ returns-in-Some-clause-known c =
     let lists = c.self.inside.by_tag.items in
     let there : c.in-Some.number < length lists = omega (arith, c.in-Some.ensures.within, c.self.invariant.3) in
     let listed : c.as_slice.result.now ≡ tagged_from 0 tag c.args.self.now = c.as_slice.ensures ∙ c.index.ensures ∙ get_or_default lists c.in-Some.number c.index.result.now [] there
-        ∙ sym (tag_list_some c.self.inside.tags lists tag c.in-Some.number (sym c.in-Some.ensures.value)) ∙ c.self.invariant.4 tag ∙ ap (tagged_from 0 tag) c.self.view_is in
+    ∙ sym (tag_list_some c.self.inside.tags lists tag c.in-Some.number (sym c.in-Some.ensures.value)) ∙ c.self.invariant.4 tag ∙ ap (tagged_from 0 tag) c.self.view_is in
     known_listed 0 tag c.args.self.now ∙ ap (λ l. nat_lt 0 (length l)) (sym listed)
 
 pub returns-in-None-clause-members : goal.returns-in-None-clause-members
