@@ -3,3 +3,4 @@ pub mod NamesBack
 pub mod NameTables
 pub mod Repeats
 pub mod SetsAdded
+pub mod TagLists

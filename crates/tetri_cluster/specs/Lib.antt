@@ -1,3 +1,4 @@
 pub mod Names
 pub mod Cluster
 pub mod Sets
+pub mod Tags

@@ -1,8 +1,10 @@
 // The nodes of a cluster.
-ghost use Rattle.std.specs.Prelude.{◌≡◌, ◌<◌, ◌≤◌, ℕ, length, true, None, Some, IfOk, IfSome, IsErrOf};
+ghost use Rattle.std.specs.Prelude.{◌≡◌, ◌<◌, ◌≤◌, ℕ, All, length, true, nat_eq, nat_lt, None, Some, IfOk, IfSome, IsErrOf};
+ghost use Rattle.std.specs.List.{list_any};
 ghost use Rattle.tetri_cluster.specs.Names.{differ, is_among, number_of, first_repeated};
 
-use crate::{Name, NameList, NameTable};
+use crate::tags::tag_lists;
+use crate::{Name, NameList, NameTable, NodeSet};
 use std::alloc::{AllocError, Global};
 use std::marker::Model;
 
@@ -22,20 +24,24 @@ pub struct NodeText {
 pub struct Cluster {
     nodes: Vec<NodeText>,
     names: NameTable,
+    tags: NameTable,
+    by_tag: Vec<NodeSet>,
 }
 
 impl Model for Cluster {
-    ghost use Rattle.std.specs.Prelude.{List, ◌≡◌, ◌≤◌, length, true};
+    ghost use Rattle.std.specs.Prelude.{List, ℕ, ◌≡◌, ◌≤◌, length, true};
     ghost use Rattle.tetri_cluster.specs.declared.cluster.NodeText.{NodeText};
     ghost use Rattle.tetri_cluster.specs.Cluster.{names_of};
     ghost use Rattle.tetri_cluster.specs.Names.{differ};
+    ghost use Rattle.tetri_cluster.specs.Tags.{tag_list, tagged_from};
 
     ghost Value = { List NodeText };
 
     ghost view = { λ c. c.nodes.items };
 
     ghost invariant = { λ c. (c.names ≡ names_of c.nodes.items) × (length c.nodes.items ≤ 4096)
-        × (differ (names_of c.nodes.items) ≡ true) };
+        × (differ (names_of c.nodes.items) ≡ true) × (length c.by_tag.items ≡ length c.tags)
+        × ((tag : List ℕ) → tag_list c.tags c.by_tag.items tag ≡ tagged_from 0 tag c.nodes.items) };
 }
 
 /// Why nodes make no cluster.
@@ -72,7 +78,13 @@ impl Cluster {
             return Err(ClusterFault::TooManyNodes(nodes.len()));
         }
         let names = Cluster::number_names(alloc, &nodes)?;
-        Ok(Cluster { nodes, names })
+        let (tags, by_tag) = tag_lists(alloc, &nodes)?;
+        Ok(Cluster {
+            nodes,
+            names,
+            tags,
+            by_tag,
+        })
     }
 
     /// How many nodes there are. Their names differ.
@@ -109,11 +121,23 @@ impl Cluster {
         holds_name(&self.nodes[node as usize].tags, tag)
     }
 
+    /// The nodes that have a tag, each perhaps more than once. They are looked up by an index.
+    pub fn nodes_with(&self, tag: &[u8]) -> &[u32]
+        ensures members { (node : ℕ) → list_any (nat_eq node) result.now ≡ is_among tag.now (tags_at self.now node) }
+        ensures within { All (λ node. node < length self.now) result.now }
+        ensures known { knows_tag self.now tag.now ≡ nat_lt 0 (length result.now) }
+    {
+        match self.tags.number(tag) {
+            Some(number) => self.by_tag[number].as_slice(),
+            None => &[],
+        }
+    }
+
     /// Whether some node has a tag.
     pub fn knows_tag(&self, tag: &[u8]) -> bool
         ensures { result ≡ knows_tag self.now tag.now }
     {
-        self.nodes.iter().any(|node| holds_name(&node.tags, tag))
+        !self.nodes_with(tag).is_empty()
     }
 
     // The names of the nodes, by number.

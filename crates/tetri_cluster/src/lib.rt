@@ -6,6 +6,7 @@ mod lists;
 mod name;
 mod sets;
 mod table;
+mod tags;
 
 pub use cluster::{Cluster, ClusterFault, NodeText};
 pub use lists::{NameList, NodeSet};

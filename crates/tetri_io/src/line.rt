@@ -94,8 +94,8 @@ pub fn read_line_at<S: Shelf>(
     }
 }
 
-// Adds what stands before the first line feed of a piece, and says how much it was.
-fn add_front(bytes: &mut Vec<u8>, piece: &[u8], limit: usize) -> Result<usize, LineFault>
+/// Adds what stands before the first line feed of a piece, and says how much it was.
+pub(crate) fn add_front(bytes: &mut Vec<u8>, piece: &[u8], limit: usize) -> Result<usize, LineFault>
     requires { vec_len bytes.old ≤ limit }
     ensures ok { IfOk result (λ n. (n ≡ length (line_of piece.now)) × (n ≤ length piece.now)
         × (bytes.new.items ≡ bytes.old.items ++ take n piece.now) × (vec_len bytes.new ≤ limit)
@@ -125,8 +125,8 @@ fn line_len(bytes: &[u8]) -> usize
     bytes.len()
 }
 
-// The last line, which has no line feed, or the end.
-fn line_or_end(bytes: Vec<u8>, next: u64) -> Line
+/// The last line, which has no line feed, or the end.
+pub(crate) fn line_or_end(bytes: Vec<u8>, next: u64) -> Line
     ensures { result ≡ line_or_end bytes next }
 {
     if bytes.is_empty() {

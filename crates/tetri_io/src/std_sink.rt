@@ -1,6 +1,6 @@
 // The writers of std. They tell nothing of what was written.
-ghost use Rattle.std.specs.Prelude.{◌≡◌, ◌<◌, ◌≤◌, length, take, IfOk, MatchResult};
-ghost use Rattle.std.specs.Io.KnownBytes.{append_known, Appends};
+ghost use Rattle.std.specs.Prelude.{◌≡◌, ◌<◌, ◌≤◌, length, take, IfOk, MatchResult, OnErr};
+ghost use Rattle.std.specs.Io.KnownBytes.{append_known, Appends, Keeps};
 ghost use Rattle.tetri_io.specs.Causes.{HasCause, count_after};
 
 use crate::{Failed, Sink};
@@ -33,6 +33,7 @@ impl<W: Write> Sink for StdSink<W> {
 
     ghost faults = { fault_count };
 
+    #[tactic(auto, using(crate::proofs::Known::keeps_nothing))]
     fn write(&mut self, piece: &[u8]) -> Result<usize, Failed>
         requires { 0 < length piece.now }
 
@@ -43,9 +44,11 @@ impl<W: Write> Sink for StdSink<W> {
             (λ _. told_bytes self.new ≡ told_bytes self.old) }
         ensures cause { HasCause (fault_count self.old) (fault_count self.new) result }
 
-        // What this one ensures besides: where the writer tells its bytes, it took these.
+        // What this one ensures besides: where the writer tells its bytes, it took these, and none at a fault.
         ensures taken { IfOk result (λ n. Appends (W.contents (writer_of self.old))
             (W.contents (writer_of self.new)) (take n piece.now)) }
+        ensures refused { OnErr result (Keeps (W.contents (writer_of self.old))
+            (W.contents (writer_of self.new))) }
         ensures counted { fault_count self.new ≡ count_after (fault_count self.old) result }
     {
         match self.out.write(piece) {

@@ -1,6 +1,7 @@
 mod Added
 mod Every
 mod FirstMet
+mod FirstFaults
 mod Grammars
 mod LeavesBack
 mod NodeSets

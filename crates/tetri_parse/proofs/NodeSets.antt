@@ -35,6 +35,11 @@ kept_is_node_set count p nodes h = record {
   within = All-filter p (λ n. n < count) nodes h.within;
 }
 
+-- tests that agree keep the same nodes
+pub kept_alike : (p q : ℕ → Bool) → ((n : ℕ) → p n ≡ q n) → (xs : List ℕ) → filter p xs ≡ filter q xs
+kept_alike p q same [] = refl
+kept_alike p q same (x ∷ xs) = rw (same x, kept_alike p q same xs) refl
+
 pub chosen_more : (flags : List Bool) (numbers : List ℕ) (i n : ℕ) → i < length numbers → n < length flags → get_or flags n false ≡ list_any (nat_eq n) (take i numbers) → get_or (set flags (get_or numbers i 0) true) n false ≡ list_any (nat_eq n) (take (i + 1) numbers)
 chosen_more flags numbers i n lt short so_far = let e = list_any_more (nat_eq n) numbers i 0 lt in grind (arith, common_steps, nat_tests)
 

@@ -1,5 +1,5 @@
 -- All faults that the second pass may find, each by itself, in the order of the text.
-use Rattle.std.specs.Prelude.{◌≡◌, ℕ, ◌*◌, ◌%◌, ◌==◌, ◌&&◌, Bool, not, nat_lt, max, if◌then◌else◌, List, [], ◌∷◌, ◌++◌, Option, Some, None, Result, Ok, Err, IfOk}
+use Rattle.std.specs.Prelude.{◌≡◌, ℕ, ◌*◌, ◌%◌, ◌-◌, length, option_map, ◌==◌, ◌&&◌, Bool, not, nat_lt, max, if◌then◌else◌, List, [], ◌∷◌, ◌++◌, Option, Some, None, Result, Ok, Err, IfOk}
 use Rattle.std.specs.List.{list_any}
 use Rattle.tetri_strl.specs.Tree.{Operator, greatest, least, added}
 use Rattle.tetri_strl.specs.WellMade.{PEAK, peak_joined}
@@ -7,6 +7,8 @@ use Rattle.tetri_cluster.specs.Sets.{set_added}
 use Rattle.tetri_parse.specs.declared.fault.Fault.{Fault}
 use Rattle.tetri_parse.specs.declared.fault.Fault.TheVariants.{UnknownSet, Uneven, Mixed, TooRich, TooManySets}
 use Rattle.tetri_parse.specs.declared.fault.Miss.{Miss}
+use Rattle.tetri_parse.specs.declared.fault.ParseFault.{ParseFault}
+use Rattle.tetri_parse.specs.declared.fault.ParseFault.TheVariants as faults
 use Rattle.tetri_parse.specs.declared.syntax.LeafText.{LeafText}
 use Rattle.tetri_parse.specs.Phrase.{Phrase, Phrases, asked, joined, scaled, barred, nothing, followed}
 use Rattle.tetri_cluster.specs.declared.cluster.NodeText.{NodeText}
@@ -80,3 +82,21 @@ IsFirstOf (m ∷ ms) (Err e) = e ≡ m
 -- where the first pass finds no fault, reading a text meets the first of all faults of the second
 abbrev pub MeetsFirst : List ℕ → ℕ → ℕ → List NodeText → List (List ℕ) → Type 0
 MeetsFirst text unit arrival cluster sets = IfOk (whole_at cluster text) (λ spelled. IsFirstOf (all_faults unit [] spelled sets) (settled unit arrival None spelled sets))
+
+abbrev pub first_of : List Miss → Option Miss
+first_of [] = None
+first_of (m ∷ ms) = Some m
+
+abbrev pub fault_behind : ℕ → List (List ℕ) → Result Phrase Miss → Option Miss
+fault_behind unit sets (Ok spelled) = first_of (all_faults unit [] spelled sets)
+fault_behind unit sets (Err m) = Some m
+
+-- the first fault of a text: that of its grammar, and else the first of all others
+abbrev pub first_fault : List ℕ → ℕ → List NodeText → List (List ℕ) → Option Miss
+first_fault text unit cluster sets = fault_behind unit sets (whole_at cluster text)
+
+-- what is answered to a text with this first fault, unless memory ran out
+abbrev pub AnswersFault : {A : Type 0} → List ℕ → Option Miss → Result A ParseFault → Type 0
+AnswersFault text found (Ok x) = found ≡ None
+AnswersFault text found (Err (faults.At offset fault)) = option_map {U = ℕ × Fault} (λ m. (length text - m.left, m.fault)) found ≡ Some (offset, fault)
+AnswersFault text found (Err faults.NoMemory) = Unit {0}

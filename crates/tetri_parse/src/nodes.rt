@@ -1,8 +1,6 @@
 // The nodes that the parts of a set mean.
 ghost use Rattle.std.specs.Prelude.{◌≡◌, ◌<◌, ℕ, All, map, length, filter, nat_eq, false, replicate, slice_index_or, option_map, IfOk, IfSome};
 ghost use Rattle.std.specs.List.{list_any, range_with_len};
-ghost use Rattle.tetri_cluster.specs.Names.{is_among};
-ghost use Rattle.tetri_cluster.specs.Cluster.{tags_at};
 ghost use Rattle.tetri_parse.specs.SetText.{part_of, numbers_of, narrowed, IsNodeSet};
 
 use crate::set_text::Part;
@@ -19,25 +17,6 @@ pub(crate) fn all_nodes(alloc: Global, count: u32) -> Result<NodeSet, AllocError
         nodes.push(node)?;
     }
     Ok(nodes)
-}
-
-// Those of the nodes that have a tag.
-fn tagged(
-    alloc: Global,
-    cluster: &Cluster,
-    tag: &[u8],
-    nodes: &[u32],
-) -> Result<NodeSet, AllocError>
-    requires { All (λ n. n < length cluster.now) nodes.now }
-    ensures { IfOk result (λ s. s ≡ filter (λ n. is_among tag.now (tags_at cluster.now n)) nodes.now) }
-{
-    let mut found = NodeSet::new(alloc);
-    for node in nodes {
-        if cluster.has_tag(*node, tag) {
-            found.push(*node)?;
-        }
-    }
-    Ok(found)
 }
 
 // The numbers of the nodes with these names, none where one is no node's name.
@@ -113,10 +92,11 @@ pub(crate) fn narrow(
     match part {
         Part::Every => Ok(Some(nodes)),
         Part::Tagged(tag) => {
-            if !cluster.knows_tag(tag) {
+            let tagged = cluster.nodes_with(tag);
+            if tagged.is_empty() {
                 return Ok(None);
             }
-            Ok(Some(tagged(alloc, cluster, tag, nodes.as_slice())?))
+            Ok(Some(among(alloc, cluster.count(), tagged, nodes.as_slice())?))
         }
         Part::Listed(names) => {
             let Some(numbers) = numbers(alloc, cluster, names)? else {

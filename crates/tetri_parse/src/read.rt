@@ -6,6 +6,7 @@ ghost use Rattle.tetri_strl.specs.Tree.{tree, numbers, leaves};
 ghost use Rattle.tetri_strl.specs.WellMade.{IsWellMade};
 ghost use Rattle.tetri_parse.specs.Answers.{Gives, Answers, fault_in};
 ghost use Rattle.tetri_parse.specs.Expression.{expression, expression_left, node_set, node_set_left};
+ghost use Rattle.tetri_parse.specs.Faults.{first_fault, AnswersFault};
 ghost use Rattle.tetri_parse.specs.TextTree.{AreWithin, IsTextTree};
 
 use crate::fault::{Fault, ParseFault, Stop};
@@ -62,6 +63,7 @@ pub fn read_expr(
     requires unit { (1 ≤ unit) × (unit ≤ 1000000) }
     requires arrival { arrival ≤ 10000 }
     ensures value { Answers (λ e. (tree e, sets.new)) result (expression text.entry.now unit arrival cluster.entry.now sets.old) }
+    ensures first { AnswersFault text.entry.now (first_fault text.entry.now unit cluster.entry.now sets.old) result }
     ensures refused { OnErr result (sets.new ≡ sets.old) }
     ensures kept { take (length sets.old) sets.new ≡ sets.old }
     ensures well_made { IfOk result (λ e. IsWellMade (tree e)) }

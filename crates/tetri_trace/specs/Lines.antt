@@ -9,12 +9,12 @@ use Rattle.tetri_parse.specs.Expression.{expression}
 use Rattle.tetri_trace.specs.Answers.{at_line, in_text}
 use Rattle.tetri_base.specs.ResultSteps.{◌>>=◌}
 use Rattle.tetri_trace.specs.Fields.{object_in}
-use Rattle.tetri_trace.specs.Objects.{Notice, arrives, cancels, drains, undrains, event_in, header_in}
+use Rattle.tetri_trace.specs.Objects.{Notice, arrives, cancels, drains, undrains, fails, event_in, header_in}
 use Rattle.tetri_trace.specs.Scenario.{Scenario, Submission, strl, job_names}
 use Rattle.tetri_trace.specs.declared.fault.TraceWhy.{TraceWhy}
 use Rattle.tetri_trace.specs.declared.fault.TraceWhy.TheVariants.{LineTooLong, TraceTooLong, NoHeader, OutOfOrder, PastEnd, NameTaken, NoSuchJob, NoSuchNode, TooManyJobs}
 use Rattle.tetri_trace.specs.declared.trace.Happening.{Happening}
-use Rattle.tetri_trace.specs.declared.trace.Happening.TheVariants.{Arrive, Cancel, Drain, Undrain}
+use Rattle.tetri_trace.specs.declared.trace.Happening.TheVariants.{Arrive, Cancel, Drain, Undrain, Fail}
 
 -- spaces, tabs and carriage returns alone
 abbrev pub is_blank_byte : ℕ → Bool
@@ -51,6 +51,7 @@ happened s at (arrives name late text) = arrived s at name late text
 happened s at (cancels name) = ok_or (number_of name (job_names s.submissions)) NoSuchJob >>= λ job. Ok (with_event s at (Cancel job))
 happened s at (drains name) = ok_or (number_of name (names_of s.nodes)) NoSuchNode >>= λ node. Ok (with_event s at (Drain node))
 happened s at (undrains name) = ok_or (number_of name (names_of s.nodes)) NoSuchNode >>= λ node. Ok (with_event s at (Undrain node))
+happened s at (fails name) = ok_or (number_of name (names_of s.nodes)) NoSuchNode >>= λ node. Ok (with_event s at (Fail node))
 
 -- the trace with the event that an object is
 unfoldable pub add_event : Scenario → Data → Result Scenario TraceWhy
@@ -60,17 +61,16 @@ add_event s d = do
   happened s at said.1
 
 -- The first object is the header, and each later one an event.
-abbrev pub add_object : Option Scenario → Data → Result Scenario TraceWhy
-add_object None d = header_in d
-add_object (Some s) d = add_event s d
+abbrev pub add_object : Option Scenario → Data → Result (Option Scenario) TraceWhy
+add_object None d = header_in d >>= λ s. Ok (Some s)
+add_object (Some s) d = add_event s d >>= λ t. Ok (Some t)
 
 -- a line, with the offset behind it and its line feed, after those that made this trace
 unfoldable pub add_line : Option Scenario → List ℕ × ℕ → Result (Option Scenario) TraceWhy
 add_line so_far line =
     if nat_lt 1048576 (length line.0) then Err LineTooLong else (if nat_lt 67108864 line.1 then Err TraceTooLong else (if is_blank line.0 then Ok so_far else (do
       object ← object_in line.0
-      s ← add_object so_far object
-      Ok (Some s))))
+      add_object so_far object)))
 
 -- a trace has a header, which is missed at the line behind the last one
 abbrev pub ended : Option Scenario → ℕ → Result Scenario (ℕ × TraceWhy)

@@ -1,5 +1,5 @@
 // A trace, line by line.
-ghost use Rattle.std.specs.Prelude.{◌≡◌, ◌≤◌, OnOk, IfOk, option_map};
+ghost use Rattle.std.specs.Prelude.{◌≡◌, ◌≤◌, OnOk, option_map};
 ghost use Rattle.std.specs.Option.{ForSome};
 ghost use Rattle.serde_json.specs.View.{view};
 ghost use Rattle.tetri_trace.specs.Answers.{Gives};
@@ -44,17 +44,17 @@ fn add_event(alloc: Global, draft: &mut Draft, object: &Value) -> Result<(), Sto
 }
 
 // The first object is the header, and each later one an event.
-fn add_object(alloc: Global, draft: Option<Draft>, object: &Value) -> Result<Draft, Stop>
-    requires { ForSome draft IsSoundDraft }
-    ensures gives { Gives so_far result (add_object (option_map so_far draft) (view object.now)) }
-    ensures sound { IfOk result IsSoundDraft }
+fn add_object(alloc: Global, draft: &mut Option<Draft>, object: &Value) -> Result<(), Stop>
+    requires { ForSome draft.old IsSoundDraft }
+    ensures gives { Gives (λ _. option_map so_far draft.new) result (add_object (option_map so_far draft.old) (view object.now)) }
+    ensures sound { OnOk result (ForSome draft.new IsSoundDraft) }
 {
     match draft {
-        Some(mut draft) => {
-            add_event(alloc, &mut draft, object)?;
-            Ok(draft)
+        Some(draft) => add_event(alloc, draft, object),
+        None => {
+            *draft = Some(header_in(alloc, object)?);
+            Ok(())
         }
-        None => header_in(alloc, object),
     }
 }
 
@@ -62,13 +62,13 @@ fn add_object(alloc: Global, draft: Option<Draft>, object: &Value) -> Result<Dra
 #[tactic(auto, unfolding(crate::specs::Lines::add_line))]
 pub(crate) fn add_line(
     alloc: Global,
-    draft: Option<Draft>,
+    draft: &mut Option<Draft>,
     line: &[u8],
     next: u64,
-) -> Result<Option<Draft>, Stop>
-    requires { ForSome draft IsSoundDraft }
-    ensures gives { Gives (option_map so_far) result (add_line (option_map so_far draft) (line.now, next)) }
-    ensures sound { IfOk result (λ d. ForSome d IsSoundDraft) }
+) -> Result<(), Stop>
+    requires { ForSome draft.old IsSoundDraft }
+    ensures gives { Gives (λ _. option_map so_far draft.new) result (add_line (option_map so_far draft.old) (line.now, next)) }
+    ensures sound { OnOk result (ForSome draft.new IsSoundDraft) }
     ensures short { OnOk result (next ≤ 67108864) }
 {
     if line.len() > LINE_MOST {
@@ -78,9 +78,8 @@ pub(crate) fn add_line(
         return Err(Stop::Because(TraceWhy::TraceTooLong));
     }
     if is_blank(line) {
-        return Ok(draft);
+        return Ok(());
     }
     let object = object_in(alloc, line)?;
-    let draft = add_object(alloc, draft, &object)?;
-    Ok(Some(draft))
+    add_object(alloc, draft, &object)
 }

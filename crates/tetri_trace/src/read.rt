@@ -13,7 +13,7 @@ use crate::fault::{Stop, TraceFault, TraceWhy};
 use crate::lines::{LINE_MOST, add_line};
 use crate::trace::Trace;
 use std::alloc::Global;
-use tetri_io::{Line, LineFault, Shelf, read_line_at};
+use tetri_io::{Line, LineFault, LineReader, Shelf};
 
 /// The trace that a name holds. `Read` comes only where the count of the name's faults rose. `Bad` comes
 /// exactly where a line is faulty, with the first such line and the first fault that holds there.
@@ -26,18 +26,18 @@ pub fn read_trace<S: Shelf>(alloc: Global, shelf: &mut S, name: &str) -> Result<
         → Rose (S.faults shelf.old name.now) (S.faults shelf.new name.now) }
     ensures later { (other : List ℕ) → S.faults shelf.old other ≤ S.faults shelf.new other }
 {
+    let Ok(mut reader) = LineReader::new(alloc) else {
+        return Err(TraceFault::NoMemory);
+    };
     let mut draft = None;
     let mut line = 1u64;
-    let mut offset = 0u64;
     'lines: loop {
-        match read_line_at(alloc, shelf, name, offset, LINE_MOST) {
+        match reader.next_line(alloc, shelf, name, LINE_MOST) {
             Ok(Line::Text { bytes, next }) => {
-                match add_line(alloc, draft, &bytes, next) {
-                    Ok(more) => draft = more,
-                    Err(stop) => return Err(fault_at(line, stop)),
+                if let Err(stop) = add_line(alloc, &mut draft, &bytes, next) {
+                    return Err(fault_at(line, stop));
                 }
                 line += 1;
-                offset = next;
             }
             Ok(Line::End) => return ended(alloc, draft, line),
             Err(LineFault::TooLong) => {

@@ -9,4 +9,4 @@ pub returns-in_err-object-clause-gives : goal.returns-in_err-object-clause-gives
 returns-in_err-object-clause-gives c =
     let e = err_from_is_err_and c.from_residual.result c.from_residual.ensures.1 in
     rw (e.1, e.2)
-    (no_object (option_map so_far c.args.draft) c.args.line.now c.args.next c.in_err-object.field-0.0 c.if-line-gt-LINE_MOST.false c.if-next-gt-TRACE_MOST.false (sym c.if-is_blank.ensures) c.in_err-object.ensures)
+    (no_object (option_map so_far c.args.draft.now) c.args.line.now c.args.next c.in_err-object.field-0.0 c.if-line-gt-LINE_MOST.false c.if-next-gt-TRACE_MOST.false (sym c.if-is_blank.ensures) c.in_err-object.ensures)
