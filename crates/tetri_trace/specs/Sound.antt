@@ -9,7 +9,7 @@ use Rattle.tetri_cluster.specs.Sets.{AreSets}
 use Rattle.tetri_trace.specs.declared.trace.Header.{Header}
 use Rattle.tetri_trace.specs.declared.trace.Event.{Event}
 use Rattle.tetri_trace.specs.declared.trace.Happening.{Happening}
-use Rattle.tetri_trace.specs.declared.trace.Happening.TheVariants.{Arrive, Cancel, Drain, Undrain}
+use Rattle.tetri_trace.specs.declared.trace.Happening.TheVariants.{Arrive, Cancel, Drain, Undrain, Fail}
 use Rattle.tetri_trace.specs.Scenario.{Submission, Scenario, expr_of, job_names}
 
 pub record IsSoundHeader (h : Header) : Type 0 where
@@ -38,6 +38,7 @@ NamesKnown s (Arrive job) = job < length s.submissions
 NamesKnown s (Cancel job) = job < length s.submissions
 NamesKnown s (Drain node) = node < length s.nodes
 NamesKnown s (Undrain node) = node < length s.nodes
+NamesKnown s (Fail node) = node < length s.nodes
 
 -- the second does not bring what the first cancels
 abbrev pub CancelsNothingLater : Happening → Happening → Type 0
@@ -52,6 +53,7 @@ arrival_in e = by_kind e.what
     by_kind (Cancel job) = None
     by_kind (Drain node) = None
     by_kind (Undrain node) = None
+    by_kind (Fail node) = None
 
 pub record IsSound (s : Scenario) : Type 0 where
   pub header : IsSoundHeader s.header

@@ -38,6 +38,7 @@ pub enum Happening {
     Cancel(u32),
     Drain(u32),
     Undrain(u32),
+    Fail(u32),
 }
 
 /// What happens at a slot.
