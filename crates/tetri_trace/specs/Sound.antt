@@ -6,6 +6,7 @@ use Rattle.tetri_strl.specs.WellMade.{IsWellMade}
 use Rattle.tetri_cluster.specs.Names.{is_name, differ}
 use Rattle.tetri_cluster.specs.Cluster.{names_of}
 use Rattle.tetri_cluster.specs.Sets.{AreSets}
+use Rattle.tetri_space.specs.Closed.{AreSoundClosures}
 use Rattle.tetri_trace.specs.declared.trace.Header.{Header}
 use Rattle.tetri_trace.specs.declared.trace.Event.{Event}
 use Rattle.tetri_trace.specs.declared.trace.Happening.{Happening}
@@ -64,6 +65,7 @@ pub record IsSound (s : Scenario) : Type 0 where
   pub sets : AreSets s.sets
   pub few_sets : length s.sets ≤ 4096
   pub known_nodes : All (All (λ n. n < length s.nodes)) s.sets
+  pub closures : AreSoundClosures (length s.nodes) s.closures
   pub few_jobs : length s.submissions ≤ 100000
   pub jobs_differ : differ (job_names s.submissions) ≡ true
   pub jobs_ascend : AllPairs (λ i j. i.arrival ≤ j.arrival) s.submissions
