@@ -3,6 +3,8 @@ use Rattle.std.proofs.Common.{◌≡◌, ℕ, ◌+◌, ◌<◌, ◌==◌, ◌&&�
 use Rattle.std.specs.List.{cons_option, filter_map, list_any}
 use Rattle.std.proofs.lemmas.Bool.Decides.{nat_tests}
 use Rattle.std.proofs.lemmas.List.{get_or-map, length-map}
+use Rattle.tetri_base.specs.Lists.{Each, has}
+use Rattle.tetri_base.proofs.ListLaws.{Each-filter, Each-get, Each-map}
 use Rattle.tetri_trace.specs.declared.trace.Job.{Job}
 use Rattle.tetri_trace.specs.declared.trace.Trace.{Trace}
 use Rattle.tetri_trace.specs.Scenario.{Scenario, scenario, submission}
@@ -17,18 +19,16 @@ use Rattle.tetri_space.specs.Space.{Bid, Space, leaf_in}
 use Rattle.tetri_space.proofs.LeafLemmas.{leaf_in-within}
 use Rattle.tetri_state.specs.declared.pieces.Piece.{Piece}
 use Rattle.tetri_state.specs.After.{after, new_pieces, piece_of}
-use Rattle.tetri_base.specs.Lists.{has}
 use Rattle.tetri_state.specs.Launch.{launched_in, start_of, start_or_0, starts_now}
 use Rattle.tetri_state.specs.Planning.{AreThrifty, bid_of, instance_of}
 use Rattle.tetri_state.specs.Reached.{IsPlan}
 use Rattle.tetri_state.specs.Readied.{IsLaunchOf, Readied, launched_from}
 use Rattle.tetri_state.specs.Snapshot.{Snapshot}
 use Rattle.tetri_state.proofs.ArrivalLemmas.{ArrivedBefore}
-use Rattle.tetri_state.proofs.Ascending.{each_filtered, each_from}
+use Rattle.tetri_state.proofs.Ascending.{each_from}
 use Rattle.tetri_state.proofs.BeginLemmas.{same_state}
 use Rattle.tetri_state.proofs.LaunchLemmas.{grant_leaf, starts_here}
 use Rattle.tetri_state.proofs.StandLemmas.{Stands}
-use Rattle.tetri_state.proofs.ToldLemmas.{Each, each_at, each_weaker}
 
 -- a job of one of the pieces
 pub any_job : (ps : List Piece) (job : ℕ) → has (map (λ (p : Piece). p.job) ps) job ≡ list_any (λ p. p.job == job) ps
@@ -100,7 +100,7 @@ part_is f ns = sym (filter_on (has (filter f ns)) f ns (each_itself f ns))
 pub rest_is : (f : ℕ → Bool) (ns : List ℕ) → filter (λ n. not (has (filter f ns) n)) ns ≡ filter (λ n. not (f n)) ns
 rest_is f ns =
     filter_on (λ n. not (has (filter f ns) n)) (λ n. not (f n)) ns
-    (each_weaker (λ n. has (filter f ns) n ≡ f n) (λ n. not (has (filter f ns) n) ≡ not (f n)) (λ n same. ap not same) ns (each_itself f ns))
+    (Each-map (λ n. has (filter f ns) n ≡ f n) (λ n. not (has (filter f ns) n) ≡ not (f n)) (λ n same. ap not same) ns (each_itself f ns))
 
 -- the launched jobs are the pending ones that have a grant which starts now
 pub launched_is : (t : Scenario) (s : Snapshot) (a : List Grant) → launched_in (instance_of t s) a ≡ filter (starts_now (instance_of t s) a) s.pending
@@ -185,7 +185,7 @@ module _ (t : Scenario) (s : Snapshot) (sound : IsSound t) (stands : Stands t (s
   pub pieces_tell : (job : ℕ) → list_any (λ p. p.job == job) (new_pieces t i a) ≡ starts_now i a job
   pieces_tell job =
       any_made job (filter (λ g. starts_now i a g.job) a)
-      (each_filtered (Contains a) (λ g. starts_now i a g.job) a (each_from (Contains a) a (All-contains_itself a)))
+      (Each-filter (Contains a) (λ g. starts_now i a g.job) a (each_from (Contains a) a (All-contains_itself a)))
       ∙ ap (list_any (λ (g : Grant). g.job == job)) (sym pieces_alike)
       ∙ any_filtered (λ g. start_of i g == i.now) (λ (g : Grant). g.job == job) a
 
@@ -198,7 +198,7 @@ module _ (t : Scenario) (s : Snapshot) (sound : IsSound t) (stands : Stands t (s
       let m : b.1.pending.0 < length s.pending = omega (arith, b.1.pending.1, length-map s.pending (bid_of t)) in
       let is : b.0 ≡ bid_of t (get_or s.pending b.1.pending.0 0) = sym b.1.pending.2 ∙ get_or-map (bid_of t) s.pending b.1.pending.0 0 b.0 m in
       let job : get_or s.pending b.1.pending.0 0 ≡ g.job = sym (ap (λ (c : Bid). c.job) is) ∙ b.1.of_job in
-      omega (arith, job, (each_at (ArrivedBefore t (s.now + 1)) s.pending b.1.pending.0 0 m stands.arrived).0)
+      omega (arith, job, (Each-get (ArrivedBefore t (s.now + 1)) s.pending b.1.pending.0 0 stands.arrived m).0)
 
 pub plan_of : (t : Scenario) (s : Snapshot) (a : List Grant) (i : Space) → i ≡ instance_of t s → IsLawful i a → AreThrifty i a → IsPlan t s a
 plan_of t s a i is lawful thrifty = record {
