@@ -1,5 +1,5 @@
 -- Which jobs arrive in a slot.
-use Rattle.std.proofs.Common.{◌≡◌, ℕ, ◌+◌, ◌<◌, ◌≤◌, ◌==◌, true, List, [], ◌∷◌, length, get_or, map, refl, sym, ap, ◌∙◌, subst, arith, suc}
+use Rattle.std.proofs.Common.{◌≡◌, ℕ, ◌+◌, ◌<◌, ◌==◌, true, List, [], ◌∷◌, length, get_or, map, sym, ap, ◌∙◌, subst, arith, suc}
 use Rattle.std.specs.List.{filter_map, range_with_len, zip}
 use Rattle.std.proofs.lemmas.Bool.Decides.{nat_tests}
 use Rattle.tetri_base.specs.Lists.{Each}

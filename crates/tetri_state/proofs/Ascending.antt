@@ -1,5 +1,5 @@
 -- Numbers that ascend.
-use Rattle.std.proofs.Common.{◌≡◌, ℕ, ◌<◌, ◌≤◌, ◌==◌, ◌||◌, Bool, true, false, cond, List, [], ◌∷◌, ◌++◌, length, get_or, refl, sym, ap, ◌∙◌, arith, not, nat_lt, filter, suc, zero, AllPairs, add-one}
+use Rattle.std.proofs.Common.{All, ◌≡◌, ℕ, ◌<◌, ◌≤◌, ◌==◌, ◌||◌, Bool, true, false, cond, List, [], ◌∷◌, length, get_or, refl, sym, ap, ◌∙◌, arith, not, nat_lt, filter, suc, zero, AllPairs, add-one}
 use Rattle.std.specs.List.{insert, remove}
 use Rattle.std.specs.List.Sorted.{IsStrictlyIncreasing}
 use Rattle.std.proofs.lemmas.Bool.Decides.{nat_tests}
@@ -102,7 +102,7 @@ module _ (n : ℕ) where
   put_there [] i up lt same = absurd (omega arith)
   put_there (m ∷ ms) zero up lt same = at_same m (m ∷ put_number n ms) (m ∷ ms) (n ∷ m ∷ ms) same
   put_there (m ∷ ms) (suc i) up lt same =
-      behind_less m (m ∷ put_number n ms) (m ∷ ms) (n ∷ m ∷ ms) (omega (arith, Each-get (λ k. m < k) ms i 0 up.0, (omega arith) same))
+      behind_less m (m ∷ put_number n ms) (m ∷ ms) (n ∷ m ∷ ms) (omega (arith, Each-get (λ k. m < k) ms i 0 up.0 (omega arith), same))
       ∙ ap (λ ks. m ∷ ks) (put_there ms i up.1 (omega arith) same)
 
   pub put_each : (P : ℕ → Type 0) (ns : List ℕ) → P n → Each P ns → Each P (put_number n ns)

@@ -1,16 +1,11 @@
 -- Jobs that run, wait or are told of are the trace's.
-use Rattle.std.proofs.Common.{◌≡◌, ℕ, ◌+◌, ◌<◌, List, [], ◌∷◌, ◌++◌, length, map, cond, Bool, true, false, All, not, set, refl, sym, ap, subst, arith}
-use Rattle.std.specs.Prelude.{Option, Some, None, filter, option_map, ◌||◌, ◌==◌}
-use Rattle.std.specs.List.{filter_map, cons_option}
-use Rattle.std.proofs.lemmas.List.Elements.{All-contains, All-head, All-tail}
+use Rattle.std.proofs.Common.{◌≡◌, ℕ, ◌+◌, ◌<◌, List, [], ◌∷◌, ◌++◌, length, map, cond, Bool, true, false, All, not, set, refl}
+use Rattle.std.specs.Prelude.{Option, Some, None, filter, ◌||◌, ◌==◌}
 use Rattle.tetri_base.specs.Lists.{Each, has}
 use Rattle.tetri_base.proofs.ListLaws.{Each-append, Each-filter, Each-map}
 use Rattle.tetri_base.proofs.OrderLaws.{Each-in_order}
 use Rattle.tetri_state.proofs.Ascending.{all_each, each_from}
-use Rattle.tetri_strl.specs.declared.expr.Leaf.{Leaf}
-use Rattle.tetri_strl.specs.declared.grants.Grant.{Grant}
-use Rattle.tetri_space.specs.Space.{Bid, Space, leaf_in}
-use Rattle.tetri_space.proofs.LeafLemmas.{leaf_in-within}
+use Rattle.tetri_space.specs.Space.{Bid}
 use Rattle.tetri_trace.specs.declared.trace.Event.{Event}
 use Rattle.tetri_trace.specs.declared.trace.Happening.{Happening}
 use Rattle.tetri_trace.specs.declared.trace.Happening.TheVariants.{Arrive, Cancel, Drain, Undrain, Fail}
@@ -18,12 +13,10 @@ use Rattle.tetri_trace.specs.Scenario.{Scenario}
 use Rattle.tetri_trace.specs.Sound.{IsSound, NamesKnown}
 use Rattle.tetri_state.specs.declared.happened.PieceId.{PieceId}
 use Rattle.tetri_state.specs.declared.pieces.Piece.{Piece}
-use Rattle.tetri_state.specs.After.{after, new_pieces, piece_of}
-use Rattle.tetri_state.specs.Begin.{Turn, begin, but_of, cancel, comes_before, ending, events_at, fail, fail_on, happen, happen_all, has_ended, has_expired, holder_in, is_over, named, occurring, put_number, running_on, runs, staying, told, turn, unturned, without}
+use Rattle.tetri_state.specs.Begin.{Turn, but_of, cancel, comes_before, ending, events_at, fail, fail_on, happen, happen_all, has_ended, has_expired, holder_in, is_over, named, occurring, put_number, running_on, runs, staying, told, turn, unturned, without}
 use Rattle.tetri_state.specs.Known.{AreOfJobs}
-use Rattle.tetri_state.specs.Launch.{starts_now}
 use Rattle.tetri_state.specs.Planning.{bid_of, instance_of}
-use Rattle.tetri_state.specs.Reached.{ArePlans, IsReached, between, begun, state_after}
+use Rattle.tetri_state.specs.Reached.{IsReached, between, begun}
 use Rattle.tetri_state.specs.Snapshot.{Snapshot}
 use Rattle.tetri_state.proofs.ArrivalLemmas.{ArrivedBefore}
 use Rattle.tetri_state.proofs.PieceLemmas.{each_mapped}

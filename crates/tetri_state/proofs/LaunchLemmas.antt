@@ -1,5 +1,5 @@
 -- What a plan launches.
-use Rattle.std.proofs.Common.{◌≡◌, ℕ, ◌+◌, ◌<◌, ◌==◌, ◌&&◌, ◌||◌, Bool, true, false, cond, List, [], ◌∷◌, length, get_or, map, filter, not, All, AllPairs, Contains, Option, Some, None, refl, sym, ap, ◌∙◌, subst, arith, zero, suc}
+use Rattle.std.proofs.Common.{◌≡◌, ℕ, ◌+◌, ◌<◌, ◌==◌, ◌&&◌, ◌||◌, Bool, true, false, cond, List, [], ◌∷◌, length, get_or, map, filter, not, All, Contains, Option, Some, None, refl, sym, ap, ◌∙◌, subst, arith, zero, suc}
 use Rattle.std.specs.List.{cons_option, filter_map, find, list_any, position_from}
 use Rattle.std.specs.Option.{IsSomeAnd, option_and_then, option_map}
 use Rattle.std.proofs.lemmas.Bool.Decides.{nat_tests}

@@ -1,8 +1,8 @@
 -- No two pieces share a node.
-use Rattle.std.proofs.Common.{◌≡◌, ℕ, ◌+◌, ◌<◌, ◌≤◌, Bool, true, false, cond, List, [], ◌∷◌, ◌++◌, map, filter, AllPairs, Contains, refl, subst, arith, nat_le, suc, zero}
+use Rattle.std.proofs.Common.{◌≡◌, ℕ, ◌+◌, ◌<◌, ◌≤◌, Bool, true, false, cond, List, [], ◌∷◌, map, AllPairs, Contains, refl, subst, arith, nat_le, suc, zero}
 use Rattle.std.proofs.lemmas.Bool.Decides.{nat_tests}
 use Rattle.tetri_base.specs.Lists.{Each, EachPair}
-use Rattle.tetri_base.proofs.ListLaws.{Each-append, Each-filter, Each-get}
+use Rattle.tetri_base.proofs.ListLaws.{Each-get}
 use Rattle.tetri_state.specs.declared.pieces.Piece.{Piece}
 use Rattle.tetri_state.specs.Begin.{is_over, prolonged}
 use Rattle.tetri_state.specs.Pieces.{ShareNoNode}

@@ -4,14 +4,14 @@ use Rattle.std.specs.List.{cons_option, filter_map, list_any}
 use Rattle.std.proofs.lemmas.Bool.Decides.{nat_tests}
 use Rattle.std.proofs.lemmas.List.{get_or-map, length-map}
 use Rattle.tetri_base.specs.Lists.{Each, has}
-use Rattle.tetri_base.proofs.ListLaws.{Each-filter, Each-get, Each-map}
+use Rattle.tetri_base.proofs.ListLaws.{Each-filter, Each-from, Each-get, Each-map, any_from, has-filter, test_from_eq}
 use Rattle.tetri_trace.specs.declared.trace.Job.{Job}
 use Rattle.tetri_trace.specs.declared.trace.Trace.{Trace}
 use Rattle.tetri_trace.specs.Scenario.{Scenario, scenario, submission}
 use Rattle.tetri_trace.specs.Sound.{IsSound, IsSoundSubmission}
 use Rattle.std.specs.Option.{option_map}
 use Rattle.std.proofs.lemmas.List.Elements.{All-contains_itself, Contains-get_or}
-use Rattle.std.proofs.lemmas.List.Folds.{list_any_at, list_any_none}
+use Rattle.std.proofs.lemmas.List.Folds.{list_any_at}
 use Rattle.tetri_strl.specs.declared.expr.Leaf.{Leaf}
 use Rattle.tetri_strl.specs.declared.grants.Grant.{Grant}
 use Rattle.tetri_space.specs.Lawful.{IsLawful, MayBeGranted}
@@ -67,31 +67,10 @@ module _ {X : Type 0} (p q : X → Bool) where
           kept (q x) (list_any q (filter p xs)) ∙ ap (λ b. q x && true || b) rest ∙ ap (λ b. q x && b || list_any (λ y. q y && p y) xs) (sym is)
       by_test false is rest = rest ∙ dropped (q x) (list_any (λ y. q y && p y) xs) ∙ ap (λ b. q x && b || list_any (λ y. q y && p y) xs) (sym is)
 
--- of those that pass a test
-has_filtered : (f : ℕ → Bool) (ns : List ℕ) (n : ℕ) → has (filter f ns) n ≡ list_any (λ m. m == n && f m) ns
-has_filtered f ns n = any_filtered f (λ m. m == n) ns
-
 each_itself : (f : ℕ → Bool) (ns : List ℕ) → Each (λ n. has (filter f ns) n ≡ f n) ns
-each_itself f ns = each_from (λ n. has (filter f ns) n ≡ f n) ns (λ k d lt. has_filtered f ns (get_or ns k d) ∙ among ns (get_or ns k d) (Contains-get_or ns k d lt))
-  where
-    test_true : (m n : ℕ) → m ≡ n → (m == n) ≡ true
-    test_true m n e = grind (arith, nat_tests)
-
-    same_or_false : (ms : List ℕ) (n : ℕ) → f n ≡ false → list_any (λ m. m == n && f m) ms ≡ false
-    same_or_false ms n fails = list_any_none (λ m. m == n && f m) ms (λ k d lt. by_test (get_or ms k d) (get_or ms k d == n) refl)
-      where
-        by_test : (m : ℕ) (b : Bool) → (m == n) ≡ b → (b && f m) ≡ false
-        by_test m true same = let at : m ≡ n = grind (arith, nat_tests) in ap f at ∙ fails
-        by_test m false differ = refl
-
-    among : (ms : List ℕ) (n : ℕ) → Contains ms n → list_any (λ m. m == n && f m) ms ≡ f n
-    among ms n at = by_value (f n) refl
-      where
-        by_value : (b : Bool) → f n ≡ b → list_any (λ m. m == n && f m) ms ≡ b
-        by_value true is =
-            let here : get_or ms at.0 n ≡ n = at.2 in
-            list_any_at (λ m. m == n && f m) ms at.0 n at.1 (ap (λ b. b && f (get_or ms at.0 n)) (test_true (get_or ms at.0 n) n here) ∙ ap f here ∙ is)
-        by_value false is = same_or_false ms n is
+each_itself f ns =
+    Each-from (λ n. has (filter f ns) n ≡ f n) ns
+    (λ n at. has-filter f ns n ∙ ap (λ b. b && f n) (any_from (λ m. m == n) ns n at (test_from_eq n n refl)))
 
 -- a part of a list is what it has of the list
 pub part_is : (f : ℕ → Bool) (ns : List ℕ) → filter f ns ≡ filter (has (filter f ns)) ns

@@ -2,7 +2,7 @@
 use Rattle.std.proofs.Common.{◌≡◌, ℕ, ◌+◌, ◌<◌, ◌≤◌, ◌==◌, Some, length, map, not, All, sym, subst, arith}
 use Rattle.std.specs.List.{find}
 use Rattle.std.specs.List.Sorted.{IsStrictlyIncreasing}
-use Rattle.tetri_base.specs.Lists.{Ascends, Each, has}
+use Rattle.tetri_base.specs.Lists.{Ascends, Each}
 use Rattle.tetri_base.proofs.ListLaws.{Each-all, Each-filter, Each-map, EachPair-filter, filter-ascends}
 use Rattle.tetri_state.specs.Pieces.{ShareNoNode}
 use Rattle.tetri_strl.specs.declared.expr.Leaf.{Leaf}
