@@ -12,15 +12,14 @@ use Rattle.tetri_strl.specs.Aligned.{EachLeaf}
 use Rattle.tetri_strl.specs.Thrifty.{IsThriftyFor, held_leaves}
 use Rattle.tetri_strl.specs.Tree.{leaves}
 use Rattle.tetri_strl.specs.Worth.{granted, leaf_worth}
-use Rattle.tetri_strl.proofs.OneStart.{Begins, one_held_start}
-use Rattle.tetri_strl.proofs.ThriftOfOthers.{thrifty_of-same}
+use Rattle.tetri_strl.proofs.ExprLaws.{Begins, one_held_start, thrifty_of-same}
+use Rattle.tetri_space.proofs.InstanceLaws.{EachLeaf-at, find-within}
 use Rattle.tetri_space.specs.Lawful.{IsLawful, IsLawfulGrant}
 use Rattle.tetri_space.specs.Space.{Bid, Space, leaf_in}
-use Rattle.tetri_space.proofs.LeafLemmas.{find-within}
-use Rattle.tetri_space.proofs.SearchLemmas.{EachLeaf-at}
 use Rattle.tetri_trace.specs.Scenario.{Scenario}
 use Rattle.tetri_trace.specs.Sound.{IsSound}
-use Rattle.tetri_state.specs.Planning.{AreThrifty, IsCarry, bid_of, instance_of, is_live, still_pending}
+use Rattle.tetri_space.specs.Trimmed.{IsThriftyForAll}
+use Rattle.tetri_state.specs.Planning.{IsCarry, bid_of, instance_of, is_live, still_pending}
 use Rattle.tetri_state.specs.Snapshot.{Snapshot, demanded, nothing_submitted}
 use Rattle.tetri_state.proofs.ArrivalLemmas.{ArrivedBefore}
 use Rattle.tetri_state.proofs.Ascending.{each_from, each_passing}
@@ -124,14 +123,14 @@ module _ (t : Scenario) (s : Snapshot) (sound : IsSound t) (stands : Stands t (s
             thrifty_without (filter keeps s.plan) job (demanded t job) (sound.jobs job nothing_submitted known).well_made.sound
             (λ k d lt. Each-get (λ (g : Grant). g.job ≡ job → ⊥) (filter keeps s.plan) k d none lt)
 
-  pub still_thrifty : AreThrifty i (still_pending i s.plan)
+  pub still_thrifty : IsThriftyForAll i (still_pending i s.plan)
   still_thrifty k d lt =
       let b = get_or i.bids k d in
       let at = Contains-get_or i.bids k d lt in
       let known = bid_known t s.pending b at in
       subst (IsThriftyFor (still_pending i s.plan) b.job) (sym known.0) (kept_thrifty b.job (job_there b at) known.1)
 
-  pub nothing_thrifty : AreThrifty i []
+  pub nothing_thrifty : IsThriftyForAll i []
   nothing_thrifty k d lt =
       let b = get_or i.bids k d in
       let at = Contains-get_or i.bids k d lt in
@@ -149,5 +148,5 @@ module _ (t : Scenario) (s : Snapshot) (sound : IsSound t) (stands : Stands t (s
     pub carried_none : (a : List Grant) → a ≡ [] → (IsLawful j kept → ⊥) → IsCarry j s.plan a
     carried_none a none unlawful = inr ((λ lawful. unlawful (subst (IsLawful j) (sym kept_is) lawful)), none)
 
-    pub carried_thrifty : AreThrifty j kept
-    carried_thrifty = subst (AreThrifty j) (sym kept_is) (subst (λ k. AreThrifty k (still_pending k s.plan)) (sym is) still_thrifty)
+    pub carried_thrifty : IsThriftyForAll j kept
+    carried_thrifty = subst (IsThriftyForAll j) (sym kept_is) (subst (λ k. IsThriftyForAll k (still_pending k s.plan)) (sym is) still_thrifty)

@@ -15,14 +15,12 @@ use Rattle.tetri_strl.specs.Tree.{Tree, leaves}
 use Rattle.tetri_strl.specs.Trim.{idle, wastes}
 use Rattle.tetri_strl.specs.WellMade.{IsGoodLeaf, IsSound as IsSoundTree}
 use Rattle.tetri_strl.specs.Worth.{leaf_worth}
-use Rattle.tetri_strl.proofs.TrimThrift.{waste_is_exact}
-use Rattle.tetri_strl.proofs.OneStart.{Begins, one_held_start}
+use Rattle.tetri_strl.proofs.ExprLaws.{Begins, one_held_start, waste_is_exact}
+use Rattle.tetri_space.proofs.InstanceLaws.{EachLeaf-at, leaf_in-within, offered_leaf}
 use Rattle.tetri_space.specs.Free.{IsFree}
 use Rattle.tetri_space.specs.Lawful.{AreApart, IsLawful, IsLawfulGrant, MayBeGranted}
 use Rattle.tetri_space.specs.Space.{Bid, Covers, Space, leaf_in}
 use Rattle.tetri_space.specs.Sound.{IsSoundBid, IsSound as IsSoundSpace}
-use Rattle.tetri_space.proofs.LeafLemmas.{leaf_in-within}
-use Rattle.tetri_space.proofs.SearchLemmas.{EachLeaf-at, offered_leaf}
 use Rattle.tetri_trace.specs.Scenario.{Scenario}
 use Rattle.tetri_trace.specs.Sound.{IsSound}
 use Rattle.tetri_state.specs.declared.pieces.Piece.{Piece}

@@ -5,6 +5,7 @@ use Rattle.std.proofs.lemmas.Bool.Decides.{nat_tests}
 use Rattle.std.proofs.lemmas.List.{get_or-map, length-map}
 use Rattle.tetri_base.specs.Lists.{Each, has}
 use Rattle.tetri_base.proofs.ListLaws.{Each-filter, Each-from, Each-get, Each-map, any_from, has-filter, test_from_eq}
+use Rattle.tetri_space.proofs.InstanceLaws.{leaf_in-within}
 use Rattle.tetri_trace.specs.declared.trace.Job.{Job}
 use Rattle.tetri_trace.specs.declared.trace.Trace.{Trace}
 use Rattle.tetri_trace.specs.Scenario.{Scenario, scenario, submission}
@@ -16,11 +17,11 @@ use Rattle.tetri_strl.specs.declared.expr.Leaf.{Leaf}
 use Rattle.tetri_strl.specs.declared.grants.Grant.{Grant}
 use Rattle.tetri_space.specs.Lawful.{IsLawful, MayBeGranted}
 use Rattle.tetri_space.specs.Space.{Bid, Space, leaf_in}
-use Rattle.tetri_space.proofs.LeafLemmas.{leaf_in-within}
 use Rattle.tetri_state.specs.declared.pieces.Piece.{Piece}
 use Rattle.tetri_state.specs.After.{after, new_pieces, piece_of}
 use Rattle.tetri_state.specs.Launch.{launched_in, start_of, start_or_0, starts_now}
-use Rattle.tetri_state.specs.Planning.{AreThrifty, bid_of, instance_of}
+use Rattle.tetri_space.specs.Trimmed.{IsThriftyForAll}
+use Rattle.tetri_state.specs.Planning.{bid_of, instance_of}
 use Rattle.tetri_state.specs.Reached.{IsPlan}
 use Rattle.tetri_state.specs.Readied.{IsLaunchOf, Readied, launched_from}
 use Rattle.tetri_state.specs.Snapshot.{Snapshot}
@@ -179,8 +180,8 @@ module _ (t : Scenario) (s : Snapshot) (sound : IsSound t) (stands : Stands t (s
       let job : get_or s.pending b.1.pending.0 0 ≡ g.job = sym (ap (λ (c : Bid). c.job) is) ∙ b.1.of_job in
       omega (arith, job, (Each-get (ArrivedBefore t (s.now + 1)) s.pending b.1.pending.0 0 stands.arrived m).0)
 
-pub plan_of : (t : Scenario) (s : Snapshot) (a : List Grant) (i : Space) → i ≡ instance_of t s → IsLawful i a → AreThrifty i a → IsPlan t s a
+pub plan_of : (t : Scenario) (s : Snapshot) (a : List Grant) (i : Space) → i ≡ instance_of t s → IsLawful i a → IsThriftyForAll i a → IsPlan t s a
 plan_of t s a i is lawful thrifty = record {
   lawful = subst (λ j. IsLawful j a) is lawful;
-  thrifty = subst (λ j. AreThrifty j a) is thrifty;
+  thrifty = subst (λ j. IsThriftyForAll j a) is thrifty;
 }

@@ -5,7 +5,6 @@ use Rattle.tetri_base.specs.Lists.{has}
 use Rattle.tetri_strl.specs.declared.expr.Leaf.{Leaf}
 use Rattle.tetri_strl.specs.declared.grants.Grant.{Grant}
 use Rattle.tetri_strl.specs.Prune.{starts_in}
-use Rattle.tetri_strl.specs.Thrifty.{IsThriftyFor}
 use Rattle.tetri_strl.specs.Tree.{leaves, numbers}
 use Rattle.tetri_space.specs.Space.{Bid, Space, leaf_in}
 use Rattle.tetri_space.specs.Lawful.{IsLawful}
@@ -45,10 +44,6 @@ instance_of t s = record {
 -- the leaves are numbered from 0 on, in the order of the text
 abbrev pub IsNumbered : Bid → Type 0
 IsNumbered b = numbers b.expr ≡ range_with_len 0 (length (leaves b.expr))
-
--- the grants are thrifty for each job of the instance
-abbrev pub AreThrifty : Space → List Grant → Type 0
-AreThrifty i a = All (λ b. IsThriftyFor a b.job b.expr) i.bids
 
 -- the leaf is there, and starts in the window
 abbrev pub is_live : Space → Option Leaf → Bool

@@ -3,7 +3,8 @@ ghost use Rattle.std.specs.Prelude.{◌≡◌, IfOk};
 ghost use Rattle.tetri_space.specs.Lawful.{IsLawful};
 ghost use Rattle.tetri_space.specs.Sound.{IsSound as IsSoundSpace};
 ghost use Rattle.tetri_space.specs.Space.{leaf_in, space};
-ghost use Rattle.tetri_state.specs.Planning.{AreThrifty, IsCarry, instance_of, is_live, still_pending};
+ghost use Rattle.tetri_space.specs.Trimmed.{IsThriftyForAll};
+ghost use Rattle.tetri_state.specs.Planning.{IsCarry, instance_of, is_live, still_pending};
 ghost use Rattle.tetri_state.specs.Reached as moment;
 ghost use Rattle.tetri_state.specs.Reached.{IsReached};
 ghost use Rattle.tetri_trace.specs.Scenario.{scenario};
@@ -54,7 +55,7 @@ impl State {
         requires instance { space inst.now ≡ instance_of (scenario trace.now) self.now }
         ensures carry { IfOk result (IsCarry (space inst.entry.now) self.entry.now.plan) }
         ensures lawful { IfOk result (IsLawful (space inst.entry.now)) }
-        ensures thrifty { IfOk result (AreThrifty (space inst.entry.now)) }
+        ensures thrifty { IfOk result (IsThriftyForAll (space inst.entry.now)) }
     {
         let _ = trace;
         let kept = still_pending(alloc, inst, self.plan.as_slice())?;

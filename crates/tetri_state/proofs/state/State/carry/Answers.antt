@@ -2,7 +2,8 @@ use Rattle.std.proofs.Common.{◌∙◌, sym, ap, subst, is_ok}
 use Rattle.tetri_space.specs.Sound.{IsSound as IsSoundSpace}
 use Rattle.tetri_space.specs.Space.{space}
 use Rattle.tetri_trace.specs.Scenario.{scenario}
-use Rattle.tetri_state.specs.Planning.{AreThrifty, instance_of}
+use Rattle.tetri_space.specs.Trimmed.{IsThriftyForAll}
+use Rattle.tetri_state.specs.Planning.{instance_of}
 use Rattle.tetri_state.specs.Snapshot.{Snapshot}
 use Rattle.tetri_state.proofs.CarryLemmas.{carried, carried_none, carried_thrifty, nothing_thrifty}
 use Rattle.tetri_state.proofs.InstanceLemmas.{instance_sound}
@@ -49,5 +50,5 @@ pub returns-in-Err-clause-thrifty : goal.returns-in-Err-clause-thrifty
 returns-in-Err-clause-thrifty c =
     let t = scenario c.args.trace.now in
     let s : Snapshot = c.args.self.now in
-    subst (λ k. AreThrifty k c.new.result) (sym c.requires.instance)
-    (subst (AreThrifty (instance_of t s)) (sym c.new.ensures) (nothing_thrifty t s c.requires.sound (stands_begun t s c.requires.sound c.requires.reached)))
+    subst (λ k. IsThriftyForAll k c.new.result) (sym c.requires.instance)
+    (subst (IsThriftyForAll (instance_of t s)) (sym c.new.ensures) (nothing_thrifty t s c.requires.sound (stands_begun t s c.requires.sound c.requires.reached)))
