@@ -8,7 +8,7 @@ use Rattle.tetri_trace.specs.declared.trace.Event.{Event}
 use Rattle.tetri_trace.specs.Scenario.{Scenario}
 use Rattle.tetri_state.specs.declared.happened.PieceId.{PieceId}
 use Rattle.tetri_state.specs.declared.pieces.Piece.{Piece}
-use Rattle.tetri_state.specs.Begin.{Occurrences, Turn, events_at, happen_all, has_ended, holder_in, running_on, told, turn, unturned}
+use Rattle.tetri_state.specs.Begin.{Occurrences, Turn, events_at, happen_all, has_ended, holder_in, running_on, standing, told, turn, unturned}
 use Rattle.tetri_state.specs.Snapshot.{Snapshot}
 use Rattle.tetri_state.proofs.BusyLemmas.{holders_are}
 use Rattle.tetri_state.proofs.TurnLemmas.{happen_all-same}
@@ -56,6 +56,10 @@ module _ (t : Scenario) (s : Snapshot) where
       let opened : from ≡ unturned s = cc in
       happen_all-same holder (holder_in (running_on s)) same es from ∙ ap (λ xs. happen_all (holder_in (running_on s)) xs from) events
       ∙ ap (happen_all (holder_in (running_on s)) (events_at t s.now)) opened
+
+-- so is what the beginning of a cycle looks at
+pub same_standing : {i j : ℕ} {a b : List Bool} {c d : List ℕ} {e f : List Piece} → i ≡ j → a ≡ b → c ≡ d → e ≡ f → standing i a c e ≡ standing j b d f
+same_standing now drained pending pieces = cc
 
 -- a state is given by its parts
 pub same_state : {x y : ℕ} {o q : List Grant} {a b : List Bool} {c d : List ℕ} {e f : List Piece} {g h i j k l m n : List ℕ} →

@@ -35,6 +35,20 @@ named p = record { job = p.job; leaf = p.leaf }
 abbrev pub told : List Piece → List PieceId
 told pieces = in_order comes_before (map named pieces)
 
+-- A state in this slot, by all of it that the beginning of a cycle looks at.
+abbrev pub standing : ℕ → List Bool → List ℕ → List Piece → Snapshot
+standing now drained pending pieces = record {
+  now = now;
+  drained = drained;
+  pending = pending;
+  pieces = pieces;
+  launched = [];
+  ended = [];
+  cancelled = [];
+  expired = [];
+  plan = [];
+}
+
 -- First, pieces end.
 
 abbrev pub has_ended : ℕ → Piece → Bool
