@@ -1,5 +1,5 @@
 -- What a cycle plans for, and what it carries over.
-use Rattle.std.specs.Prelude.{◌≡◌, ℕ, ◌+◌, ◌⊎◌, Bool, false, List, [], ◌∷◌, slice_set, map, filter, find, length, All, Option, Some, None}
+use Rattle.std.specs.Prelude.{◌≡◌, ℕ, ◌+◌, ◌⊎◌, Bool, false, List, [], ◌∷◌, slice_set, map, filter, find, length, Option, Some, None}
 use Rattle.std.specs.List.{range_with_len}
 use Rattle.tetri_base.specs.Lists.{has}
 use Rattle.tetri_strl.specs.declared.expr.Leaf.{Leaf}

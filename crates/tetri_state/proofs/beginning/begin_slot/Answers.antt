@@ -2,7 +2,7 @@ use Rattle.std.proofs.Common.{◌≡◌, ◌<◌, ◌∙◌, ◌&&◌, All, None
 use Rattle.std.specs.List.Sorted.{IsNonDecreasingBy}
 use Rattle.tetri_trace.specs.Scenario.{Scenario, scenario}
 use Rattle.tetri_state.specs.declared.pieces.Piece.{Piece}
-use Rattle.tetri_state.specs.Begin.{Turn, ending, finished, has_ended, has_expired, is_over, runs, running_on, standing, staying, told, turn}
+use Rattle.tetri_state.specs.Begin.{Turn, finished, has_ended, has_expired, is_over, runs, running_on, standing, staying, told, turn}
 use Rattle.tetri_state.specs.Snapshot.{Snapshot}
 use Rattle.tetri_state.proofs.SoundLemmas.{nodes_known}
 use Rattle.tetri_state.proofs.BeginLemmas.{events_are, filter_both, holders_known, same_occurrences, turn_is}
