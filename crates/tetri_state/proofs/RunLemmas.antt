@@ -7,11 +7,11 @@ use Rattle.std.proofs.lemmas.List.Elements.{All-head, All-tail, All-weaker}
 use Rattle.std.proofs.lemmas.List.Folds.{list_any-append, list_any_none}
 use Rattle.std.proofs.lemmas.List.Sums.{sum_by-cons}
 use Rattle.tetri_strl.specs.declared.grants.Grant.{Grant}
-use Rattle.tetri_strl.proofs.GrantLemmas.{NamesNot, worth_of-append_left, worth_of-append_right}
+use Rattle.tetri_strl.proofs.ExprLaws.{NamesNot, worth_of-append_left, worth_of-append_right}
+use Rattle.tetri_space.proofs.InstanceLaws.{later_jobs, next_bid}
 use Rattle.tetri_space.specs.declared.instance.Offer.{Offer}
 use Rattle.tetri_space.specs.Space.{Bid, Space, bid}
 use Rattle.tetri_space.specs.Total.{bid_worth, total_in}
-use Rattle.tetri_space.proofs.BidLemmas.{later_jobs, next_bid}
 use Rattle.tetri_state.specs.Launch.{start_of, starts_now, worth_launched}
 
 filter-same : (p q : Bid → Bool) (bs : List Bid) → All (λ b. p b ≡ q b) bs → filter p bs ≡ filter q bs

@@ -5,7 +5,8 @@ use Rattle.tetri_space.specs.Lawful.{IsLawful}
 use Rattle.tetri_trace.specs.Scenario.{Scenario}
 use Rattle.tetri_state.specs.After.{after}
 use Rattle.tetri_state.specs.Begin.{begin}
-use Rattle.tetri_state.specs.Planning.{instance_of, AreThrifty}
+use Rattle.tetri_space.specs.Trimmed.{IsThriftyForAll}
+use Rattle.tetri_state.specs.Planning.{instance_of}
 use Rattle.tetri_state.specs.Snapshot.{Snapshot, opening_state}
 
 -- the state after cycles with these plans, the last one first
@@ -16,7 +17,7 @@ state_after t (a ∷ earlier) = after t (begin t (state_after t earlier)) a
 -- a cycle may plan these grants in this state
 pub record IsPlan (t : Scenario) (s : Snapshot) (a : List Grant) : Type 0 where
   pub lawful : IsLawful (instance_of t s) a
-  pub thrifty : AreThrifty (instance_of t s) a
+  pub thrifty : IsThriftyForAll (instance_of t s) a
 
 -- for each of the plans there is a cycle, which may plan so
 abbrev pub ArePlans : Scenario → List (List Grant) → Type 0

@@ -1,13 +1,14 @@
 // The beginning of a cycle.
-ghost use Rattle.std.specs.Prelude.{◌≡◌, ◌<◌, ◌++◌, ◌&&◌, All, filter, length, map, not, IfOk, OnErr, OnOk};
+ghost use Rattle.std.specs.Prelude.{◌≡◌, ◌<◌, ◌&&◌, All, filter, length, map, not, IfOk, OnErr, OnOk};
 ghost use Rattle.std.specs.List.Sorted.{IsNonDecreasingBy, IsStrictlyIncreasing};
-ghost use Rattle.tetri_state.specs.Begin.{arriving, begin, ending, events_at, finished, has_ended, occurrences, occurring, prolonged, running_on, runs, told, turn};
+ghost use Rattle.tetri_state.specs.Begin.{begin, ending, finished, has_ended, occurrences, occurring, prolonged, running_on, runs, standing, told, turn};
 ghost use Rattle.tetri_state.specs.Reached as moment;
 ghost use Rattle.tetri_state.specs.Reached.{IsReached};
 ghost use Rattle.tetri_trace.specs.Scenario.{scenario};
 ghost use Rattle.tetri_trace.specs.Sound.{IsSound};
 
 use crate::State;
+use crate::busy::holder_row;
 use crate::events::{events_at, take_all};
 use crate::expiry::part;
 use crate::happened::{Happened, PieceId};
@@ -48,17 +49,68 @@ fn prolong(pieces: &mut [Piece], now: u32)
     }
 }
 
+// What the beginning of the cycle of this slot leaves of a state.
+#[tactic(auto, using(crate::proofs::SoundLemmas::slots_rise))]
+fn begin_slot(
+    alloc: Global,
+    trace: &Trace,
+    now: u32,
+    drained: &[bool],
+    pending: &[u32],
+    pieces: &[Piece],
+) -> Result<Begun, AllocError>
+    requires sound { IsSound (scenario trace.now) }
+    requires drained { length drained.now ≡ length (scenario trace.now).nodes }
+    requires pending { IsStrictlyIncreasing pending.now }
+    requires known { All (λ j. j < length (scenario trace.now).submissions)
+        (turn (scenario trace.now) (standing now drained.now pending.now pieces.now)).pending }
+    requires nodes { All (λ p. All (λ n. n < length (scenario trace.now).nodes) p.nodes) pieces.now }
+    ensures drained { let s = standing now drained.now pending.now pieces.now in
+        IfOk result (λ b. b.drained.items ≡ (turn (scenario trace.entry.now) s).drained) }
+    ensures pending { let s = standing now drained.now pending.now pieces.now in
+        IfOk result (λ b. b.pending.items ≡ (begin (scenario trace.entry.now) s).pending) }
+    ensures running { let s = standing now drained.now pending.now pieces.now in
+        IfOk result (λ b. b.running.items ≡ (turn (scenario trace.entry.now) s).running) }
+    ensures rise { IfOk result (λ b. IsNonDecreasingBy (λ a. a.job) b.running.items) }
+    ensures finished { let s = standing now drained.now pending.now pieces.now in
+        IfOk result (λ b. b.finished.items ≡ finished (told (running_on s)) (told (ending s))) }
+    ensures happened { let s = standing now drained.now pending.now pieces.now in
+        IfOk result (λ b. occurrences b.happened ≡ occurring (scenario trace.entry.now) s) }
+{
+    let ended = ended(alloc, pieces, now)?;
+    let running = running(alloc, pieces, now)?;
+    let finished = finished(alloc, &running, &ended)?;
+    let events = events_at(&trace.events, now);
+    let holders = holder_row(alloc, trace.cluster.count(), now, pieces)?;
+    let turn = take_all(alloc, drained, pending, &running, &holders, events)?;
+    let over = over(alloc, pieces, now, &turn.running)?;
+    let parted = part(alloc, trace, now, &turn.pending)?;
+    Ok(Begun {
+        drained: turn.drained,
+        pending: parted.pending,
+        running: turn.running,
+        finished,
+        happened: Happened {
+            ended,
+            cancelled: turn.cancelled,
+            failed: turn.failed,
+            over,
+            expired: parted.expired,
+        },
+    })
+}
+
 impl State {
     /// Begins the cycle of the slot: pieces that really end do so, the events of the slot happen, pieces that run longer
     /// than expected are prolonged, and pending jobs whose remaining leaves are worth nothing expire. Its only error is want
     /// of memory, which changes nothing.
-    #[tactic(auto, using(crate::proofs::ReachedLemmas::begin_reached))]
     pub fn begin_cycle(&mut self, alloc: Global, trace: &Trace) -> Result<Happened, AllocError>
         requires sound { IsSound (scenario trace.now) }
         requires reached { IsReached (scenario trace.now) moment.between self.old }
         requires more { self.old.now < (scenario trace.now).header.until }
         ensures state { OnOk result (self.new ≡ begin (scenario trace.entry.now) self.old) }
         ensures happened { IfOk result (λ h. occurrences h ≡ occurring (scenario trace.entry.now) self.old) }
+        ensures expired { IfOk result (λ h. IsStrictlyIncreasing h.expired.items) }
         ensures reached { OnOk result (IsReached (scenario trace.entry.now) moment.begun self.new) }
         ensures err { OnErr result (self.new ≡ self.old) }
     {
@@ -70,19 +122,26 @@ impl State {
         requires sound { IsSound (scenario trace.now) }
         requires early { self.old.now < 20000 }
         requires drained { length self.old.drained ≡ length (scenario trace.now).nodes }
-        requires arrivals { IsStrictlyIncreasing (self.old.pending ++ arriving (events_at (scenario trace.now) self.old.now)) }
-        requires known { All (λ j. j < length (scenario trace.now).submissions)
-            (self.old.pending ++ arriving (events_at (scenario trace.now) self.old.now)) }
+        requires pending { IsStrictlyIncreasing self.old.pending }
+        requires known { All (λ j. j < length (scenario trace.now).submissions) (turn (scenario trace.now) self.old).pending }
+        requires nodes { All (λ p. All (λ n. n < length (scenario trace.now).nodes) p.nodes) self.old.pieces }
         ensures state { OnOk result (self.new ≡ begin (scenario trace.now) self.old) }
         ensures happened { IfOk result (λ h. occurrences h ≡ occurring (scenario trace.now) self.old) }
         ensures err { OnErr result (self.new ≡ self.old) }
     {
-        let mut begun = self.begun(alloc, trace)?;
+        let now = self.now;
+        let mut begun = begin_slot(
+            alloc,
+            trace,
+            now,
+            &self.drained,
+            &self.pending,
+            &self.pieces,
+        )?;
         self.launched.reserve(begun.pending.len())?;
         self.ended.reserve(begun.finished.len())?;
         self.cancelled.reserve(begun.happened.cancelled.len())?;
         self.expired.reserve(begun.happened.expired.len())?;
-        let now = self.now;
         keep(&mut self.pieces, now, &begun.running);
         prolong(&mut self.pieces, now);
         self.drained = begun.drained;
@@ -91,41 +150,5 @@ impl State {
         let _ = self.cancelled.extend_from_slice(&begun.happened.cancelled);
         let _ = self.expired.extend_from_slice(&begun.happened.expired);
         Ok(begun.happened)
-    }
-
-    // What the beginning of the cycle leaves.
-    #[tactic(auto, using(crate::proofs::SoundLemmas::slots_rise))]
-    fn begun(&self, alloc: Global, trace: &Trace) -> Result<Begun, AllocError>
-        requires sound { IsSound (scenario trace.now) }
-        requires drained { length self.now.drained ≡ length (scenario trace.now).nodes }
-        requires arrivals { IsStrictlyIncreasing (self.now.pending ++ arriving (events_at (scenario trace.now) self.now.now)) }
-        requires known { All (λ j. j < length (scenario trace.now).submissions)
-            (self.now.pending ++ arriving (events_at (scenario trace.now) self.now.now)) }
-        ensures drained { IfOk result (λ b. b.drained.items ≡ (turn (scenario trace.now) self.entry.now).drained) }
-        ensures pending { IfOk result (λ b. b.pending.items ≡ (begin (scenario trace.now) self.entry.now).pending) }
-        ensures running { IfOk result (λ b. b.running.items ≡ (turn (scenario trace.now) self.entry.now).running) }
-        ensures rise { IfOk result (λ b. IsNonDecreasingBy (λ a. a.job) b.running.items) }
-        ensures finished { IfOk result (λ b. b.finished.items ≡ finished (told (running_on self.entry.now)) (told (ending self.entry.now))) }
-        ensures happened { IfOk result (λ b. occurrences b.happened ≡ occurring (scenario trace.now) self.entry.now) }
-    {
-        let ended = ended(alloc, &self.pieces, self.now)?;
-        let running = running(alloc, &self.pieces, self.now)?;
-        let finished = finished(alloc, &running, &ended)?;
-        let events = events_at(&trace.events, self.now);
-        let turn = take_all(alloc, &self.drained, &self.pending, &running, events)?;
-        let over = over(alloc, &self.pieces, self.now, &turn.running)?;
-        let parted = part(alloc, trace, self.now, &turn.pending)?;
-        Ok(Begun {
-            drained: turn.drained,
-            pending: parted.pending,
-            running: turn.running,
-            finished,
-            happened: Happened {
-                ended,
-                cancelled: turn.cancelled,
-                over,
-                expired: parted.expired,
-            },
-        })
     }
 }

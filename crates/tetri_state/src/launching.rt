@@ -3,7 +3,8 @@ ghost use Rattle.std.specs.Prelude.{◌≡◌, List, IfOk};
 ghost use Rattle.tetri_space.specs.Lawful.{IsLawful};
 ghost use Rattle.tetri_space.specs.Space.{space};
 ghost use Rattle.tetri_state.specs.After.{after};
-ghost use Rattle.tetri_state.specs.Planning.{AreThrifty, instance_of};
+ghost use Rattle.tetri_space.specs.Trimmed.{IsThriftyForAll};
+ghost use Rattle.tetri_state.specs.Planning.{instance_of};
 ghost use Rattle.tetri_state.specs.Reached as moment;
 ghost use Rattle.tetri_state.specs.Reached.{IsReached};
 ghost use Rattle.tetri_state.specs.Readied.{Fits, IsLaunchOf, launched_from};
@@ -32,7 +33,7 @@ impl State {
         requires reached { IsReached (scenario trace.now) moment.begun self.now }
         requires instance { space inst.now ≡ instance_of (scenario trace.now) self.now }
         requires lawful { IsLawful (space inst.now) grants.now }
-        requires thrifty { AreThrifty (space inst.now) grants.now }
+        requires thrifty { IsThriftyForAll (space inst.now) grants.now }
         ensures launch { IfOk result (IsLaunchOf (scenario trace.entry.now) self.entry.now grants.now) }
         ensures fits { IfOk result (Fits self.entry.now) }
     {

@@ -2,7 +2,8 @@
 ghost use Rattle.std.specs.Prelude.{◌≡◌, ◌<◌, IsTrue, OnOk};
 ghost use Rattle.tetri_space.specs.Sound.{IsSound as IsSoundSpace};
 ghost use Rattle.tetri_space.specs.Space.{space};
-ghost use Rattle.tetri_state.specs.Planning.{AreThrifty, instance_of};
+ghost use Rattle.tetri_space.specs.Trimmed.{IsThriftyForAll};
+ghost use Rattle.tetri_state.specs.Planning.{instance_of};
 ghost use Rattle.tetri_state.specs.Reached as moment;
 ghost use Rattle.tetri_state.specs.Reached.{IsReached};
 ghost use Rattle.tetri_trace.specs.Scenario.{scenario};
@@ -30,7 +31,7 @@ struct Seen {
 
 fn is_thrifty(inst: &Instance, a: &Allotment) -> bool
     requires { IsSoundSpace (space inst.now) }
-    ensures { IsTrue result → AreThrifty (space inst.entry.now) a.now }
+    ensures { IsTrue result → IsThriftyForAll (space inst.entry.now) a.now }
 {
     for offer in &inst.jobs {
         if waste(&offer.expr, offer.job, a).is_some() {

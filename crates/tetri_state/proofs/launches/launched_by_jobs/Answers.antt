@@ -1,8 +1,7 @@
-use Rattle.std.proofs.Common.{◌≡◌, ◌+◌, ◌∙◌, Bool, map, All, drop, subst, sym, arith}
+use Rattle.std.proofs.Common.{◌∙◌, map, All, subst, sym, arith}
+use Rattle.tetri_space.proofs.InstanceLaws.{bid_has, total_limit}
 use Rattle.tetri_space.specs.Sound.{IsSoundBid}
 use Rattle.tetri_space.specs.Space.{bid, space}
-use Rattle.tetri_space.proofs.BidLemmas.{bid_has}
-use Rattle.tetri_space.proofs.TotalLemmas.{total_limit}
 use Rattle.tetri_state.proofs.RunLemmas.{each_job_passed, each_job_taken, each_worth_passed, each_worth_taken, launched_le_total}
 use Rattle.tetri_state.proofs.launches.launched_by_jobs.Goals as goal
 use Rattle.tetri_state.proofs.launches.launched_by_jobs.Goals.{then-starts_now+in_ok-push, else-starts_now}

@@ -2,10 +2,9 @@ use Rattle.std.proofs.Common.{◌<◌, ◌+◌, ◌∙◌, drop, map, All, AllPa
 use Rattle.std.specs.List.Sorted.{IsNonDecreasingBy}
 use Rattle.std.proofs.lemmas.List.Sorted.{IsNonDecreasingBy-drop}
 use Rattle.tetri_strl.specs.declared.grants.Grant.{Grant}
+use Rattle.tetri_space.proofs.InstanceLaws.{bid_has, total_limit}
 use Rattle.tetri_space.specs.Sound.{IsSoundBid}
 use Rattle.tetri_space.specs.Space.{Bid, bid, space}
-use Rattle.tetri_space.proofs.BidLemmas.{bid_has}
-use Rattle.tetri_space.proofs.TotalLemmas.{total_limit}
 use Rattle.tetri_state.proofs.RunLemmas.{job_passed, job_taken, launched_le_total, worth_passed, worth_taken}
 use Rattle.tetri_state.proofs.launches.launched_by_runs.Goals as goal
 use Rattle.tetri_state.proofs.launches.launched_by_runs.Goals.{then-starts_now+in_ok-push, else-starts_now}

@@ -1,6 +1,6 @@
 use Rattle.std.proofs.Common.{◌∙◌, sym}
+use Rattle.tetri_space.proofs.InstanceLaws.{offered_leaf}
 use Rattle.tetri_space.specs.Space.{space}
-use Rattle.tetri_space.proofs.SearchLemmas.{offered_leaf}
 use Rattle.tetri_state.proofs.prepared.new_pieces.Goals as goal
 
 pub piece_of-requires-clause-good : goal.piece_of-requires-clause-good
