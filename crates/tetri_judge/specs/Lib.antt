@@ -1,3 +1,4 @@
+pub mod PlanOf
 pub mod Wasted
 pub mod Verdict
 pub mod Answers

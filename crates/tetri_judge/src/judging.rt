@@ -5,7 +5,7 @@ ghost use Rattle.tetri_claims.specs.Good.{IsGood, IsHonest};
 ghost use Rattle.tetri_judge.specs.Answers.{AnswersGrants};
 ghost use Rattle.tetri_judge.specs.Verdict.{IsVerdict, PassesBefore, proper};
 ghost use Rattle.tetri_report.specs.Block.{block};
-ghost use Rattle.tetri_report.specs.PlanOf.{planned};
+ghost use Rattle.tetri_judge.specs.PlanOf.{planned};
 ghost use Rattle.tetri_space.specs.Sound.{IsSound};
 ghost use Rattle.tetri_space.specs.Space.{space};
 

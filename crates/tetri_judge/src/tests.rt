@@ -34,6 +34,7 @@ fn cycle(alloc: Global, value: u64, certificate: Certificate) -> Cycle {
         happened: Happened {
             ended: Vec::new(alloc),
             cancelled: Vec::new(alloc),
+            failed: Vec::new(alloc),
             over: Vec::new(alloc),
             expired: Vec::new(alloc),
         },

@@ -28,8 +28,8 @@ plan_of b = record { value = b.value; bound = b.bound; mark = b.mark; nodes = b.
 -- the lines behind the first one
 abbrev pub inner_lines : Block → List ReportLine
 inner_lines b =
-    map lines.End b.ended ++ (map lines.Cancel b.cancelled ++ (map lines.Over b.over ++ (map lines.Expire b.expired ++ (lines.Plan (plan_of b) ∷ []
-    ++ (map grant_line (granted b.grants b.starts) ++ (certificate_lines b.certificate ++ map lines.Launch b.launched))))))
+    map lines.End b.ended ++ (map lines.Cancel b.cancelled ++ (map lines.Fail b.failed ++ (map lines.Over b.over ++ (map lines.Expire b.expired ++ (lines.Plan (plan_of b) ∷ []
+    ++ (map grant_line (granted b.grants b.starts) ++ (certificate_lines b.certificate ++ map lines.Launch b.launched)))))))
 
 abbrev pub block_lines : Block → List ReportLine
 block_lines b = lines.Cycle b.number ∷ inner_lines b
@@ -37,7 +37,7 @@ block_lines b = lines.Cycle b.number ∷ inner_lines b
 -- The places of a cycle's lines, where the `cycle` line has the place 0: its plan, its grants, the first line of its certificate,
 -- its launches, and the line that stands behind it.
 abbrev pub events : Block → ℕ
-events b = length b.ended + length b.cancelled + length b.over + length b.expired
+events b = length b.ended + length b.cancelled + length b.failed + length b.over + length b.expired
 
 abbrev pub plan_place : Block → ℕ
 plan_place b = 1 + events b

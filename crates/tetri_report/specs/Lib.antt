@@ -1,5 +1,4 @@
 pub mod Block
-pub mod PlanOf
 pub mod Printable
 pub mod Text
 pub mod Line

@@ -37,6 +37,7 @@ IsPrintableCertificate (Tree marks) = (1 ≤ length marks) × All IsPrintableNod
 pub record IsPrintable (s : Scenario) (b : Block) : Type 0 where
   pub ended : ArePieces s b.ended
   pub cancelled : AreJobs s b.cancelled
+  pub failed : AreJobs s b.failed
   pub over : ArePieces s b.over
   pub expired : AreJobs s b.expired
   pub grants : All (IsPrintableGrant s) b.grants

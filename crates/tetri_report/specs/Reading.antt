@@ -21,6 +21,7 @@ block_of number = record {
   number = number;
   ended = [];
   cancelled = [];
+  failed = [];
   over = [];
   expired = [];
   value = 0;
@@ -46,6 +47,7 @@ abbrev pub with_line : Block → ReportLine → Block
 with_line b (lines.Cycle number) = block_of number
 with_line b (lines.End piece) = record b { ended = b.ended ++ piece ∷ [] }
 with_line b (lines.Cancel job) = record b { cancelled = b.cancelled ++ job ∷ [] }
+with_line b (lines.Fail job) = record b { failed = b.failed ++ job ∷ [] }
 with_line b (lines.Over piece) = record b { over = b.over ++ piece ∷ [] }
 with_line b (lines.Expire job) = record b { expired = b.expired ++ job ∷ [] }
 with_line b (lines.Plan p) = with_plan b p
@@ -66,9 +68,13 @@ abbrev pub before_cancels : Stage → Bool
 before_cancels stages.Cancels = true
 before_cancels stage = before_ends stage
 
+abbrev pub before_fails : Stage → Bool
+before_fails stages.Fails = true
+before_fails stage = before_cancels stage
+
 abbrev pub before_overs : Stage → Bool
 before_overs stages.Overs = true
-before_overs stage = before_cancels stage
+before_overs stage = before_fails stage
 
 abbrev pub before_plan : Stage → Bool
 before_plan stages.Expires = true
@@ -96,6 +102,7 @@ abbrev pub may_follow : Stage → ReportLine → Bool
 may_follow stage (lines.Cycle number) = is_between stage
 may_follow stage (lines.End piece) = before_ends stage
 may_follow stage (lines.Cancel job) = before_cancels stage
+may_follow stage (lines.Fail job) = before_fails stage
 may_follow stage (lines.Over piece) = before_overs stage
 may_follow stage (lines.Expire job) = before_plan stage
 may_follow stage (lines.Plan p) = before_plan stage
@@ -110,6 +117,7 @@ abbrev pub stage_behind : ReportLine → Stage
 stage_behind (lines.Cycle number) = stages.Begun
 stage_behind (lines.End piece) = stages.Ends
 stage_behind (lines.Cancel job) = stages.Cancels
+stage_behind (lines.Fail job) = stages.Fails
 stage_behind (lines.Over piece) = stages.Overs
 stage_behind (lines.Expire job) = stages.Expires
 stage_behind (lines.Plan p) = stages.Planned

@@ -20,6 +20,7 @@ fn add_happened(out: &mut String, trace: &Trace, cycle: &Cycle) -> Result<(), Al
 {
     add_piece_lines(out, trace, "end", &cycle.happened.ended)?;
     add_job_lines(out, trace, "cancel", &cycle.happened.cancelled)?;
+    add_job_lines(out, trace, "fail", &cycle.happened.failed)?;
     add_piece_lines(out, trace, "over", &cycle.happened.over)?;
     add_job_lines(out, trace, "expire", &cycle.happened.expired)
 }

@@ -9,7 +9,7 @@ use Rattle.tetri_claims.proofs.CertifiedLemmas.{certificates_bound}
 use Rattle.tetri_judge.proofs.VerdictLemmas.{certified_passes, passing_is_not_refused}
 use Rattle.tetri_report.specs.Block.{Block}
 use Rattle.tetri_report.specs.BlockLines.{block_lines}
-use Rattle.tetri_report.specs.PlanOf.{planned}
+use Rattle.tetri_judge.specs.PlanOf.{planned}
 use Rattle.tetri_report.specs.Line.{line_in}
 use Rattle.tetri_report.specs.Reading.{Reading, ◌>>=◌, answer_to, behind_line, block_before, end_answer, ends_block, fitting, is_between, is_certified, line_answer, may_follow, onto_blocks, opened, reading_behind, report_from, stage_behind, unless_refused, with_read}
 use Rattle.tetri_report.specs.Reading as reading

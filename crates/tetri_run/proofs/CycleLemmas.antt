@@ -7,7 +7,7 @@ use Rattle.tetri_judge.specs.Verdict.{IsFirstFailed}
 use Rattle.tetri_judge.proofs.VerdictLemmas.{certified_passes}
 use Rattle.tetri_report.specs.Block.{Block}
 use Rattle.tetri_report.specs.BlockLines.{block_lines}
-use Rattle.tetri_report.specs.PlanOf.{planned}
+use Rattle.tetri_judge.specs.PlanOf.{planned}
 use Rattle.tetri_space.specs.Space.{Space}
 use Rattle.tetri_space.specs.Total.{total_in}
 use Rattle.tetri_state.specs.Begin.{Occurrences, occurring}

@@ -21,7 +21,7 @@ use Rattle.tetri_io.specs.Lines.{line_of, lines_from, onto}
 use Rattle.tetri_io.proofs.Lines.{line_of-le, first_line}
 use Rattle.tetri_report.specs.Block.{Block}
 use Rattle.tetri_report.specs.BlockLines.{certificate_lines, end_place, events}
-use Rattle.tetri_report.specs.PlanOf.{planned}
+use Rattle.tetri_judge.specs.PlanOf.{planned}
 use Rattle.tetri_report.specs.Answers as report
 use Rattle.tetri_report.specs.declared.blocks.ReportFault.{ReportFault}
 use Rattle.tetri_report.specs.declared.blocks.ReportFault.TheVariants as faults

@@ -7,7 +7,7 @@ use Rattle.tetri_judge.specs.declared.verdict.Verdict.{Verdict}
 use Rattle.tetri_judge.specs.declared.verdict.Verdict.TheVariants as verdicts
 use Rattle.tetri_report.specs.Block.{Block}
 use Rattle.tetri_report.specs.BlockLines.{certificate_lines, events}
-use Rattle.tetri_report.specs.PlanOf.{planned}
+use Rattle.tetri_judge.specs.PlanOf.{planned}
 use Rattle.tetri_report.specs.declared.blocks.ReportFault.{ReportFault}
 use Rattle.tetri_report.specs.declared.blocks.ReportFault.TheVariants as faults
 use Rattle.tetri_report.specs.Reading.{Reading, behind_line, line_answer}

@@ -5,7 +5,7 @@ use Rattle.tetri_cert.specs.declared.certificate.Certificate.TheVariants.{Tops}
 use Rattle.tetri_claims.specs.Certified.{IsCertified}
 use Rattle.tetri_claims.specs.Good.{BoundsEveryLawful, IsHonest}
 use Rattle.tetri_report.specs.Block.{Block}
-use Rattle.tetri_report.specs.PlanOf.{planned}
+use Rattle.tetri_judge.specs.PlanOf.{planned}
 use Rattle.tetri_report.specs.Printable.{IsInRange}
 use Rattle.tetri_space.specs.Space.{Space}
 use Rattle.tetri_space.specs.Total.{total_in}

@@ -3,7 +3,7 @@ ghost use Rattle.std.specs.Prelude.{◌≡◌, ◌+◌, ◌<◌, ◌≤◌, ◌^
 ghost use Rattle.tetri_judge.specs.Verdict.{Shows};
 ghost use Rattle.tetri_report.specs.Block.{block};
 ghost use Rattle.tetri_report.specs.BlockLines.{end_place};
-ghost use Rattle.tetri_report.specs.PlanOf.{planned};
+ghost use Rattle.tetri_judge.specs.PlanOf.{planned};
 ghost use Rattle.tetri_run.specs.Checked.{AnswersCycle, AnswersPlan, AnswersVerdict};
 ghost use Rattle.tetri_run.specs.Faulty.{place_of};
 ghost use Rattle.tetri_space.specs.Sound.{IsSound as IsSoundInstance};

@@ -123,6 +123,7 @@ impl State {
             happened: Happened {
                 ended,
                 cancelled: turn.cancelled,
+                failed: Vec::new(alloc),
                 over,
                 expired: parted.expired,
             },

@@ -8,11 +8,13 @@ pub struct PieceId {
 }
 
 /// What happened at the beginning of a cycle: the pieces that ended and those that ran over, by job and then
-/// leaf, the jobs that were cancelled, in the order of their lines, and those that expired, by job.
+/// leaf, the jobs that were cancelled and those that lost their pieces by a failure, in the order of their lines, and those
+/// that expired, by job.
 #[derive(Drop)]
 pub struct Happened {
     pub ended: Vec<PieceId>,
     pub cancelled: Vec<u32>,
+    pub failed: Vec<u32>,
     pub over: Vec<PieceId>,
     pub expired: Vec<u32>,
 }

@@ -2,7 +2,7 @@ use Rattle.std.proofs.Common.{Err, ap, inr}
 use Rattle.tetri_judge.specs.Verdict.{Passes, Test}
 use Rattle.tetri_judge.proofs.VerdictLemmas.{certified_passes, passing_is_certified, passing_is_good, passing_is_not_refused, refused_for_memory}
 use Rattle.tetri_report.specs.Block.{block}
-use Rattle.tetri_report.specs.PlanOf.{planned}
+use Rattle.tetri_judge.specs.PlanOf.{planned}
 use Rattle.tetri_space.specs.Space.{space}
 use Rattle.tetri_judge.proofs.judging.judge.Goals as goal
 
