@@ -2,3 +2,4 @@ pub mod PlanOf
 pub mod Wasted
 pub mod Verdict
 pub mod Answers
+pub mod Places

@@ -20,7 +20,7 @@ use Rattle.tetri_report.specs.Block.{Block}
 use Rattle.tetri_report.specs.BlockLines.{block_lines, certificate_lines, granted, inner_lines, plan_of}
 use Rattle.tetri_report.specs.BlockLines as read
 use Rattle.tetri_report.specs.Printable.{IsCertificateInRange, IsInRange, IsPrintable, IsPrintableCertificate, IsSummaryInRange}
-use Rattle.tetri_report.specs.Reading.{Reading, is_between, is_certified, onto_blocks, opened, report_from, report_in, with_read}
+use Rattle.tetri_report.specs.Reading.{Reading, is_between, is_certified, onto_blocks, onto_report, opened, report_from, report_in, with_read}
 use Rattle.tetri_report.specs.Text.{after_comma, cycle_line, cycle_text, entry, grant_line, grant_lines, granted_line, happened_text, job_line, job_name, joined, leaf_line, name_line, piece_line, plan_line, summary_text}
 use Rattle.tetri_report.specs.declared.cycle.Summary.{Summary}
 use Rattle.tetri_report.specs.declared.line.ReportLine.{ReportLine}
@@ -29,7 +29,7 @@ use Rattle.tetri_report.specs.declared.line.Stage.{Stage}
 use Rattle.tetri_report.specs.declared.line.Stage.TheVariants as stages
 use Rattle.tetri_report.proofs.PrintedLines.{IsPrintableLine, line_avoids, line_back, line_of}
 use Rattle.tetri_report.proofs.ReadBlocks.{grants_good, reads_block}
-use Rattle.tetri_report.proofs.ReadSteps.{onto_report, step}
+use Rattle.tetri_report.proofs.ReadSteps.{step}
 
 abbrev pub report_lines : List Block → Summary → List ReportLine
 report_lines [] s = lines.Summary s ∷ []

@@ -195,10 +195,14 @@ abbrev pub onto_blocks : Option Block → List Block → List Block
 onto_blocks None bs = bs
 onto_blocks (Some b) bs = b ∷ bs
 
+-- what further lines give, with a block in front where one was ended
+abbrev pub onto_report : Option Block → Result (List Block × Summary) ℕ → Result (List Block × Summary) ℕ
+onto_report o rest = rest >>= λ x. Ok (onto_blocks o x.0, x.1)
+
 -- the blocks and the summary that further lines make
 abbrev pub report_from : Scenario → Reading → List (List ℕ) → Result (List Block × Summary) ℕ
 report_from t r [] = end_answer r >>= λ s. Ok ([], s)
-report_from t r (line ∷ rest) = line_answer t r line >>= λ o. report_from t (behind_line t r line) rest >>= λ x. Ok (onto_blocks o x.0, x.1)
+report_from t r (line ∷ rest) = line_answer t r line >>= λ o. onto_report o (report_from t (behind_line t r line) rest)
 
 -- the blocks and the summary that the lines of a content are, or the number of the first line that is none
 abbrev pub report_in : Scenario → List ℕ → Result (List Block × Summary) ℕ

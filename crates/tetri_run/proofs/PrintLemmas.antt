@@ -19,7 +19,8 @@ use Rattle.tetri_trace.specs.Scenario.{Scenario}
 use Rattle.tetri_report.specs.Block.{Block}
 use Rattle.tetri_report.specs.Printable.{AreJobs, IsPrintable, IsPrintableCertificate, IsPrintableGrant}
 use Rattle.tetri_cert.specs.declared.certificate.Certificate.TheVariants.{Tops}
-use Rattle.tetri_run.specs.Cycle.{IsPlanFor, occurrences_in}
+use Rattle.tetri_report.specs.BlockLines.{occurrences_in}
+use Rattle.tetri_run.specs.Cycle.{IsPlanFor}
 
 mutual
   -- the leaves of a sound expression are within their limits

@@ -5,20 +5,18 @@ use Rattle.tetri_cert.specs.declared.certificate.Certificate.TheVariants.{Tops}
 use Rattle.tetri_claims.specs.Certified.{IsCertified}
 use Rattle.tetri_claims.specs.Good.{BoundsEveryLawful, IsHonest}
 use Rattle.tetri_report.specs.Block.{Block}
+use Rattle.tetri_report.specs.BlockLines.{occurrences_in}
 use Rattle.tetri_judge.specs.PlanOf.{planned}
 use Rattle.tetri_report.specs.Printable.{IsInRange}
 use Rattle.tetri_space.specs.Space.{Space}
 use Rattle.tetri_space.specs.Total.{total_in}
-use Rattle.tetri_state.specs.Begin.{Occurrences, begin, occurring}
+use Rattle.tetri_state.specs.Begin.{begin, occurring}
 use Rattle.tetri_state.specs.Launch.{start_of, launched_in}
 use Rattle.tetri_state.specs.Planning.{IsCarry, instance_of}
 use Rattle.tetri_state.specs.Snapshot.{Snapshot}
 use Rattle.tetri_trace.specs.Scenario.{Scenario}
 use Rattle.tetri_run.specs.FirstFit.{first_fit}
 use Rattle.tetri_run.specs.Kept.{kept}
-
-abbrev pub occurrences_in : Block → Occurrences
-occurrences_in b = record { ended = b.ended; cancelled = b.cancelled; over = b.over; expired = b.expired }
 
 -- what the cycle plans for that begins in this state
 abbrev pub instance_at : Scenario → Snapshot → Space

@@ -48,6 +48,11 @@ IsCheckAnswer WriteFault t report before after = IsAssured t report × AppendsPa
 IsCheckAnswer (BadTrace line why) t report before after = ⊥
 IsCheckAnswer NoMemory t report before after = Unit {0}
 
+-- the status tells the first test that the report fails, at its line
+abbrev pub IsRefusal : Status → Scenario → List ℕ → Type 0
+IsRefusal (Refused line why) t report = IsRefusedAt t report line why
+IsRefusal status t report = ⊥
+
 -- What a status says of checking a report against the trace that was read: that this is refused, or is accepted and the
 -- report was checked.
 abbrev pub IsCheckPromised : Status → Result Scenario (ℕ × TraceWhy) → List ℕ → Option (List ℕ) → Option (List ℕ) → Type 0

@@ -131,6 +131,7 @@ begin t s = record {
 pub record Occurrences : Type 0 where
   pub ended : List PieceId
   pub cancelled : List ℕ
+  pub failed : List ℕ
   pub over : List PieceId
   pub expired : List ℕ
 
@@ -138,13 +139,14 @@ abbrev pub occurring : Scenario → Snapshot → Occurrences
 occurring t s = record {
   ended = told (ending s);
   cancelled = (turn t s).cancelled;
+  failed = [];
   over = told (filter (is_over s.now) (staying t s));
   expired = filter (has_expired t s.now) (turn t s).pending;
 }
 
 -- what is told of it
 abbrev pub occurrences : Happened → Occurrences
-occurrences h = record { ended = h.ended.items; cancelled = h.cancelled.items; over = h.over.items; expired = h.expired.items }
+occurrences h = record { ended = h.ended.items; cancelled = h.cancelled.items; failed = h.failed.items; over = h.over.items; expired = h.expired.items }
 
 -- an event of a node is of one below this number
 abbrev pub IsOfNodeBelow : ℕ → Happening → Type 0

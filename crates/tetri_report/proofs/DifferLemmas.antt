@@ -4,14 +4,13 @@ use Rattle.std.specs.Prelude.{Some, slice_get}
 use Rattle.std.proofs.lemmas.List.{append-nil, length-map}
 use Rattle.tetri_strl.specs.declared.grants.Grant.{Grant}
 use Rattle.tetri_report.specs.Block.{Block}
-use Rattle.tetri_report.specs.BlockLines.{block_lines, certificate_lines, events, grant_line, grant_place, granted, launch_place, plan_of}
+use Rattle.tetri_report.specs.BlockLines.{block_lines, certificate_lines, count_events, event_lines, events, grant_line, grant_place, granted, launch_place, occurrences_in, plan_of}
+use Rattle.tetri_report.specs.Differences.{DifferFirstAt, corrected}
 use Rattle.tetri_report.specs.declared.line.PlanLine.{PlanLine}
 use Rattle.tetri_report.specs.declared.line.ReportLine.{ReportLine}
 use Rattle.tetri_report.specs.declared.line.ReportLine.TheVariants as lines
 use Rattle.tetri_state.specs.Begin.{Occurrences}
 use Rattle.tetri_state.specs.declared.happened.PieceId.{PieceId}
-use Rattle.tetri_run.specs.Cycle.{occurrences_in}
-use Rattle.tetri_run.specs.Told.{DifferFirstAt, count_events, event_lines, retold}
 
 module _ {X : Type 0} where
   same_head : {x y : X} {xs ys : List X} → x ∷ xs ≡ y ∷ ys → x ≡ y
@@ -67,6 +66,9 @@ ends_apart x y e = cc
 cancels_apart : (x y : ℕ) → lines.Cancel x ≡ lines.Cancel y → x ≡ y
 cancels_apart x y e = cc
 
+fails_apart : (x y : ℕ) → lines.Fail x ≡ lines.Fail y → x ≡ y
+fails_apart x y e = cc
+
 overs_apart : (x y : PieceId) → lines.Over x ≡ lines.Over y → x ≡ y
 overs_apart x y e = cc
 
@@ -83,8 +85,11 @@ behind_expires a us = lines.Plan a ∷ us
 abbrev behind_overs : Occurrences → PlanLine → List ReportLine → List ReportLine
 behind_overs o a us = map lines.Expire o.expired ++ behind_expires a us
 
+abbrev behind_fails : Occurrences → PlanLine → List ReportLine → List ReportLine
+behind_fails o a us = map lines.Over o.over ++ behind_overs o a us
+
 abbrev behind_cancels : Occurrences → PlanLine → List ReportLine → List ReportLine
-behind_cancels o a us = map lines.Over o.over ++ behind_overs o a us
+behind_cancels o a us = map lines.Fail o.failed ++ behind_fails o a us
 
 abbrev behind_ends : Occurrences → PlanLine → List ReportLine → List ReportLine
 behind_ends o a us = map lines.Cancel o.cancelled ++ behind_cancels o a us
@@ -97,17 +102,25 @@ module _ (a : PlanLine) (us : List ReportLine) where
   no_over [] x e = absurd cc
   no_over (_ ∷ _) x e = absurd cc
 
-  no_cancel : (over : List PieceId) (expired : List ℕ) (x : ℕ) → slice_get (map lines.Over over ++ (map lines.Expire expired ++ behind_expires a us)) 0 ≢ Some (lines.Cancel x)
-  no_cancel [] [] x e = absurd cc
-  no_cancel [] (_ ∷ _) x e = absurd cc
-  no_cancel (_ ∷ _) expired x e = absurd cc
+  no_fail : (over : List PieceId) (expired : List ℕ) (x : ℕ) → slice_get (map lines.Over over ++ (map lines.Expire expired ++ behind_expires a us)) 0 ≢ Some (lines.Fail x)
+  no_fail [] [] x e = absurd cc
+  no_fail [] (_ ∷ _) x e = absurd cc
+  no_fail (_ ∷ _) expired x e = absurd cc
 
-  no_end : (cancelled : List ℕ) (over : List PieceId) (expired : List ℕ) (x : PieceId) →
-      slice_get (map lines.Cancel cancelled ++ (map lines.Over over ++ (map lines.Expire expired ++ behind_expires a us))) 0 ≢ Some (lines.End x)
-  no_end [] [] [] x e = absurd cc
-  no_end [] [] (_ ∷ _) x e = absurd cc
-  no_end [] (_ ∷ _) expired x e = absurd cc
-  no_end (_ ∷ _) over expired x e = absurd cc
+  no_cancel : (failed : List ℕ) (over : List PieceId) (expired : List ℕ) (x : ℕ) →
+      slice_get (map lines.Fail failed ++ (map lines.Over over ++ (map lines.Expire expired ++ behind_expires a us))) 0 ≢ Some (lines.Cancel x)
+  no_cancel [] [] [] x e = absurd cc
+  no_cancel [] [] (_ ∷ _) x e = absurd cc
+  no_cancel [] (_ ∷ _) expired x e = absurd cc
+  no_cancel (_ ∷ _) over expired x e = absurd cc
+
+  no_end : (cancelled failed : List ℕ) (over : List PieceId) (expired : List ℕ) (x : PieceId) →
+      slice_get (map lines.Cancel cancelled ++ (map lines.Fail failed ++ (map lines.Over over ++ (map lines.Expire expired ++ behind_expires a us)))) 0 ≢ Some (lines.End x)
+  no_end [] [] [] [] x e = absurd cc
+  no_end [] [] [] (_ ∷ _) x e = absurd cc
+  no_end [] [] (_ ∷ _) expired x e = absurd cc
+  no_end [] (_ ∷ _) over expired x e = absurd cc
+  no_end (_ ∷ _) failed over expired x e = absurd cc
 
 -- the first event that differs, of each kind
 module _ (o p : Occurrences) (a b : PlanLine) (us vs : List ReportLine) where
@@ -116,7 +129,7 @@ module _ (o p : Occurrences) (a b : PlanLine) (us vs : List ReportLine) where
 
   pub other_end : (k : ℕ) → DifferFirstAt o.ended p.ended k → DifferAt k
   other_end k d =
-      differ_within lines.End ends_apart (behind_ends o a us) (behind_ends p b vs) (no_end a us o.cancelled o.over o.expired) (no_end b vs p.cancelled p.over p.expired)
+      differ_within lines.End ends_apart (behind_ends o a us) (behind_ends p b vs) (no_end a us o.cancelled o.failed o.over o.expired) (no_end b vs p.cancelled p.failed p.over p.expired)
       o.ended p.ended k d
 
   module _ (ended : o.ended ≡ p.ended) where
@@ -128,7 +141,7 @@ module _ (o p : Occurrences) (a b : PlanLine) (us vs : List ReportLine) where
     pub other_cancel : (k : ℕ) → DifferFirstAt o.cancelled p.cancelled k → DifferAt (length o.ended + k)
     other_cancel k d =
         past_ends k
-        (differ_within lines.Cancel cancels_apart (behind_cancels o a us) (behind_cancels p b vs) (no_cancel a us o.over o.expired) (no_cancel b vs p.over p.expired)
+        (differ_within lines.Cancel cancels_apart (behind_cancels o a us) (behind_cancels p b vs) (no_cancel a us o.failed o.over o.expired) (no_cancel b vs p.failed p.over p.expired)
         o.cancelled p.cancelled k d)
 
     module _ (cancelled : o.cancelled ≡ p.cancelled) where
@@ -139,30 +152,43 @@ module _ (o p : Occurrences) (a b : PlanLine) (us vs : List ReportLine) where
           (subst (λ l. DifferFirstAt (behind_ends o a us) (map lines.Cancel l ++ behind_cancels p b vs) (length o.cancelled + k)) cancelled
           (differ_at (omega (arith, length-map o.cancelled lines.Cancel)) (differ_behind (map lines.Cancel o.cancelled) (behind_cancels o a us) (behind_cancels p b vs) k d))))
 
-      pub other_over : (k : ℕ) → DifferFirstAt o.over p.over k → DifferAt (length o.ended + length o.cancelled + k)
-      other_over k d =
+      pub other_fail : (k : ℕ) → DifferFirstAt o.failed p.failed k → DifferAt (length o.ended + length o.cancelled + k)
+      other_fail k d =
           past_cancels k
-          (differ_within lines.Over overs_apart (behind_overs o a us) (behind_overs p b vs) (no_over a us o.expired) (no_over b vs p.expired) o.over p.over k d)
+          (differ_within lines.Fail fails_apart (behind_fails o a us) (behind_fails p b vs) (no_fail a us o.over o.expired) (no_fail b vs p.over p.expired) o.failed p.failed k d)
 
-      module _ (over : o.over ≡ p.over) where
-        past_overs : (k : ℕ) → DifferFirstAt (behind_overs o a us) (behind_overs p b vs) k → DifferAt (length o.ended + length o.cancelled + length o.over + k)
-        past_overs k d =
+      module _ (failed : o.failed ≡ p.failed) where
+        past_fails : (k : ℕ) → DifferFirstAt (behind_fails o a us) (behind_fails p b vs) k → DifferAt (length o.ended + length o.cancelled + length o.failed + k)
+        past_fails k d =
             differ_at (omega arith)
-            (past_cancels (length o.over + k)
-            (subst (λ l. DifferFirstAt (behind_cancels o a us) (map lines.Over l ++ behind_overs p b vs) (length o.over + k)) over
-            (differ_at (omega (arith, length-map o.over lines.Over)) (differ_behind (map lines.Over o.over) (behind_overs o a us) (behind_overs p b vs) k d))))
+            (past_cancels (length o.failed + k)
+            (subst (λ l. DifferFirstAt (behind_cancels o a us) (map lines.Fail l ++ behind_fails p b vs) (length o.failed + k)) failed
+            (differ_at (omega (arith, length-map o.failed lines.Fail)) (differ_behind (map lines.Fail o.failed) (behind_fails o a us) (behind_fails p b vs) k d))))
 
-        pub other_expire : (k : ℕ) → DifferFirstAt o.expired p.expired k → DifferAt (length o.ended + length o.cancelled + length o.over + k)
-        other_expire k d =
-            past_overs k
-            (differ_within lines.Expire expires_apart (behind_expires a us) (behind_expires b vs) (no_expire a us) (no_expire b vs) o.expired p.expired k d)
+        pub other_over : (k : ℕ) → DifferFirstAt o.over p.over k → DifferAt (length o.ended + length o.cancelled + length o.failed + k)
+        other_over k d =
+            past_fails k
+            (differ_within lines.Over overs_apart (behind_overs o a us) (behind_overs p b vs) (no_over a us o.expired) (no_over b vs p.expired) o.over p.over k d)
 
-        past_expires : o.expired ≡ p.expired → (k : ℕ) → DifferFirstAt (behind_expires a us) (behind_expires b vs) k → DifferAt (count_events o + k)
-        past_expires expired k d =
-            differ_at (omega arith)
-            (past_overs (length o.expired + k)
-            (subst (λ l. DifferFirstAt (behind_overs o a us) (map lines.Expire l ++ behind_expires b vs) (length o.expired + k)) expired
-            (differ_at (omega (arith, length-map o.expired lines.Expire)) (differ_behind (map lines.Expire o.expired) (behind_expires a us) (behind_expires b vs) k d))))
+        module _ (over : o.over ≡ p.over) where
+          past_overs : (k : ℕ) → DifferFirstAt (behind_overs o a us) (behind_overs p b vs) k → DifferAt (length o.ended + length o.cancelled + length o.failed + length o.over + k)
+          past_overs k d =
+              differ_at (omega arith)
+              (past_fails (length o.over + k)
+              (subst (λ l. DifferFirstAt (behind_fails o a us) (map lines.Over l ++ behind_overs p b vs) (length o.over + k)) over
+              (differ_at (omega (arith, length-map o.over lines.Over)) (differ_behind (map lines.Over o.over) (behind_overs o a us) (behind_overs p b vs) k d))))
+
+          pub other_expire : (k : ℕ) → DifferFirstAt o.expired p.expired k → DifferAt (length o.ended + length o.cancelled + length o.failed + length o.over + k)
+          other_expire k d =
+              past_overs k
+              (differ_within lines.Expire expires_apart (behind_expires a us) (behind_expires b vs) (no_expire a us) (no_expire b vs) o.expired p.expired k d)
+
+          past_expires : o.expired ≡ p.expired → (k : ℕ) → DifferFirstAt (behind_expires a us) (behind_expires b vs) k → DifferAt (count_events o + k)
+          past_expires expired k d =
+              differ_at (omega arith)
+              (past_overs (length o.expired + k)
+              (subst (λ l. DifferFirstAt (behind_overs o a us) (map lines.Expire l ++ behind_expires b vs) (length o.expired + k)) expired
+              (differ_at (omega (arith, length-map o.expired lines.Expire)) (differ_behind (map lines.Expire o.expired) (behind_expires a us) (behind_expires b vs) k d))))
 
 -- the first start that differs, where there is one for each grant
 differ_granted : (us vs : List ReportLine) (gs : List Grant) (ss rs : List ℕ) → length ss ≡ length gs → length rs ≡ length gs → (k : ℕ) → DifferFirstAt ss rs k →
@@ -191,7 +217,7 @@ length-granted (g ∷ gs) (s ∷ ss) e = omega (arith, length-granted gs ss (ome
 -- the first line of a cycle that differs from what it has to tell
 module _ (b : Block) (n : ℕ) (o : Occurrences) (ss ls : List ℕ) where
   abbrev LinesDifferAt : ℕ → Type 0
-  LinesDifferAt k = DifferFirstAt (block_lines b) (block_lines (retold b n o ss ls)) k
+  LinesDifferAt k = DifferFirstAt (block_lines b) (block_lines (corrected b n o ss ls)) k
 
   abbrev behind_grants : List ℕ → List ReportLine
   behind_grants launched = certificate_lines b.certificate ++ map lines.Launch launched
@@ -219,7 +245,7 @@ module _ (b : Block) (n : ℕ) (o : Occurrences) (ss ls : List ℕ) where
           differ_at (omega arith)
           (other_event (events b + suc k)
           (past_expires (occurrences_in b) o (plan_of b) (plan_of b) (behind_plan b.starts b.launched) (behind_plan ss ls) (ap (λ (q : Occurrences). q.ended) happened)
-          (ap (λ (q : Occurrences). q.cancelled) happened) (ap (λ (q : Occurrences). q.over) happened) (ap (λ (q : Occurrences). q.expired) happened) (suc k)
+          (ap (λ (q : Occurrences). q.cancelled) happened) (ap (λ (q : Occurrences). q.failed) happened) (ap (λ (q : Occurrences). q.over) happened) (ap (λ (q : Occurrences). q.expired) happened) (suc k)
           (more_front (lines.Plan (plan_of b)) _ _ k d)))
 
       pub other_start : length b.starts ≡ length b.grants → length ss ≡ length b.grants → (k : ℕ) → DifferFirstAt b.starts ss k → LinesDifferAt (grant_place b k)
@@ -238,9 +264,9 @@ module _ (b : Block) (n : ℕ) (o : Occurrences) (ss ls : List ℕ) where
           (differ_behind (map grant_line (granted b.grants b.starts)) (behind_grants b.launched) (behind_grants ls) (length (certificate_lines b.certificate) + k)
           (differ_behind (certificate_lines b.certificate) (map lines.Launch b.launched) (map lines.Launch ls) k launches)))))
 
-      pub nothing_else : b.starts ≡ ss → b.launched ≡ ls → b ≡ retold b n o ss ls
+      pub nothing_else : b.starts ≡ ss → b.launched ≡ ls → b ≡ corrected b n o ss ls
       nothing_else starts launched =
-          ap (λ m. retold b m (occurrences_in b) b.starts b.launched) number
-          ∙ ap (λ q. retold b n q b.starts b.launched) happened
-          ∙ ap (λ l. retold b n o l b.launched) starts
-          ∙ ap (retold b n o ss) launched
+          ap (λ m. corrected b m (occurrences_in b) b.starts b.launched) number
+          ∙ ap (λ q. corrected b n q b.starts b.launched) happened
+          ∙ ap (λ l. corrected b n o l b.launched) starts
+          ∙ ap (corrected b n o ss) launched

@@ -1,11 +1,11 @@
--- What a cycle tells beside its plan, and where it tells something else than the run has there.
-use Rattle.std.specs.Prelude.{◌≡◌, ◌≢◌, ◌≤◌, ℕ, ◌+◌, List, ◌∷◌, ◌++◌, map, length, take, slice_get, Option, Some, None}
+-- Where the lines of a cycle differ from others first.
+use Rattle.std.specs.Prelude.{◌≡◌, ◌≢◌, ◌≤◌, ℕ, List, ◌∷◌, length, take, slice_get, Option, Some, None}
+use Rattle.tetri_state.specs.Begin.{Occurrences}
 use Rattle.tetri_report.specs.Block.{Block}
-use Rattle.tetri_report.specs.BlockLines.{block_lines}
+use Rattle.tetri_report.specs.BlockLines.{block_lines, event_lines}
 use Rattle.tetri_report.specs.declared.line.PlanLine.{PlanLine}
 use Rattle.tetri_report.specs.declared.line.ReportLine.{ReportLine}
 use Rattle.tetri_report.specs.declared.line.ReportLine.TheVariants as lines
-use Rattle.tetri_state.specs.Begin.{Occurrences}
 
 -- two lists agree before this place, and not there
 pub record DifferFirstAt {X : Type 0} (xs ys : List X) (place : ℕ) : Type 0 where
@@ -16,13 +16,6 @@ pub record DifferFirstAt {X : Type 0} (xs ys : List X) (place : ℕ) : Type 0 wh
 abbrev pub IsDifference : {X : Type 0} → List X → List X → Option ℕ → Type 0
 IsDifference xs ys None = xs ≡ ys
 IsDifference xs ys (Some place) = DifferFirstAt xs ys place × (place ≤ length xs)
-
--- the lines of events, and then others
-abbrev pub event_lines : Occurrences → List ReportLine → List ReportLine
-event_lines o rest = map lines.End o.ended ++ (map lines.Cancel o.cancelled ++ (map lines.Over o.over ++ (map lines.Expire o.expired ++ rest)))
-
-abbrev pub count_events : Occurrences → ℕ
-count_events o = length o.ended + length o.cancelled + length o.over + length o.expired
 
 -- The events are the same, or this is the first place at which their lines differ, where a plan follows.
 abbrev pub IsEventDifference : Occurrences → Occurrences → Option ℕ → Type 0
@@ -35,12 +28,13 @@ abbrev pub IsLineDifference : Block → Block → Option ℕ → Type 0
 IsLineDifference b c None = b ≡ c
 IsLineDifference b c (Some place) = DifferFirstAt (block_lines b) (block_lines c) place
 
--- the cycle with this number, these events, starts and launched jobs
-abbrev pub retold : Block → ℕ → Occurrences → List ℕ → List ℕ → Block
-retold b number o starts launched = record b {
+-- the cycle with this number, these events, starts and launched jobs in place of its own
+abbrev pub corrected : Block → ℕ → Occurrences → List ℕ → List ℕ → Block
+corrected b number o starts launched = record b {
   number = number;
   ended = o.ended;
   cancelled = o.cancelled;
+  failed = o.failed;
   over = o.over;
   expired = o.expired;
   starts = starts;
