@@ -76,7 +76,9 @@ pub fn plan_place(cycle: &Cycle) -> u64
 {
     let happened = &cycle.happened;
     let pieces = happened.ended.len() as u64 + happened.over.len() as u64;
-    let jobs = happened.cancelled.len() as u64 + happened.failed.len() as u64 + happened.expired.len() as u64;
+    let jobs = happened.cancelled.len() as u64
+        + happened.failed.len() as u64
+        + happened.expired.len() as u64;
     1 + pieces + jobs
 }
 

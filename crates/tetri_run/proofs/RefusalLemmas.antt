@@ -46,7 +46,7 @@ module _ (t : Scenario) (sound : IsSound t) where
       let i = instance_at t s in
       let same : carry ≡ again = carry_same i s.plan carry again carried too in
       let e : v ≡ w = one_verdict i (total_in i again) t.header.budget (planned b) (instance_good t sound s reached more) v w
-          (subst (λ c. IsFirstFailed i (total_in i c) t.header.budget (planned b) v) same failed) fails in
+      (subst (λ c. IsFirstFailed i (total_in i c) t.header.budget (planned b) v) same failed) fails in
       (ap (place_of b) e, some_same (sym is ∙ ap why_of e ∙ are))
     where
       some_same : Some why ≡ Some because → why ≡ because
@@ -95,7 +95,7 @@ module _ (t : Scenario) (sound : IsSound t) where
     one_refusal number other why because (faulty b place w short answer fault) (faulty d at x shorter reads faults) =
         let same : d ≡ b = some_same (ok_same (sym reads ∙ answer)) in
         let one = one_fault (state_behind t c.past) b place at why because reached_here (more_here (Some b) answer) fault
-            (subst (λ e. IsFaulty t (state_behind t c.past) e at because) same faults) in
+        (subst (λ e. IsFaulty t (state_behind t c.past) e at because) same faults) in
         (ap (λ n. c.first + n) one.0, one.1)
       where
         some_same : Some d ≡ Some b → d ≡ b
