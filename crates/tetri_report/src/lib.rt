@@ -19,6 +19,3 @@ pub use laws::{printed_lines_are_short, printed_reports_read_back};
 pub use print::print_cycle;
 pub use ranges::cycle_is_in_range;
 pub use summary::print_summary;
-
-#[cfg(test)]
-mod tests;
