@@ -1,3 +1,4 @@
+pub mod Options
 pub mod ObjectLemmas
 pub mod JobNames
 pub mod Later

@@ -15,7 +15,7 @@ use Rattle.tetri_trace.specs.Scenario.{Scenario, Submission, job_names}
 use Rattle.tetri_trace.specs.Sound.{IsSound, IsSoundSubmission, NamesKnown, CancelsNothingLater, arrival_in}
 use Rattle.tetri_trace.specs.declared.trace.Event.{Event}
 use Rattle.tetri_trace.specs.declared.trace.Happening.{Happening}
-use Rattle.tetri_trace.specs.declared.trace.Happening.TheVariants.{Arrive, Cancel, Drain, Undrain}
+use Rattle.tetri_trace.specs.declared.trace.Happening.TheVariants.{Arrive, Cancel, Drain, Undrain, Fail}
 
 module _ (s t : Scenario) where
   pub known_kept : length s.submissions ≤ length t.submissions → length s.nodes ≡ length t.nodes → (what : Happening) → NamesKnown s what → NamesKnown t what
@@ -23,6 +23,7 @@ module _ (s t : Scenario) where
   known_kept more same (Cancel job) h = omega arith
   known_kept more same (Drain node) h = omega arith
   known_kept more same (Undrain node) h = omega arith
+  known_kept more same (Fail node) h = omega arith
 
   pub job_kept : s.header.until ≡ t.header.until → length s.sets ≤ length t.sets → (j : Submission) → IsSoundSubmission s j → IsSoundSubmission t j
   job_kept same more j o = record {
@@ -41,16 +42,19 @@ cancels_none : (at : ℕ) (f what : Happening) → arrival_in (record { at = at;
 cancels_none at (Arrive job) what h = tt
 cancels_none at (Drain node) what h = tt
 cancels_none at (Undrain node) what h = tt
+cancels_none at (Fail node) what h = tt
 cancels_none at (Cancel job) (Arrive other) h = cc
 cancels_none at (Cancel job) (Cancel other) h = tt
 cancels_none at (Cancel job) (Drain node) h = tt
 cancels_none at (Cancel job) (Undrain node) h = tt
+cancels_none at (Cancel job) (Fail node) h = tt
 
 -- a job that comes is none that was cancelled
 cancels_earlier : (s : Scenario) (f : Happening) → NamesKnown s f → CancelsNothingLater f (Arrive (length s.submissions))
 cancels_earlier s (Arrive job) h = tt
 cancels_earlier s (Drain node) h = tt
 cancels_earlier s (Undrain node) h = tt
+cancels_earlier s (Fail node) h = tt
 cancels_earlier s (Cancel job) h = λ e. omega arith
 
 no_arrival_more : (es : List Event) (e : Event) → arrival_in e ≡ None → filter_map arrival_in (es ++ e ∷ []) ≡ filter_map arrival_in es
@@ -66,6 +70,7 @@ with_event_sound s at what sound next known none = record {
   sets = sound.sets;
   few_sets = sound.few_sets;
   known_nodes = sound.known_nodes;
+  closures = sound.closures;
   few_jobs = sound.few_jobs;
   jobs_differ = sound.jobs_differ;
   jobs_ascend = sound.jobs_ascend;
@@ -93,6 +98,7 @@ with_sets_sound s sets sound are few within more = record {
   sets = are;
   few_sets = few;
   known_nodes = within;
+  closures = sound.closures;
   few_jobs = sound.few_jobs;
   jobs_differ = sound.jobs_differ;
   jobs_ascend = sound.jobs_ascend;
@@ -112,6 +118,7 @@ arrival_first at slot es le rest (Arrive job) = All-cons (λ (a : ℕ × ℕ). a
 arrival_first at slot es le rest (Cancel job) = rest
 arrival_first at slot es le rest (Drain node) = rest
 arrival_first at slot es le rest (Undrain node) = rest
+arrival_first at slot es le rest (Fail node) = rest
 
 -- no arrival comes after a slot that no event comes after
 arrivals_before : (at : ℕ) (es : List Event) → All (λ e. e.at ≤ at) es → arrivals_to at (filter_map arrival_in es)
@@ -171,6 +178,7 @@ module _ (s : Scenario) (job : Submission) (sound : IsSound s) (next : IsNextSlo
     sets = sound.sets;
     few_sets = sound.few_sets;
     known_nodes = sound.known_nodes;
+    closures = sound.closures;
     few_jobs = omega (arith, more);
     jobs_differ = different;
     jobs_ascend = all_pairs_push (λ i j. i.arrival ≤ j.arrival) s.submissions job sound.jobs_ascend jobs_before;

@@ -10,6 +10,7 @@ so_far d = record {
   header = d.header;
   nodes = d.cluster;
   sets = d.sets;
+  closures = d.closures;
   submissions = map submission d.jobs;
   events = d.events.items;
 }

@@ -2,6 +2,7 @@ pub mod Scenario
 pub mod Sound
 pub mod Answers
 pub mod Fields
+pub mod Closures
 pub mod Objects
 pub mod Notices
 pub mod Lines

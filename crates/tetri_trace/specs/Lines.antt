@@ -9,12 +9,12 @@ use Rattle.tetri_parse.specs.Expression.{expression}
 use Rattle.tetri_trace.specs.Answers.{at_line, in_text}
 use Rattle.tetri_base.specs.ResultSteps.{◌>>=◌}
 use Rattle.tetri_trace.specs.Fields.{object_in}
-use Rattle.tetri_trace.specs.Objects.{Notice, arrives, cancels, drains, undrains, event_in, header_in}
+use Rattle.tetri_trace.specs.Objects.{Notice, arrives, cancels, drains, undrains, fails, event_in, header_in}
 use Rattle.tetri_trace.specs.Scenario.{Scenario, Submission, strl, job_names}
 use Rattle.tetri_trace.specs.declared.fault.TraceWhy.{TraceWhy}
 use Rattle.tetri_trace.specs.declared.fault.TraceWhy.TheVariants.{LineTooLong, TraceTooLong, NoHeader, OutOfOrder, PastEnd, NameTaken, NoSuchJob, NoSuchNode, TooManyJobs}
 use Rattle.tetri_trace.specs.declared.trace.Happening.{Happening}
-use Rattle.tetri_trace.specs.declared.trace.Happening.TheVariants.{Arrive, Cancel, Drain, Undrain}
+use Rattle.tetri_trace.specs.declared.trace.Happening.TheVariants.{Arrive, Cancel, Drain, Undrain, Fail}
 
 -- spaces, tabs and carriage returns alone
 abbrev pub is_blank_byte : ℕ → Bool
@@ -51,6 +51,7 @@ happened s at (arrives name late text) = arrived s at name late text
 happened s at (cancels name) = ok_or (number_of name (job_names s.submissions)) NoSuchJob >>= λ job. Ok (with_event s at (Cancel job))
 happened s at (drains name) = ok_or (number_of name (names_of s.nodes)) NoSuchNode >>= λ node. Ok (with_event s at (Drain node))
 happened s at (undrains name) = ok_or (number_of name (names_of s.nodes)) NoSuchNode >>= λ node. Ok (with_event s at (Undrain node))
+happened s at (fails name) = ok_or (number_of name (names_of s.nodes)) NoSuchNode >>= λ node. Ok (with_event s at (Fail node))
 
 -- the trace with the event that an object is
 unfoldable pub add_event : Scenario → Data → Result Scenario TraceWhy

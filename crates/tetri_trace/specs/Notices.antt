@@ -1,7 +1,7 @@
 -- Which notices are good.
 use Rattle.std.specs.Prelude.{◌≡◌, ◌≤ℤ◌, pos, negsuc, true}
 use Rattle.tetri_cluster.specs.Names.{is_name}
-use Rattle.tetri_trace.specs.Objects.{Notice, arrives, cancels, drains, undrains}
+use Rattle.tetri_trace.specs.Objects.{Notice, arrives, cancels, drains, undrains, fails}
 
 -- a job that arrives has a name, and is not too late
 abbrev pub IsGoodNotice : Notice → Type 0
@@ -9,3 +9,4 @@ IsGoodNotice (arrives name late text) = (is_name name ≡ true) × (negsuc 9999 
 IsGoodNotice (cancels name) = Unit {0}
 IsGoodNotice (drains name) = Unit {0}
 IsGoodNotice (undrains name) = Unit {0}
+IsGoodNotice (fails name) = Unit {0}

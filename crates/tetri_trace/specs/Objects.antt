@@ -8,13 +8,14 @@ use Rattle.tetri_cluster.specs.declared.cluster.NodeText.{NodeText}
 use Rattle.tetri_base.specs.ResultSteps.{◌>>=◌}
 use Rattle.tetri_trace.specs.Fields.{required, has_key, optional, name_in, slot_in, number_in, unit_of, late_of, nodes_in}
 use Rattle.tetri_trace.specs.Scenario.{Scenario}
+use Rattle.tetri_trace.specs.Closures.{closures_at, closures_of}
 use Rattle.tetri_trace.specs.declared.event.EventKey.{EventKey}
-use Rattle.tetri_trace.specs.declared.event.EventKey.TheVariants.{Arrive, Cancel, Drain, Undrain}
+use Rattle.tetri_trace.specs.declared.event.EventKey.TheVariants.{Arrive, Cancel, Drain, Undrain, Fail}
 use Rattle.tetri_trace.specs.declared.event.Notice as code
 use Rattle.tetri_trace.specs.declared.event.Notice.TheVariants as notices
 use Rattle.tetri_trace.specs.declared.fault.Field.TheVariants as fields
 use Rattle.tetri_trace.specs.declared.fault.TraceWhy.{TraceWhy}
-use Rattle.tetri_trace.specs.declared.fault.TraceWhy.TheVariants.{NoHeader, MissingField, BadField, UnknownEvent, NotBuilt, NameTaken}
+use Rattle.tetri_trace.specs.declared.fault.TraceWhy.TheVariants.{NoHeader, MissingField, BadField, UnknownEvent, NotBuilt, NameTaken, NoSuchNode}
 
 -- from 1 to 4,096 nodes
 abbrev pub some_nodes : List NodeText → Option (List NodeText)
@@ -39,8 +40,10 @@ header_in d = do
   budget ← ok_or (number_in 1 10000 tries) (BadField fields.Budget)
   until ← ok_or (number_in 1 10000 cycles) (BadField fields.Until)
   unit ← ok_or (unit_of (optional (codes "unit") d)) (BadField fields.Unit)
+  closed ← ok_or (closures_of (optional (codes "closures") d)) (BadField fields.Closures)
   cluster ← named_apart nodes
-  Ok (record { header = record { window = window; budget = budget; until = until; unit = unit }; nodes = cluster; sets = []; submissions = []; events = [] })
+  closures ← ok_or (closures_at (names_of cluster) closed) NoSuchNode
+  Ok (record { header = record { window = window; budget = budget; until = until; unit = unit }; nodes = cluster; sets = []; closures = closures; submissions = []; events = [] })
 
 -- what an event says, with names for what has no number yet
 pub data Notice : Type 0 where
@@ -48,12 +51,14 @@ pub data Notice : Type 0 where
   cancels : List ℕ → Notice
   drains : List ℕ → Notice
   undrains : List ℕ → Notice
+  fails : List ℕ → Notice
 
 abbrev pub notice : code.Notice → Notice
 notice (notices.Arrive name late text) = arrives name.now late text.now
 notice (notices.Cancel name) = cancels name.now
 notice (notices.Drain name) = drains name.now
 notice (notices.Undrain name) = undrains name.now
+notice (notices.Fail name) = fails name.now
 
 -- a key that is there, with its value
 abbrev pub there : EventKey → Option Data → List (EventKey × Data)
@@ -67,7 +72,9 @@ only (key ∷ another ∷ keys) = Err UnknownEvent
 
 -- the one event key that is there
 unfoldable pub event_key : Data → Result (EventKey × Data) TraceWhy
-event_key d = only (there Arrive (get (codes "arrive") d) ++ there Cancel (get (codes "cancel") d) ++ there Drain (get (codes "drain") d) ++ there Undrain (get (codes "undrain") d))
+event_key d =
+    only
+    (there Arrive (get (codes "arrive") d) ++ there Cancel (get (codes "cancel") d) ++ there Drain (get (codes "drain") d) ++ there Undrain (get (codes "undrain") d) ++ there Fail (get (codes "fail") d))
 
 -- the text of an expression, beside which nothing is asked for
 abbrev pub text_alone : Data → Data → Option (List ℕ)
@@ -90,6 +97,7 @@ notice_by d Arrive value = arrival_notice d value
 notice_by d Cancel value = ok_or (name_in value) (BadField fields.Cancel) >>= λ name. Ok (cancels name)
 notice_by d Drain value = ok_or (name_in value) (BadField fields.Drain) >>= λ name. Ok (drains name)
 notice_by d Undrain value = ok_or (name_in value) (BadField fields.Undrain) >>= λ name. Ok (undrains name)
+notice_by d Fail value = ok_or (name_in value) (BadField fields.Fail) >>= λ name. Ok (fails name)
 
 -- the slot and the notice of an event
 unfoldable pub event_in : Data → Result (ℕ × Notice) TraceWhy

@@ -2,6 +2,7 @@
 use Rattle.std.specs.Prelude.{ℕ, ℤ, List, map}
 use Rattle.tetri_strl.specs.Tree.{Tree, tree}
 use Rattle.tetri_cluster.specs.declared.cluster.NodeText.{NodeText}
+use Rattle.tetri_space.specs.declared.closure.Closure.{Closure}
 use Rattle.tetri_trace.specs.declared.trace.Header.{Header}
 use Rattle.tetri_trace.specs.declared.trace.Work.{Work}
 use Rattle.tetri_trace.specs.declared.trace.Work.TheVariants.{Strl}
@@ -24,6 +25,7 @@ pub record Scenario : Type 0 where
   pub header : Header
   pub nodes : List NodeText
   pub sets : List (List ℕ)
+  pub closures : List Closure
   pub submissions : List Submission
   pub events : List Event
 
@@ -39,6 +41,7 @@ scenario t = record {
   header = t.header;
   nodes = t.cluster;
   sets = t.sets.value;
+  closures = t.closures.value;
   submissions = map submission t.jobs;
   events = t.events.items;
 }

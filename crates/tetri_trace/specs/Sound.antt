@@ -6,10 +6,11 @@ use Rattle.tetri_strl.specs.WellMade.{IsWellMade}
 use Rattle.tetri_cluster.specs.Names.{is_name, differ}
 use Rattle.tetri_cluster.specs.Cluster.{names_of}
 use Rattle.tetri_cluster.specs.Sets.{AreSets}
+use Rattle.tetri_space.specs.Closed.{AreSoundClosures}
 use Rattle.tetri_trace.specs.declared.trace.Header.{Header}
 use Rattle.tetri_trace.specs.declared.trace.Event.{Event}
 use Rattle.tetri_trace.specs.declared.trace.Happening.{Happening}
-use Rattle.tetri_trace.specs.declared.trace.Happening.TheVariants.{Arrive, Cancel, Drain, Undrain}
+use Rattle.tetri_trace.specs.declared.trace.Happening.TheVariants.{Arrive, Cancel, Drain, Undrain, Fail}
 use Rattle.tetri_trace.specs.Scenario.{Submission, Scenario, expr_of, job_names}
 
 pub record IsSoundHeader (h : Header) : Type 0 where
@@ -38,6 +39,7 @@ NamesKnown s (Arrive job) = job < length s.submissions
 NamesKnown s (Cancel job) = job < length s.submissions
 NamesKnown s (Drain node) = node < length s.nodes
 NamesKnown s (Undrain node) = node < length s.nodes
+NamesKnown s (Fail node) = node < length s.nodes
 
 -- the second does not bring what the first cancels
 abbrev pub CancelsNothingLater : Happening → Happening → Type 0
@@ -52,6 +54,7 @@ arrival_in e = by_kind e.what
     by_kind (Cancel job) = None
     by_kind (Drain node) = None
     by_kind (Undrain node) = None
+    by_kind (Fail node) = None
 
 pub record IsSound (s : Scenario) : Type 0 where
   pub header : IsSoundHeader s.header
@@ -62,6 +65,7 @@ pub record IsSound (s : Scenario) : Type 0 where
   pub sets : AreSets s.sets
   pub few_sets : length s.sets ≤ 4096
   pub known_nodes : All (All (λ n. n < length s.nodes)) s.sets
+  pub closures : AreSoundClosures (length s.nodes) s.closures
   pub few_jobs : length s.submissions ≤ 100000
   pub jobs_differ : differ (job_names s.submissions) ≡ true
   pub jobs_ascend : AllPairs (λ i j. i.arrival ≤ j.arrival) s.submissions

@@ -10,6 +10,7 @@ use crate::trace::{Event, Header, Trace};
 use std::alloc::Global;
 use std::rc::Rc;
 use tetri_cluster::{Cluster, Sets};
+use tetri_space::Closures;
 
 /// The trace that is read so far.
 #[derive(Drop)]
@@ -17,6 +18,7 @@ pub(crate) struct Draft {
     pub(crate) header: Header,
     pub(crate) cluster: Cluster,
     pub(crate) sets: Sets,
+    pub(crate) closures: Closures,
     pub(crate) jobs: Jobs,
     pub(crate) events: Vec<Event>,
 }
@@ -32,6 +34,7 @@ pub(crate) fn finished(alloc: Global, draft: Draft) -> Result<Trace, Stop>
         header: draft.header,
         cluster: draft.cluster,
         sets: Rc::new(alloc, draft.sets)?,
+        closures: Rc::new(alloc, draft.closures)?,
         jobs: draft.jobs,
         events: draft.events,
     })

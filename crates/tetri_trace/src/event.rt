@@ -18,6 +18,7 @@ pub(crate) enum EventKey {
     Cancel,
     Drain,
     Undrain,
+    Fail,
 }
 
 /// What an event says, with names for what has no number yet.
@@ -31,6 +32,7 @@ pub(crate) enum Notice<'v> {
     Cancel(&'v str),
     Drain(&'v str),
     Undrain(&'v str),
+    Fail(&'v str),
 }
 
 // The one event key that is there, with its value.
@@ -43,11 +45,13 @@ fn event_key(object: &Value) -> Result<(EventKey, &Value), Stop>
         object.get("cancel"),
         object.get("drain"),
         object.get("undrain"),
+        object.get("fail"),
     ) {
-        (Some(value), None, None, None) => Ok((EventKey::Arrive, value)),
-        (None, Some(value), None, None) => Ok((EventKey::Cancel, value)),
-        (None, None, Some(value), None) => Ok((EventKey::Drain, value)),
-        (None, None, None, Some(value)) => Ok((EventKey::Undrain, value)),
+        (Some(value), None, None, None, None) => Ok((EventKey::Arrive, value)),
+        (None, Some(value), None, None, None) => Ok((EventKey::Cancel, value)),
+        (None, None, Some(value), None, None) => Ok((EventKey::Drain, value)),
+        (None, None, None, Some(value), None) => Ok((EventKey::Undrain, value)),
+        (None, None, None, None, Some(value)) => Ok((EventKey::Fail, value)),
         _ => Err(Stop::Because(TraceWhy::UnknownEvent)),
     }
 }
@@ -92,6 +96,7 @@ fn notice_by<'v>(object: &'v Value, key: EventKey, value: &'v Value) -> Result<N
         EventKey::Cancel => Ok(Notice::Cancel(name_in(value, Field::Cancel)?)),
         EventKey::Drain => Ok(Notice::Drain(name_in(value, Field::Drain)?)),
         EventKey::Undrain => Ok(Notice::Undrain(name_in(value, Field::Undrain)?)),
+        EventKey::Fail => Ok(Notice::Fail(name_in(value, Field::Fail)?)),
     }
 }
 

@@ -193,5 +193,9 @@ pub(crate) fn happened(alloc: Global, draft: &mut Draft, at: u32, said: Notice) 
             let node = node_named(draft, name)?;
             with_event(draft, at, Happening::Undrain(node))
         }
+        Notice::Fail(name) => {
+            let node = node_named(draft, name)?;
+            with_event(draft, at, Happening::Fail(node))
+        }
     }
 }

@@ -11,6 +11,7 @@ ghost use Rattle.tetri_trace.specs.Objects.{cluster_in, header_in, named_apart};
 ghost use Rattle.tetri_trace.specs.declared.fault.Field.TheVariants as fields;
 ghost use Rattle.tetri_trace.specs.declared.fault.TraceWhy.TheVariants as whys;
 
+use crate::closures::{closures_at, closures_of};
 use crate::draft::Draft;
 use crate::fault::{Field, Stop, TraceWhy};
 use crate::field::{bad, name_in, number_in, optional, read_name, required, unit_in};
@@ -125,7 +126,9 @@ pub(crate) fn header_in(alloc: Global, object: &Value) -> Result<Draft, Stop>
     let budget = number_in(tries, 1, 10_000, Field::Budget)?;
     let until = number_in(cycles, 1, 10_000, Field::Until)?;
     let unit = u64::from(unit_in(object)?);
+    let closed = closures_of(alloc, object)?;
     let cluster = cluster_of(alloc, nodes)?;
+    let closures = closures_at(alloc, &cluster, &closed)?;
     Ok(Draft {
         header: Header {
             window,
@@ -135,6 +138,7 @@ pub(crate) fn header_in(alloc: Global, object: &Value) -> Result<Draft, Stop>
         },
         cluster,
         sets: Sets::new(alloc),
+        closures,
         jobs: Jobs::new(alloc),
         events: Vec::new(alloc),
     })

@@ -2,6 +2,7 @@
 use crate::jobs::Jobs;
 use std::rc::Rc;
 use tetri_cluster::{Cluster, Name, Sets};
+use tetri_space::Closures;
 use tetri_strl::Expr;
 
 /// The limits of a run: the slots of the window, the nodes of a search tree, the number of cycles, and
@@ -38,6 +39,7 @@ pub enum Happening {
     Cancel(u32),
     Drain(u32),
     Undrain(u32),
+    Fail(u32),
 }
 
 /// What happens at a slot.
@@ -47,13 +49,14 @@ pub struct Event {
     pub what: Happening,
 }
 
-/// A whole trace: the nodes, the sets of nodes that the jobs name, the jobs in order of arrival, and the
-/// events in order of slot.
+/// A whole trace: the nodes, the sets of nodes that the jobs name, the slots in which nodes are closed in
+/// the header's order, the jobs in order of arrival, and the events in order of slot.
 #[derive(Drop)]
 pub struct Trace {
     pub header: Header,
     pub cluster: Cluster,
     pub sets: Rc<Sets>,
+    pub closures: Rc<Closures>,
     pub jobs: Jobs,
     pub events: Vec<Event>,
 }
