@@ -1,5 +1,6 @@
 pub mod BidLemmas
 pub mod ClashLemmas
+pub mod ClosedLemmas
 pub mod FindingLemmas
 pub mod FreeLemmas
 pub mod GroupLemmas
@@ -7,10 +8,13 @@ pub mod JobLemmas
 pub mod LawLemmas
 pub mod LawfulLemmas
 pub mod LeafLemmas
+pub mod MemberLemmas
 pub mod NodeLemmas
 pub mod PartitionLemmas
 pub mod PartsLemmas
 pub mod PrunedLemmas
 pub mod RuleLemmas
 pub mod SearchLemmas
+pub mod SpanLemmas
 pub mod TotalLemmas
+pub mod TurnLemmas

@@ -1,22 +1,23 @@
 -- A node of an asked set is in exactly one partition of that set.
-use Rattle.std.proofs.Common.{◌≡◌, ◌⊎◌, ℕ, zero, suc, ◌+◌, ◌<◌, ◌≤◌, ◌&&◌, not, Bool, true, false, cond, List, [], ◌∷◌, length, Contains, refl, sym, ap, ◌∙◌, arith, true≢false, inl, inr, ⊎_elim}
+use Rattle.std.proofs.Common.{◌≡◌, ◌⊎◌, ℕ, zero, suc, ◌+◌, ◌<◌, ◌≤◌, ◌&&◌, not, Bool, true, false, cond, List, [], ◌∷◌, ◌++◌, length, Contains, refl, sym, ap, ◌∙◌, arith, true≢false, inl, inr, ⊎_elim}
 use Rattle.std.specs.Prelude.{nat_lt}
 use Rattle.std.specs.List.{list_any, list_all, filter, range_with_len}
 use Rattle.std.proofs.lemmas.Bool.{cases_Bool, cases_lt, cases_order, and_parts, and_from, false_from_ne_true}
 use Rattle.std.proofs.lemmas.Bool.Decides.{nat_tests}
+use Rattle.std.proofs.lemmas.List.Elements.{Contains-append_left}
 use Rattle.tetri_base.specs.Lists.{bit, count, has, same, Each}
 use Rattle.tetri_space.specs.Partitions.{alike, leads, groups, set_at, nodes_of, part_at, parts_in}
 use Rattle.tetri_space.specs.Space.{Space}
 use Rattle.tetri_base.proofs.ListLaws.{Each-map, Each-passed, Each-all, Each-at, all_from, from_all, any_from, none_from, has-filter, has-range, range_contains, sum_of-eq, sum_of-filter, sum_of-map, sum_of-range}
 
 -- ---- nodes in exactly the same sets
-same-true : (b c : Bool) → same b c ≡ true → b ≡ c
+pub same-true : (b c : Bool) → same b c ≡ true → b ≡ c
 same-true true true e = refl
 same-true false false e = refl
 same-true true false e = sym e
 same-true false true e = e
 
-true-same : (b c : Bool) → b ≡ c → same b c ≡ true
+pub true-same : (b c : Bool) → b ≡ c → same b c ≡ true
 true-same true c e = sym e
 true-same false true e = e
 true-same false false e = refl
@@ -97,7 +98,10 @@ count_single p a (suc n) j low high e one =
       | inr (inr gt) ↦ absurd (omega (arith, gt))
     ]
 
-module _ (sets : List (List ℕ)) (size : ℕ) (s : List ℕ) (asked : Contains sets s) (m : ℕ) (small : m < size) (there : has s m ≡ true) where
+module _ (asks marks : List (List ℕ)) (size : ℕ) (s : List ℕ) (asked : Contains asks s) (m : ℕ) (small : m < size) (there : has s m ≡ true) where
+  abbrev sets : List (List ℕ)
+  sets = asks ++ marks
+
   abbrev nodes : List ℕ
   nodes = range_with_len 0 size
 
@@ -105,13 +109,13 @@ module _ (sets : List (List ℕ)) (size : ℕ) (s : List ℕ) (asked : Contains 
   group n = filter (alike sets n) nodes
 
   abbrev leader : ℕ → Bool
-  leader n = leads sets nodes n && alike sets n m
+  leader n = leads asks marks nodes n && alike sets n m
 
   in_group : (n : ℕ) → has (group n) m ≡ alike sets n m
   in_group n = has-filter (alike sets n) nodes m ∙ ap (λ b. b && alike sets n m) (has-range 0 size m (omega arith) (omega arith))
 
   in_set : (k : ℕ) → alike sets k m ≡ true → has s k ≡ true
-  in_set k e = Each-at (λ t. has t k ≡ has t m) sets s (agree_from sets k m e) asked ∙ there
+  in_set k e = Each-at (λ t. has t k ≡ has t m) sets s (agree_from sets k m e) (Contains-append_left asks marks s asked) ∙ there
 
   -- the group of a node that is like m lies in the set
   group_in_set : (n : ℕ) → alike sets n m ≡ true → list_all (has s) (group n) ≡ true
@@ -119,8 +123,8 @@ module _ (sets : List (List ℕ)) (size : ℕ) (s : List ℕ) (asked : Contains 
       all_from (has s) (group n)
       (Each-passed (λ k. has s k ≡ true) (alike sets n) (λ k f. in_set k (alike_trans sets k n m (alike_sym sets n k f) e)) nodes)
 
-  term : (n : ℕ) → cond (leads sets nodes n) (cond (list_all (has s) (group n)) (bit (has (group n) m)) 0) 0 ≡ bit (leader n)
-  term n = by_test (leads sets nodes n) (list_all (has s) (group n)) (has (group n) m) (alike sets n m) (in_group n) (group_in_set n)
+  term : (n : ℕ) → cond (leads asks marks nodes n) (cond (list_all (has s) (group n)) (bit (has (group n) m)) 0) 0 ≡ bit (leader n)
+  term n = by_test (leads asks marks nodes n) (list_all (has s) (group n)) (has (group n) m) (alike sets n m) (in_group n) (group_in_set n)
     where
       by_test : (a b c d : Bool) → c ≡ d → (d ≡ true → b ≡ true) → cond a (cond b (bit c) 0) 0 ≡ bit (a && d)
       by_test true true c d e f = ap bit e
@@ -131,9 +135,9 @@ module _ (sets : List (List ℕ)) (size : ℕ) (s : List ℕ) (asked : Contains 
   -- of two leaders like m the lesser is the other
   one_leader : (j k : ℕ) → j < size → j < k → leader j ≡ true → leader k ≡ true → ⊥
   one_leader j k inside lt p q =
-      let a = and_parts (leads sets nodes j) (alike sets j m) p in
-      let b = and_parts (leads sets nodes k) (alike sets k m) q in
-      let first = and_parts (list_any (λ t. has t k) sets) (not (list_any (λ n. nat_lt n k && alike sets n k) nodes)) b.0 in
+      let a = and_parts (leads asks marks nodes j) (alike sets j m) p in
+      let b = and_parts (leads asks marks nodes k) (alike sets k m) q in
+      let first = and_parts (list_any (λ t. has t k) asks) (not (list_any (λ n. nat_lt n k && alike sets n k) nodes)) b.0 in
       let like = alike_trans sets j m k a.1 (alike_sym sets k m b.1) in
       let found = any_from (λ n. nat_lt n k && alike sets n k) nodes j (range_contains 0 size j (omega arith) (omega arith)) (and_from (nat_lt j k) (alike sets j k) (lt_test j k lt) like) in
       true≢false (sym first.1 ∙ ap not found)
@@ -143,9 +147,9 @@ module _ (sets : List (List ℕ)) (size : ℕ) (s : List ℕ) (asked : Contains 
 
   least_leads : (n : ℕ) → IsLeast (λ k. alike sets k m) m n → leader n ≡ true
   least_leads n h =
-      and_from (leads sets nodes n) (alike sets n m)
-      (and_from (list_any (λ t. has t n) sets) (not (list_any (λ k. nat_lt k n && alike sets k n) nodes))
-      (any_from (λ t. has t n) sets s asked (in_set n h.passes))
+      and_from (leads asks marks nodes n) (alike sets n m)
+      (and_from (list_any (λ t. has t n) asks) (not (list_any (λ k. nat_lt k n && alike sets k n) nodes))
+      (any_from (λ t. has t n) asks s asked (in_set n h.passes))
       (ap not (none_from (λ k. nat_lt k n && alike sets k n) nodes (Each-all (λ k. (nat_lt k n && alike sets k n) ≡ false) none_less nodes))))
       h.passes
     where
@@ -167,18 +171,18 @@ module _ (sets : List (List ℕ)) (size : ℕ) (s : List ℕ) (asked : Contains 
       only j k a b p q = elim (cases_order j k) [ inl e ↦ sym e | inr (inl lt) ↦ absurd (one_leader j k a lt p q) | inr (inr gt) ↦ absurd (one_leader k j b gt q p) ]
 
 -- a node that is in an asked set is in exactly one partition in that set
-pub covered : (i : Space) (sets : List (List ℕ)) (s m : ℕ) → Contains sets (set_at i s) → m < i.nodes → has (set_at i s) m ≡ true →
-    count (λ p. has (part_at (groups sets (nodes_of i)) p) m) (parts_in i (groups sets (nodes_of i)) s) ≡ 1
-covered i sets s m asked small there =
+pub covered : (i : Space) (asks marks : List (List ℕ)) (s m : ℕ) → Contains asks (set_at i s) → m < i.nodes → has (set_at i s) m ≡ true →
+    count (λ p. has (part_at (groups asks marks (nodes_of i)) p) m) (parts_in i (groups asks marks (nodes_of i)) s) ≡ 1
+covered i asks marks s m asked small there =
     let ns = nodes_of i in
-    let gs = groups sets ns in
+    let gs = groups asks marks ns in
     let S = set_at i s in
     let f = λ (part : List ℕ). cond (list_all (has S) part) (bit (has part m)) 0 in
-    let g = λ (n : ℕ). filter (alike sets n) ns in
+    let g = λ (n : ℕ). filter (alike (asks ++ marks) n) ns in
     sum_of-filter (λ p. bit (has (part_at gs p) m)) (λ p. list_all (has S) (part_at gs p)) (range_with_len 0 (length gs))
     ∙ sum_of-range f gs []
-    ∙ sum_of-map f g (filter (leads sets ns) ns)
-    ∙ sum_of-filter (λ n. f (g n)) (leads sets ns) ns
-    ∙ sum_of-eq (λ n. cond (leads sets ns n) (f (g n)) 0) (λ n. bit (leader sets i.nodes S asked m small there n)) ns
-    (Each-all _ (term sets i.nodes S asked m small there) ns)
-    ∙ count_leaders sets i.nodes S asked m small there
+    ∙ sum_of-map f g (filter (leads asks marks ns) ns)
+    ∙ sum_of-filter (λ n. f (g n)) (leads asks marks ns) ns
+    ∙ sum_of-eq (λ n. cond (leads asks marks ns n) (f (g n)) 0) (λ n. bit (leader asks marks i.nodes S asked m small there n)) ns
+    (Each-all _ (term asks marks i.nodes S asked m small there) ns)
+    ∙ count_leaders asks marks i.nodes S asked m small there

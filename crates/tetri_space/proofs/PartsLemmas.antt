@@ -24,17 +24,6 @@ use Rattle.tetri_base.proofs.ListLaws.{Each-filter, Each-at, Each-from, all_from
 use Rattle.tetri_space.proofs.PrunedLemmas.{AllLeavesOf, lefts_leaves, in_map}
 
 -- ---- the sets of the live leaves are known
-contains_from : (ns : List ℕ) (n : ℕ) → has ns n ≡ true → Contains ns n
-contains_from [] n e = absurd (true≢false (sym e))
-contains_from (m ∷ ns) n e = by_test (m == n) (λ t. eq_from_test m n t) (λ t. contains_from ns n t) e
-  where
-    by_test : (b : Bool) → (b ≡ true → m ≡ n) → (has ns n ≡ true → Contains ns n) → (b || has ns n) ≡ true → Contains (m ∷ ns) n
-    by_test true is rest t = (0, omega arith, is refl)
-    by_test false is rest t = let later = rest t in (suc later.0, omega (arith, later.1), later.2)
-
-has_from : (ns : List ℕ) (n : ℕ) → Contains ns n → has ns n ≡ true
-has_from ns n at = any_from (λ m. m == n) ns n at (test_from_eq n n refl)
-
 -- a leaf that names the set
 record Names (bs : List Bid) (k : ℕ) : Type 0 where
   bid : Bid
@@ -42,11 +31,6 @@ record Names (bs : List Bid) (k : ℕ) : Type 0 where
   leaf : Leaf
   below : Contains (leaves bid.expr) leaf
   set : leaf.set ≡ k
-
-of_map : {X Y : Type 0} (f : X → Y) (xs : List X) (y : Y) → Contains (map f xs) y → (x : X) × Contains xs x × (f x ≡ y)
-of_map f [] y at = absurd (omega (arith, at.1))
-of_map f (x ∷ xs) y (zero, lt, e) = (x, (0, omega arith, refl), e)
-of_map f (x ∷ xs) y (suc k, lt, e) = let rest = of_map f xs y (k, omega (arith, lt), e) in (rest.0, (suc rest.1.0, omega (arith, rest.1.1), rest.1.2), rest.2)
 
 names_of : (bs : List Bid) (k : ℕ) → Contains (sets_in bs) k → Names bs k
 names_of [] k at = absurd (omega (arith, at.1))
@@ -80,10 +64,6 @@ pub live_there : (s : Space) (k : ℕ) → IsSound s → has (sets_in (live_bids
 live_there s k sound e = (known_set s k sound (contains_from (sets_in (live_bids s)) k e)).there
 
 -- ---- tests over nodes below one
-any_same : {X : Type 0} (p q : X → Bool) (xs : List X) → Each (λ x. p x ≡ q x) xs → list_any p xs ≡ list_any q xs
-any_same p q [] h = refl
-any_same p q (x ∷ xs) h = ap (λ b. b || list_any p xs) h.0 ∙ ap (λ b. q x || b) (any_same p q xs h.1)
-
 -- whether one of the numbers below n passes, among more numbers
 any_below : (q : ℕ → Bool) (n m : ℕ) → n ≤ m → list_any (λ k. nat_lt k n && q k) (range_with_len 0 m) ≡ list_any q (range_with_len 0 n)
 any_below q n zero le = let e : n ≡ 0 = omega arith in rw e refl

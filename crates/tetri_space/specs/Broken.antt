@@ -7,16 +7,12 @@ use Rattle.tetri_space.specs.declared.rules.Rule.{Rule}
 use Rattle.tetri_space.specs.declared.rules.Rule.TheVariants.{NotPending, NotLive, Doubled, BadNodes, TooMany, Outside, NotFree, Clash}
 use Rattle.tetri_space.specs.declared.rules.Unlawful.{Unlawful}
 use Rattle.tetri_space.specs.Space.{Space, set_of, leaf_in, IsLive, Covers}
-use Rattle.tetri_space.specs.Free.{IsFree}
+use Rattle.tetri_space.specs.Free.{IsFreeThroughout}
 
 -- the least number of which this holds
 pub record IsLeast (P : ℕ → Type 0) (n : ℕ) : Type 0 where
   pub holds : P n
   pub least : (m : ℕ) → P m → n ≤ m
-
--- the leaf may use the node in each of its slots
-abbrev pub IsFreeThroughout : Space → Leaf → ℕ → Type 0
-IsFreeThroughout s l n = (slot : ℕ) → Covers l slot → IsFree s n slot
 
 -- a slot is in both leaves
 abbrev pub HasCommonSlot : Leaf → Leaf → Type 0

@@ -5,7 +5,7 @@ use Rattle.std.specs.List.Sorted.{IsStrictlyIncreasing}
 use Rattle.tetri_strl.specs.declared.expr.Leaf.{Leaf}
 use Rattle.tetri_strl.specs.declared.grants.Grant.{Grant}
 use Rattle.tetri_space.specs.Space.{Space, set_of, leaf_in, IsLive, Covers}
-use Rattle.tetri_space.specs.Free.{IsFree}
+use Rattle.tetri_space.specs.Free.{IsFreeThroughout}
 
 -- at least one and at most `k` nodes of the leaf's set, ascending, each free in every slot of the leaf
 pub record HasRightNodes (s : Space) (l : Leaf) (nodes : List ℕ) : Type 0 where
@@ -13,7 +13,7 @@ pub record HasRightNodes (s : Space) (l : Leaf) (nodes : List ℕ) : Type 0 wher
   pub ascending : IsStrictlyIncreasing nodes
   pub few : length nodes ≤ l.k
   pub in_set : All (Contains (set_of s l)) nodes
-  pub free : All (λ n. (slot : ℕ) → Covers l slot → IsFree s n slot) nodes
+  pub free : All (IsFreeThroughout s l) nodes
 
 -- the leaf is live, and the nodes are right for it
 pub record MayBeGranted (s : Space) (l : Leaf) (nodes : List ℕ) : Type 0 where

@@ -1,8 +1,10 @@
 pub mod Broken
+pub mod Closed
 pub mod Finding
 pub mod Free
 pub mod Lawful
 pub mod Partitions
 pub mod Sound
 pub mod Space
+pub mod Spans
 pub mod Total

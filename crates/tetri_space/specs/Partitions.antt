@@ -1,8 +1,9 @@
--- Groups of nodes that the live leaves cannot tell apart, and how many of their nodes are free.
-use Rattle.std.specs.Prelude.{◌≡◌, ℕ, ◌+◌, ◌<◌, Bool, true, ◌&&◌, not, nat_lt, nat_le, List, [], ◌∷◌, ◌++◌, map, length, slice_index_or, Contains, Option, Some, None}
-use Rattle.std.specs.List.{list_any, list_all, filter, range_with_len}
+-- Groups of nodes that the live leaves and the closures cannot tell apart, and how many of their nodes are free.
+use Rattle.std.specs.Prelude.{◌≡◌, ℕ, ◌+◌, ◌<◌, Bool, true, ◌&&◌, not, nat_lt, max, List, [], ◌∷◌, ◌++◌, map, length, slice_index_or, Contains, Option, Some, None}
+use Rattle.std.specs.List.{list_any, list_all, filter, flat_map, range_with_len}
 use Rattle.tetri_strl.specs.Prune.{pruned}
 use Rattle.tetri_strl.specs.Tree.{Tree, leaves}
+use Rattle.tetri_space.specs.Free.{is_closed, is_free}
 use Rattle.tetri_base.specs.Lists.{has, same, count}
 use Rattle.tetri_space.specs.Space.{Bid, Space, bid}
 use Rattle.tetri_space.specs.declared.parts.Partitions as made
@@ -38,20 +39,32 @@ asked s bs = map (set_at s) (sets_in bs)
 abbrev pub alike : List (List ℕ) → ℕ → ℕ → Bool
 alike sets m n = list_all (λ s. same (has s m) (has s n)) sets
 
--- the node is in some set, and no lesser node is in exactly its sets
-abbrev pub leads : List (List ℕ) → List ℕ → ℕ → Bool
-leads sets nodes n = list_any (λ s. has s n) sets && not (list_any (λ m. nat_lt m n && alike sets m n) nodes)
+-- The node is in some of the asked sets, and no lesser node is in exactly its sets, the marked ones among them.
+abbrev pub leads : List (List ℕ) → List (List ℕ) → List ℕ → ℕ → Bool
+leads asks marks nodes n = list_any (λ s. has s n) asks && not (list_any (λ m. nat_lt m n && alike (asks ++ marks) m n) nodes)
 
--- the largest groups of nodes that are in exactly the same sets, by least node; nodes in no set are in none
-abbrev pub groups : List (List ℕ) → List ℕ → List (List ℕ)
-groups sets nodes = map (λ n. filter (alike sets n) nodes) (filter (leads sets nodes) nodes)
+-- the largest groups of nodes that are in exactly the same asked and marked sets, by least node; nodes in no asked set are in none
+abbrev pub groups : List (List ℕ) → List (List ℕ) → List ℕ → List (List ℕ)
+groups asks marks nodes = map (λ n. filter (alike (asks ++ marks) n) nodes) (filter (leads asks marks nodes) nodes)
 
 abbrev pub nodes_of : Space → List ℕ
 nodes_of s = range_with_len 0 s.nodes
 
--- the partitions of the nodes by the sets of the live leaves
+-- The slots from now on in which some node closes or opens. Between two of them no node does.
+abbrev pub turns : Space → List ℕ
+turns s = flat_map (λ c. max s.now c.from ∷ max s.now (c.to + 1) ∷ []) s.closures
+
+-- the nodes that are closed in a slot
+abbrev pub closed_at : Space → ℕ → List ℕ
+closed_at s t = filter (λ n. is_closed s n t) (nodes_of s)
+
+-- the nodes that are closed, at each turn
+abbrev pub closed_sets : Space → List (List ℕ)
+closed_sets s = map (closed_at s) (turns s)
+
+-- The partitions of the nodes: by the sets of the live leaves, and by the slots from now on in which they are closed.
 abbrev pub partitions : Space → List (List ℕ)
-partitions s = groups (asked s (live_bids s)) (nodes_of s)
+partitions s = groups (asked s (live_bids s)) (closed_sets s) (nodes_of s)
 
 -- the nodes of the partition of this number
 abbrev pub part_at : List (List ℕ) → ℕ → List ℕ
@@ -61,9 +74,9 @@ part_at parts p = slice_index_or parts p []
 abbrev pub parts_in : Space → List (List ℕ) → ℕ → List ℕ
 parts_in s parts k = filter (λ p. list_all (has (set_at s k)) (part_at parts p)) (range_with_len 0 (length parts))
 
--- a leaf may use the node in this slot
-abbrev pub is_free : Space → ℕ → ℕ → Bool
-is_free s n t = nat_lt n s.nodes && not (slice_index_or s.drained n true) && nat_le (slice_index_or s.busy_until n 0) t
+-- a node of the partition of this number is closed in this slot; from now on then all of them are
+abbrev pub is_closed_part : Space → List (List ℕ) → ℕ → ℕ → Bool
+is_closed_part s parts p t = list_any (λ n. is_closed s n t) (part_at parts p)
 
 -- how many nodes of a partition are free in a slot
 abbrev pub available : Space → List (List ℕ) → ℕ → ℕ → ℕ

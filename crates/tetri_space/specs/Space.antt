@@ -2,6 +2,7 @@
 use Rattle.std.specs.Prelude.{ℕ, ◌+◌, ◌==◌, ◌<◌, ◌≤◌, Bool, List, [], map, find, slice_index_or, Option, option_and_then}
 use Rattle.tetri_strl.specs.declared.expr.Leaf.{Leaf}
 use Rattle.tetri_strl.specs.Tree.{Tree, tree, leaves}
+use Rattle.tetri_space.specs.declared.closure.Closure.{Closure}
 use Rattle.tetri_space.specs.declared.instance.Instance.{Instance}
 use Rattle.tetri_space.specs.declared.instance.Offer.{Offer}
 
@@ -10,7 +11,7 @@ pub record Bid : Type 0 where
   pub job : ℕ
   pub expr : Tree
 
--- Slots `now` to `now + window - 1`; `busy_until` and `drained` by node; the bids by job.
+-- Slots `now` to `now + window - 1`; `busy_until` and `drained` by node; closures as they were given; the bids by job.
 pub record Space : Type 0 where
   pub now : ℕ
   pub window : ℕ
@@ -18,6 +19,7 @@ pub record Space : Type 0 where
   pub sets : List (List ℕ)
   pub busy_until : List ℕ
   pub drained : List Bool
+  pub closures : List Closure
   pub bids : List Bid
 
 abbrev pub bid : Offer → Bid
@@ -32,6 +34,7 @@ space i = record {
   sets = i.sets.value;
   busy_until = i.busy_until.items;
   drained = i.drained.items;
+  closures = i.closures.value;
   bids = map bid i.jobs.items;
 }
 

@@ -1,11 +1,12 @@
-// How the partitions are found: the nodes are grouped by the sets that they are in.
+// How the partitions are found: the nodes are grouped by the sets that they are in, and by when they
+// are closed.
 ghost use Rattle.std.specs.Prelude.{◌≡◌, ◌<◌, ◌≤◌, ◌++◌, ◌&&◌, ◌||◌, ◌∷◌, ℕ, [], true, false, length, map, replicate, slice_index_or, All, Contains, IfOk, OnOk, if◌then◌else◌};
 ghost use Rattle.std.specs.List.{filter, range_with_len};
 ghost use Rattle.std.specs.List.Sorted.{IsStrictlyIncreasing};
 ghost use Rattle.tetri_strl.specs.Aligned.{EachLeaf};
 ghost use Rattle.tetri_strl.specs.Tree.{leaves, tree};
 ghost use Rattle.tetri_base.specs.Lists.{has};
-ghost use Rattle.tetri_space.specs.Finding.{AreSignatures, firsts, grouped, list_at};
+ghost use Rattle.tetri_space.specs.Finding.{AreSignatures, IsSigned, firsts, grouped, list_at};
 ghost use Rattle.tetri_space.specs.Partitions.{live_bids, partitions, set_at, sets_in};
 ghost use Rattle.tetri_space.specs.Sound.{IsSound};
 ghost use Rattle.tetri_space.specs.Space.{bid, space};
@@ -75,16 +76,19 @@ fn empty_lists(alloc: Global, count: usize) -> Result<Vec<Vec<u32>>, AllocError>
     Ok(lists)
 }
 
-// Puts a number last in the lists at these places.
+// Puts a number last in the lists at these places, as far as there are lists.
 fn add_to_each(lists: &mut Vec<Vec<u32>>, places: &[u32], number: u32) -> Result<(), AllocError>
-    requires ascending { IsStrictlyIncreasing places.now }
-    requires within { All (λ n. n < length lists.old.items) places.now }
+    requires { IsStrictlyIncreasing places.now }
     ensures count { OnOk result (length lists.new.items ≡ length lists.old.items) }
-    ensures added { OnOk result ((j : ℕ) → list_at lists.new.items j
+    ensures added { OnOk result ((j : ℕ) → j < length lists.old.items → list_at lists.new.items j
         ≡ list_at lists.old.items j ++ (if has places.now j then number ∷ [] else [])) }
 {
     for place in places {
-        lists[*place as usize].push(number)?;
+        let place = *place as usize;
+        if place >= lists.len() {
+            return Ok(());
+        }
+        lists[place].push(number)?;
     }
     Ok(())
 }
@@ -110,6 +114,25 @@ pub fn signatures_of(
         }
     }
     Ok(signatures)
+}
+
+// Puts the slots from now on in which a node closes or opens behind its sets, each as a number past
+// those of the sets. A node that is in no used set is passed over.
+fn add_turns(signatures: &mut Vec<Vec<u32>>, inst: &Instance, base: u32) -> Result<(), AllocError>
+    requires sound { IsSound (space inst.now) }
+    requires few { base ≤ 4096 }
+    requires count { length signatures.old.items ≡ inst.now.nodes }
+    ensures count { OnOk result (length signatures.new.items ≡ inst.entry.now.nodes) }
+    ensures signed { OnOk result ((n : ℕ) → n < inst.entry.now.nodes
+        → IsSigned (space inst.entry.now) base n (list_at signatures.old.items n) (list_at signatures.new.items n)) }
+{
+    for node in 0..inst.nodes {
+        let signature = &mut signatures[node as usize];
+        if !signature.is_empty() {
+            inst.closures.push_turns(node, inst.now, base, signature)?;
+        }
+    }
+    Ok(())
 }
 
 // The signatures that are not empty, in the order of their first nodes, and the nodes of each.
@@ -148,8 +171,9 @@ pub fn group_nodes(alloc: Global, signatures: &[Vec<u32>]) -> Result<Grouped, Al
     })
 }
 
-// Groups the nodes by the sets that the live leaves name: the partitions, and their signatures.
-pub fn group_by_sets(alloc: Global, inst: &Instance, live: &[Offer]) -> Result<Grouped, AllocError>
+// Groups the nodes by the sets that the live leaves name, and by when they are closed: the partitions,
+// and their signatures.
+pub fn group_alike(alloc: Global, inst: &Instance, live: &[Offer]) -> Result<Grouped, AllocError>
     requires sound { IsSound (space inst.now) }
     requires live { map bid live.now ≡ live_bids (space inst.now) }
     ensures groups { IfOk result (λ g. g.groups.items ≡ partitions (space inst.entry.now)) }
@@ -157,19 +181,19 @@ pub fn group_by_sets(alloc: Global, inst: &Instance, live: &[Offer]) -> Result<G
     ensures signatures { IfOk result (λ g. AreSignatures (space inst.entry.now) g.signatures.keys) }
 {
     let used = used_sets(alloc, live, inst.sets.len())?;
-    let signatures = signatures_of(alloc, inst, &used)?;
+    let mut signatures = signatures_of(alloc, inst, &used)?;
+    add_turns(&mut signatures, inst, inst.sets.len())?;
     let grouped = group_nodes(alloc, &signatures)?;
     Ok(grouped)
 }
 
-// By set, the places of the signatures that have it.
+// By set, the places of the signatures that have it. Their numbers past the sets count for nothing.
 pub fn parts_by_set(
     alloc: Global,
     signatures: &[Vec<u32>],
     sets: u32,
 ) -> Result<Vec<Vec<u32>>, AllocError>
     requires ascending { All (λ v. IsStrictlyIncreasing v.items) signatures.now }
-    requires within { All (λ v. All (λ k. k < sets) v.items) signatures.now }
     requires few { length signatures.now ≤ 4096 }
     ensures count { IfOk result (λ v. length v.items ≡ sets) }
     ensures ascending { IfOk result (λ v. All (λ w. IsStrictlyIncreasing w.items) v.items) }

@@ -1,4 +1,5 @@
 // What one cycle is given.
+use crate::Closures;
 use std::rc::Rc;
 use tetri_cluster::Sets;
 use tetri_strl::Expr;
@@ -27,6 +28,8 @@ pub struct Instance {
     pub busy_until: Vec<u32>,
     /// By node, whether it takes no new work.
     pub drained: Vec<bool>,
+    /// When nodes are closed.
+    pub closures: Rc<Closures>,
     /// What the pending jobs ask for, ascending strictly by job.
     pub jobs: Vec<Offer>,
 }

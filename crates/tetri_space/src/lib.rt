@@ -2,6 +2,8 @@
 #![tactic(auto)]
 
 mod clashes;
+mod closure;
+mod closures;
 mod finding;
 mod free_nodes;
 mod instance;
@@ -12,9 +14,12 @@ mod partitions;
 mod parts;
 mod rules;
 mod runs;
+mod spans;
 mod totals;
 
-pub use free_nodes::free;
+pub use closure::Closure;
+pub use closures::Closures;
+pub use free_nodes::{free, free_throughout};
 pub use instance::{Instance, Offer};
 pub use laws::tops_bound_every_lawful_total;
 pub use leaves::leaf_of;

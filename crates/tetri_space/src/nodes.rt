@@ -1,11 +1,12 @@
 // The nodes of a grant against the leaf that it names.
 ghost use Rattle.std.specs.Prelude.{◌≤◌, ◌↔◌, ◌<◌, IsTrue, All, Contains, MatchOption, length};
 ghost use Rattle.std.specs.List.Sorted.{IsStrictlyIncreasing};
-ghost use Rattle.tetri_space.specs.Broken.{IsFreeThroughout, IsLeast};
+ghost use Rattle.tetri_space.specs.Broken.{IsLeast};
+ghost use Rattle.tetri_space.specs.Free.{IsFreeThroughout};
 ghost use Rattle.tetri_space.specs.Sound.{IsSound};
 ghost use Rattle.tetri_space.specs.Space.{set_of, space};
 
-use crate::{Instance, free};
+use crate::{Instance, free_throughout};
 use tetri_strl::Leaf;
 
 // Whether there is a node, and each is above the one before it.
@@ -36,8 +37,7 @@ pub fn first_outside(inst: &Instance, leaf: &Leaf, nodes: &[u32]) -> Option<u32>
     None
 }
 
-// The least node that is not free in some slot of the leaf. A node that is free in the first slot is
-// free in all later ones.
+// The least node that is not free in some slot of the leaf.
 pub fn first_not_free(inst: &Instance, leaf: &Leaf, nodes: &[u32]) -> Option<u32>
     requires sound { IsSound (space inst.now) }
     requires some_slots { 1 ≤ leaf.now.dur }
@@ -47,7 +47,7 @@ pub fn first_not_free(inst: &Instance, leaf: &Leaf, nodes: &[u32]) -> Option<u32
         (IsLeast (λ m. Contains nodes.now m × (IsFreeThroughout (space inst.entry.now) leaf.now m → ⊥))) }
 {
     for node in nodes {
-        if !free(inst, *node, leaf.start) {
+        if !free_throughout(inst, leaf, *node) {
             return Some(*node);
         }
     }

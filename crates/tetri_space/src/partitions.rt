@@ -1,23 +1,25 @@
 // The partitions of an instance's nodes.
-ghost use Rattle.std.specs.Prelude.{◌≡◌, ◌<◌, ◌↔◌, length, map, Contains, IfOk, IsTrue};
-ghost use Rattle.tetri_space.specs.Partitions.{ArePartitionsOf, available, part_at, partitions, parts_found, parts_of};
+ghost use Rattle.std.specs.Prelude.{◌≡◌, ◌<◌, ◌≤◌, ◌↔◌, length, map, Contains, IfOk, IsTrue};
+ghost use Rattle.std.specs.List.{list_any};
+ghost use Rattle.tetri_space.specs.Free.{slots};
+ghost use Rattle.tetri_space.specs.Partitions.{ArePartitionsOf, available, is_closed_part, part_at, partitions, parts_found, parts_of};
 ghost use Rattle.tetri_space.specs.Sound.{IsSound};
 ghost use Rattle.tetri_space.specs.Space.{bid, space};
 
-use crate::finding::{group_by_sets, live_offers, parts_by_set};
+use crate::finding::{group_alike, live_offers, parts_by_set};
 use crate::free_nodes::free;
 use crate::{Instance, Offer, Partitions};
 use std::alloc::{AllocError, Global};
-use tetri_strl::NodeList;
+use tetri_strl::{Leaf, NodeList};
 
-/// The partitions of the nodes of an instance. Linear in its expressions and in the sizes of the sets
-/// that live leaves name, each taken once. Its only error is want of memory.
+/// The partitions of the nodes of an instance. Linear in its expressions, in the sizes of the sets
+/// that live leaves name, each taken once, and in the closures of their nodes. Its only error is want of memory.
 pub fn find_partitions(alloc: Global, inst: &Instance) -> Result<Partitions, AllocError>
     requires { IsSound (space inst.now) }
     ensures { IfOk result (λ p. ArePartitionsOf (space inst.entry.now) (parts_of p)) }
 {
     let offers = live_offers(alloc, inst)?;
-    let grouped = group_by_sets(alloc, inst, &offers)?;
+    let grouped = group_alike(alloc, inst, &offers)?;
     let inside = parts_by_set(alloc, grouped.signatures.as_slice(), inst.sets.len())?;
     Ok(Partitions {
         offers,
@@ -63,6 +65,32 @@ impl Partitions {
         ensures { IsTrue result ↔ Contains (parts_found (parts_of self.now) set) part }
     {
         self.parts_in(set).binary_search(&part).is_ok()
+    }
+
+    /// Whether the nodes of a partition are closed in a slot, which is not before now: all of them
+    /// are, or none. A binary search, which takes no memory.
+    pub fn closed(&self, inst: &Instance, part: u32, slot: u32) -> bool
+        requires sound { IsSound (space inst.now) }
+        requires partitions { ArePartitionsOf (space inst.now) (parts_of self.now) }
+        requires there { part < length (parts_of self.now).groups }
+        requires not_past { (space inst.now).now ≤ slot }
+        ensures { result ≡ is_closed_part (space inst.entry.now) (partitions (space inst.entry.now)) part slot }
+    {
+        let node = self.nodes_of(part).as_slice()[0];
+        inst.closures.is_closed(node, slot)
+    }
+
+    /// Whether the nodes of a partition are closed in some slot of a leaf, which does not start before
+    /// now. A binary search, which takes no memory.
+    pub fn closed_within(&self, inst: &Instance, part: u32, leaf: &Leaf) -> bool
+        requires sound { IsSound (space inst.now) }
+        requires partitions { ArePartitionsOf (space inst.now) (parts_of self.now) }
+        requires there { part < length (parts_of self.now).groups }
+        requires not_past { (space inst.now).now ≤ leaf.now.start }
+        ensures { result ≡ list_any (is_closed_part (space inst.entry.now) (partitions (space inst.entry.now)) part) (slots leaf.now) }
+    {
+        let node = self.nodes_of(part).as_slice()[0];
+        inst.closures.is_closed_within(node, leaf.start, leaf.dur)
     }
 }
 

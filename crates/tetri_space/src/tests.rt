@@ -6,7 +6,7 @@ ghost use Rattle.tetri_space.specs.Sound.{IsSound};
 ghost use Rattle.tetri_space.specs.Space.{space};
 
 use crate::{
-    Instance, Offer, Rule, Unlawful, available, find_partitions, free, lawful, tops,
+    Closures, Instance, Offer, Rule, Unlawful, available, find_partitions, free, lawful, tops,
     tops_bound_every_lawful_total, total,
 };
 use std::alloc::{AllocError, Global};
@@ -26,6 +26,7 @@ fn without_jobs(alloc: Global) -> Result<Instance, AllocError>
         sets: Rc::new(alloc, Sets::new(alloc))?,
         busy_until: vec![in alloc; 5, 7, 5]?,
         drained: vec![in alloc; false, false, true]?,
+        closures: Rc::new(alloc, Closures::new(alloc))?,
         jobs: Vec::new(alloc),
     })
 }
@@ -121,6 +122,7 @@ fn two_jobs(alloc: Global) -> Result<Instance, AllocError>
         sets: Rc::new(alloc, one_set(alloc)?)?,
         busy_until: vec![in alloc; 5, 7, 5]?,
         drained: vec![in alloc; false, false, true]?,
+        closures: Rc::new(alloc, Closures::new(alloc))?,
         jobs,
     })
 }
@@ -254,6 +256,7 @@ fn three_jobs(alloc: Global) -> Result<Instance, AllocError>
         sets: Rc::new(alloc, two_sets(alloc)?)?,
         busy_until: vec![in alloc; 5, 5, 7, 5, 5]?,
         drained: vec![in alloc; false, false, false, false, true]?,
+        closures: Rc::new(alloc, Closures::new(alloc))?,
         jobs,
     })
 }

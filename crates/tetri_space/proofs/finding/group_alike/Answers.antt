@@ -5,7 +5,7 @@ use Rattle.tetri_base.specs.Lists.{has}
 use Rattle.tetri_space.specs.Partitions.{live_bids, set_at, sets_in}
 use Rattle.tetri_space.specs.Space.{Bid, space}
 use Rattle.tetri_space.proofs.PartsLemmas.{live_within, live_there, are_signatures, groups_few, groups_are}
-use Rattle.tetri_space.proofs.finding.group_by_sets.Goals as goal
+use Rattle.tetri_space.proofs.finding.group_alike.Goals as goal
 
 pub used_sets-requires : goal.used_sets-requires
 used_sets-requires c =
