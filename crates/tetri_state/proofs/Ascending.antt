@@ -1,11 +1,12 @@
 -- Numbers that ascend.
-use Rattle.std.proofs.Common.{◌≡◌, ℕ, ◌<◌, ◌==◌, ◌||◌, Bool, true, false, cond, List, [], ◌∷◌, ◌++◌, length, get_or, refl, sym, ap, ◌∙◌, arith, not, filter, suc, zero, AllPairs, add-one}
-use Rattle.std.specs.List.{remove}
+use Rattle.std.proofs.Common.{◌≡◌, ℕ, ◌<◌, ◌==◌, ◌||◌, Bool, true, false, cond, List, [], ◌∷◌, ◌++◌, length, get_or, refl, sym, ap, ◌∙◌, arith, not, nat_lt, filter, suc, zero, AllPairs, add-one}
+use Rattle.std.specs.List.{insert, remove}
 use Rattle.std.specs.List.Sorted.{IsStrictlyIncreasing}
 use Rattle.std.proofs.lemmas.Bool.Decides.{nat_tests}
 use Rattle.std.proofs.lemmas.List.Kept.{AllPairs-from_increasing}
-use Rattle.tetri_state.specs.Begin.{has, without}
-use Rattle.tetri_state.proofs.ToldLemmas.{Each, each_at}
+use Rattle.tetri_base.specs.Lists.{has}
+use Rattle.tetri_state.specs.Begin.{put_number, without}
+use Rattle.tetri_state.proofs.ToldLemmas.{Each, each_at, each_weaker}
 
 -- each number is below all that stand behind it
 abbrev pub Ascend : List ℕ → Type 0
@@ -117,3 +118,59 @@ ascend_filter test (n ∷ ns) up = by_test (test n) (ascend_filter test ns up.1)
     by_test : (t : Bool) → Ascend (filter test ns) → Ascend (cond t (n ∷ filter test ns) (filter test ns))
     by_test true rest = (each_filtered (λ m. n < m) test ns up.0, rest)
     by_test false rest = rest
+
+-- to put a number among those that ascend
+module _ (n : ℕ) where
+  behind_less : (m : ℕ) (front there new : List ℕ) → m < n → cond (nat_lt m n) front (cond (m == n) there new) ≡ front
+  behind_less m front there new lt = grind (arith, nat_tests)
+
+  at_same : (m : ℕ) (front there new : List ℕ) → m ≡ n → cond (nat_lt m n) front (cond (m == n) there new) ≡ there
+  at_same m front there new same = grind (arith, nat_tests)
+
+  before_more : (m : ℕ) (front there new : List ℕ) → n < m → cond (nat_lt m n) front (cond (m == n) there new) ≡ new
+  before_more m front there new more = grind (arith, nat_tests)
+
+  -- it goes between those below it and those above it
+  pub put_at : (ns : List ℕ) (i : ℕ) → i ≤ length ns → ((k : ℕ) → k < i → get_or ns k 0 < n) → ((k : ℕ) → i ≤ k → k < length ns → n < get_or ns k 0) →
+      insert ns i n ≡ put_number n ns
+  put_at [] zero le below above = refl
+  put_at [] (suc i) le below above = absurd (omega arith)
+  put_at (m ∷ ms) zero le below above = sym (before_more m (m ∷ put_number n ms) (m ∷ ms) (n ∷ m ∷ ms) (above 0 (omega arith) (omega arith)))
+  put_at (m ∷ ms) (suc i) le below above =
+      ap (λ ks. m ∷ ks) (put_at ms i (omega arith) (λ k lt. below (suc k) (omega arith)) (λ k from lt. above (suc k) (omega arith) (omega arith)))
+      ∙ sym (behind_less m (m ∷ put_number n ms) (m ∷ ms) (n ∷ m ∷ ms) (below 0 (omega arith)))
+
+  -- where it is there, nothing changes
+  pub put_there : (ns : List ℕ) (i : ℕ) → Ascend ns → i < length ns → get_or ns i 0 ≡ n → put_number n ns ≡ ns
+  put_there [] i up lt same = absurd (omega arith)
+  put_there (m ∷ ms) zero up lt same = at_same m (m ∷ put_number n ms) (m ∷ ms) (n ∷ m ∷ ms) same
+  put_there (m ∷ ms) (suc i) up lt same =
+      behind_less m (m ∷ put_number n ms) (m ∷ ms) (n ∷ m ∷ ms) (omega (arith, each_at (λ k. m < k) ms i 0 (omega arith) up.0, same))
+      ∙ ap (λ ks. m ∷ ks) (put_there ms i up.1 (omega arith) same)
+
+  pub put_each : (P : ℕ → Type 0) (ns : List ℕ) → P n → Each P ns → Each P (put_number n ns)
+  put_each P [] here each = (here, tt)
+  put_each P (m ∷ ms) here each = by_tests (nat_lt m n) (m == n) (put_each P ms here each.1)
+    where
+      by_tests : (s t : Bool) → Each P (put_number n ms) → Each P (cond s (m ∷ put_number n ms) (cond t (m ∷ ms) (n ∷ m ∷ ms)))
+      by_tests true t rest = (each.0, rest)
+      by_tests false true rest = each
+      by_tests false false rest = (here, each)
+
+  pub put-ascend : (ns : List ℕ) → Ascend ns → Ascend (put_number n ns)
+  put-ascend [] up = (tt, tt)
+  put-ascend (m ∷ ms) up = by_tests (nat_lt m n) (m == n) refl refl (put-ascend ms up.1)
+    where
+      by_tests : (s t : Bool) → nat_lt m n ≡ s → (m == n) ≡ t → Ascend (put_number n ms) → Ascend (cond s (m ∷ put_number n ms) (cond t (m ∷ ms) (n ∷ m ∷ ms)))
+      by_tests true t less same rest = let lt : m < n = grind (arith, nat_tests) in (put_each (λ k. m < k) ms lt up.0, rest)
+      by_tests false true less same rest = up
+      by_tests false false less same rest = let lt : n < m = grind (arith, nat_tests) in ((lt, each_weaker (λ k. m < k) (λ k. n < k) (λ k more. omega arith) ms up.0), up)
+
+-- of elements that pass a test
+pub each_passing : {X : Type 0} (test : X → Bool) (P Q : X → Type 0) → ((x : X) → P x → test x ≡ true → Q x) → (xs : List X) → Each P xs → Each Q (filter test xs)
+each_passing test P Q step [] each = tt
+each_passing test P Q step (x ∷ xs) each = by_test (test x) refl (each_passing test P Q step xs each.1)
+  where
+    by_test : (b : Bool) → test x ≡ b → Each Q (filter test xs) → Each Q (cond b (x ∷ filter test xs) (filter test xs))
+    by_test true passes rest = (step x each.0 passes, rest)
+    by_test false fails rest = rest

@@ -1,70 +1,109 @@
--- Until when nodes are busy.
-use Rattle.std.proofs.Common.{◌≡◌, ℕ, ◌+◌, ◌-◌, ◌<◌, ◌≤◌, ◌==◌, ◌||◌, Bool, true, false, cond, List, [], ◌∷◌, length, get_or, drop, map, All, Some, refl, sym, ap, ◌∙◌, subst, arith, replicate, set, length-set, get_or-set_same, get_or-set_other, ◌≢◌}
+-- Which pieces are on the nodes, and until when.
+use Rattle.std.proofs.Common.{◌≡◌, ℕ, ◌+◌, ◌-◌, ◌<◌, ◌≤◌, ◌==◌, ◌||◌, Bool, true, false, cond, List, [], ◌∷◌, length, get_or, drop, filter, map, not, nat_le, All, Some, None, refl, sym, ap, ◌∙◌, subst, arith, inl, inr, replicate, set, length-set, get_or-set_same, get_or-set_other, ◌≢◌}
 use Rattle.std.specs.List.{find, range_with_len}
+use Rattle.std.specs.Option.{option_map}
+use Rattle.std.proofs.lemmas.Bool.{cases_lt}
 use Rattle.std.proofs.lemmas.Bool.Decides.{nat_tests}
-use Rattle.std.proofs.lemmas.Grind.{same_number_lists}
-use Rattle.std.proofs.lemmas.List.{drop_more, get_or-replicate, length-replicate}
+use Rattle.std.proofs.lemmas.List.{drop_more, get_or_past, get_or-replicate, length-replicate, same_lists}
 use Rattle.std.proofs.lemmas.List.Elements.{All-head, All-tail}
 use Rattle.std.proofs.lemmas.List.FromFn.{get_or-map-range_with_len, length-map-range_with_len}
 use Rattle.tetri_state.specs.declared.pieces.Piece.{Piece}
-use Rattle.tetri_state.specs.Begin.{has}
+use Rattle.tetri_state.specs.Begin.{has_ended, holder_in}
+use Rattle.tetri_base.specs.Lists.{has}
 use Rattle.tetri_state.specs.Planning.{busy_until, expected_or, marked}
 
--- a row is given by its length and its places
-row_is : (f : ℕ → ℕ) (n : ℕ) (row : List ℕ) → length row ≡ n → ((k : ℕ) → k < n → get_or row k 0 ≡ f k) → row ≡ map f (range_with_len 0 n)
-row_is f n row len each =
-    same_number_lists row (map f (range_with_len 0 n)) (len ∙ sym (length-map-range_with_len f 0 n))
-    (λ k lt. each k (omega arith) ∙ sym (get_or-map-range_with_len f 0 n k k 0 (omega arith) (omega arith)))
+-- rows by node
+module _ {X : Type 0} where
+  -- a row is given by its length and its places
+  row_is : (f : ℕ → X) (n : ℕ) (row : List X) → length row ≡ n → ((k : ℕ) (d : X) → k < n → get_or row k d ≡ f k) → row ≡ map f (range_with_len 0 n)
+  row_is f n row len each =
+      same_lists row (map f (range_with_len 0 n)) (len ∙ sym (length-map-range_with_len f 0 n))
+      (λ k d lt. each k d (omega arith) ∙ sym (get_or-map-range_with_len f 0 n k k d (omega arith) (omega arith)))
 
-pub length-marked : (until : ℕ) (row ns : List ℕ) → length (marked until row ns) ≡ length row
-length-marked until row [] = refl
-length-marked until row (n ∷ ns) = length-marked until (set row n until) ns ∙ length-set row n until
+  length-marked : (x : X) (row : List X) (ns : List ℕ) → length (marked x row ns) ≡ length row
+  length-marked x row [] = refl
+  length-marked x row (n ∷ ns) = length-marked x (set row n x) ns ∙ length-set row n x
 
-set_at : (until : ℕ) (row : List ℕ) (n k : ℕ) (t : Bool) → (n == k) ≡ t → n < length row → get_or (set row n until) k 0 ≡ cond t until (get_or row k 0)
-set_at until row n k true same lt =
-    let at : n ≡ k = grind (arith, nat_tests) in
-    subst (λ m. get_or (set row n until) m 0 ≡ until) at (get_or-set_same row n until 0 lt)
-set_at until row n k false differ lt =
-    let other : k ≢ n = λ e. let no_way : ⊥ = grind (arith, nat_tests) in no_way in
-    get_or-set_other row n k until 0 other
+  set_at : (x : X) (row : List X) (n k : ℕ) (d : X) (t : Bool) → (n == k) ≡ t → n < length row → get_or (set row n x) k d ≡ cond t x (get_or row k d)
+  set_at x row n k d true same lt =
+      let at : n ≡ k = grind (arith, nat_tests) in
+      subst (λ m. get_or (set row n x) m d ≡ x) at (get_or-set_same row n x d lt)
+  set_at x row n k d false differ lt =
+      let other : k ≢ n = λ e. let no_way : ⊥ = grind (arith, nat_tests) in no_way in
+      get_or-set_other row n k x d other
 
-either_marks : (s t : Bool) (x y : ℕ) → cond t x (cond s x y) ≡ cond (s || t) x y
-either_marks true true x y = refl
-either_marks true false x y = refl
-either_marks false true x y = refl
-either_marks false false x y = refl
+  either_marks : (s t : Bool) (x y : X) → cond t x (cond s x y) ≡ cond (s || t) x y
+  either_marks true true x y = refl
+  either_marks true false x y = refl
+  either_marks false true x y = refl
+  either_marks false false x y = refl
 
-marked_at : (until : ℕ) (row ns : List ℕ) (k : ℕ) → All (λ n. n < length row) ns → get_or (marked until row ns) k 0 ≡ cond (has ns k) until (get_or row k 0)
-marked_at until row [] k within = refl
-marked_at until row (n ∷ ns) k within =
-    marked_at until (set row n until) ns k
-    (λ i d lt. omega (arith, All-tail (λ m. m < length row) n ns within i d lt, length-set row n until))
-    ∙ ap (cond (has ns k) until) (set_at until row n k (n == k) refl (All-head (λ m. m < length row) n ns within))
-    ∙ either_marks (n == k) (has ns k) until (get_or row k 0)
+  marked_at : (x : X) (row : List X) (ns : List ℕ) (k : ℕ) (d : X) → All (λ n. n < length row) ns → get_or (marked x row ns) k d ≡ cond (has ns k) x (get_or row k d)
+  marked_at x row [] k d within = refl
+  marked_at x row (n ∷ ns) k d within =
+      marked_at x (set row n x) ns k d
+      (λ i e lt. omega (arith, All-tail (λ m. m < length row) n ns within i e lt, length-set row n x))
+      ∙ ap (cond (has ns k) x) (set_at x row n k d (n == k) refl (All-head (λ m. m < length row) n ns within))
+      ∙ either_marks (n == k) (has ns k) x (get_or row k d)
 
-first_busy : (now : ℕ) (p : Piece) (ps : List Piece) (node : ℕ) → busy_until now (p ∷ ps) node ≡ cond (has p.nodes node) p.expected (busy_until now ps node)
+  module _ (nodes : ℕ) where
+    pub row_of_same : (x : X) (f : ℕ → X) (row : List X) → row ≡ replicate nodes x → ((n : ℕ) → f n ≡ x) → row ≡ map f (range_with_len 0 nodes)
+    row_of_same x f row is same =
+        row_is f nodes row (ap length is ∙ length-replicate nodes x)
+        (λ k d lt. ap (λ r. get_or r k d) is ∙ get_or-replicate nodes k x d lt ∙ sym (same k))
+
+    -- one more list of places, which is written over the others
+    pub row_marked : (x : X) (f g : ℕ → X) (row : List X) (ns : List ℕ) → row ≡ map f (range_with_len 0 nodes) → All (λ n. n < nodes) ns →
+        ((n : ℕ) → g n ≡ cond (has ns n) x (f n)) → marked x row ns ≡ map g (range_with_len 0 nodes)
+    row_marked x f g row ns is within same =
+        let len : length row ≡ nodes = ap length is ∙ length-map-range_with_len f 0 nodes in
+        row_is g nodes (marked x row ns) (length-marked x row ns ∙ len)
+        (λ k d lt.
+        marked_at x row ns k d (λ i e below. omega (arith, within i e below))
+        ∙ ap (cond (has ns k) x) (ap (λ r. get_or r k d) is ∙ get_or-map-range_with_len f 0 nodes k k d lt (omega arith))
+        ∙ sym (same k))
+
+pub first_busy : (now : ℕ) (p : Piece) (ps : List Piece) (node : ℕ) → busy_until now (p ∷ ps) node ≡ cond (has p.nodes node) p.expected (busy_until now ps node)
 first_busy now p ps node = by_test (has p.nodes node)
   where
     by_test : (t : Bool) → expected_or now (cond t (Some p) (find (λ q. has q.nodes node) ps)) ≡ cond t p.expected (busy_until now ps node)
     by_test true = refl
     by_test false = refl
 
-module _ (now nodes : ℕ) where
-  pub none_busy : (row : List ℕ) → row ≡ replicate nodes now → row ≡ map (busy_until now []) (range_with_len 0 nodes)
-  none_busy row is =
-      row_is (busy_until now []) nodes row (ap length is ∙ length-replicate nodes now)
-      (λ k lt. ap (λ r. get_or r k 0) is ∙ get_or-replicate nodes k now 0 lt)
+pub first_holder : (p : Piece) (ps : List Piece) (node : ℕ) → holder_in (p ∷ ps) node ≡ cond (has p.nodes node) (Some p.job) (holder_in ps node)
+first_holder p ps node = by_test (has p.nodes node)
+  where
+    by_test : (t : Bool) → option_map (λ (q : Piece). q.job) (cond t (Some p) (find (λ q. has q.nodes node) ps)) ≡ cond t (Some p.job) (holder_in ps node)
+    by_test true = refl
+    by_test false = refl
 
-  -- one more piece, which stands before the others
-  pub one_more_busy : (row : List ℕ) (p : Piece) (ps : List Piece) → row ≡ map (busy_until now ps) (range_with_len 0 nodes) → All (λ n. n < nodes) p.nodes →
-      marked p.expected row p.nodes ≡ map (busy_until now (p ∷ ps)) (range_with_len 0 nodes)
-  one_more_busy row p ps is within =
-      let len : length row ≡ nodes = ap length is ∙ length-map-range_with_len (busy_until now ps) 0 nodes in
-      row_is (busy_until now (p ∷ ps)) nodes (marked p.expected row p.nodes) (length-marked p.expected row p.nodes ∙ len)
-      (λ k lt.
-      marked_at p.expected row p.nodes k (λ i d below. omega (arith, within i d below))
-      ∙ ap (cond (has p.nodes k) p.expected) (ap (λ r. get_or r k 0) is ∙ get_or-map-range_with_len (busy_until now ps) 0 nodes k k 0 lt (omega arith))
-      ∙ sym (first_busy now p ps k))
+-- a piece that has ended is left out
+pub still_running : (now : ℕ) (p : Piece) (ps : List Piece) → now < p.real → filter (λ q. not (has_ended now q)) (p ∷ ps) ≡ p ∷ filter (λ q. not (has_ended now q)) ps
+still_running now p ps lt = let test : nat_le p.real now ≡ false = grind (arith, nat_tests) in ap (λ b. cond (not b) (p ∷ filter (λ q. not (has_ended now q)) ps) (filter (λ q. not (has_ended now q)) ps)) test
+
+pub run_out : (now : ℕ) (p : Piece) (ps : List Piece) → p.real ≤ now → filter (λ q. not (has_ended now q)) (p ∷ ps) ≡ filter (λ q. not (has_ended now q)) ps
+run_out now p ps le = let test : nat_le p.real now ≡ true = grind (arith, nat_tests) in ap (λ b. cond (not b) (p ∷ filter (λ q. not (has_ended now q)) ps) (filter (λ q. not (has_ended now q)) ps)) test
+
+-- the jobs on the nodes by a row, also of nodes that are not there
+pub holders_are : (nodes : ℕ) (ps : List Piece) → All (λ p. All (λ n. n < nodes) p.nodes) ps → (n : ℕ) → get_or (map (holder_in ps) (range_with_len 0 nodes)) n None ≡ holder_in ps n
+holders_are nodes ps within n = elim (cases_lt n nodes) [
+  | inl lt ↦ get_or-map-range_with_len (holder_in ps) 0 nodes n n None lt (omega arith)
+  | inr ge ↦ get_or_past (map (holder_in ps) (range_with_len 0 nodes)) n None (omega (arith, length-map-range_with_len (holder_in ps) 0 nodes)) ∙ sym (none_there ps within ge)
+]
+  where
+    not_in : (ns : List ℕ) → All (λ m. m < nodes) ns → nodes ≤ n → has ns n ≡ false
+    not_in [] all ge = refl
+    not_in (m ∷ ns) all ge =
+        let head : m < nodes = All-head (λ k. k < nodes) m ns all in
+        let other : (m == n) ≡ false = grind (arith, nat_tests) in
+        ap (λ b. b || has ns n) other ∙ not_in ns (All-tail (λ k. k < nodes) m ns all) ge
+
+    none_there : (qs : List Piece) → All (λ p. All (λ m. m < nodes) p.nodes) qs → nodes ≤ n → holder_in qs n ≡ None
+    none_there [] all ge = refl
+    none_there (q ∷ qs) all ge =
+        first_holder q qs n
+        ∙ ap (λ b. cond b (Some q.job) (holder_in qs n)) (not_in q.nodes (All-head (λ (p : Piece). All (λ m. m < nodes) p.nodes) q qs all) ge)
+        ∙ none_there qs (All-tail (λ (p : Piece). All (λ m. m < nodes) p.nodes) q qs all) ge
 
 -- the piece before those that are left
 pub piece_before : (ps : List Piece) (i : ℕ) (p : Piece) → 0 < i → i ≤ length ps → p ≡ get_or ps (i - 1) p → drop (i - 1) ps ≡ p ∷ drop i ps

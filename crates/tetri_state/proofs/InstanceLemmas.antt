@@ -14,7 +14,7 @@ use Rattle.tetri_space.specs.Sound.{HasKnownSet, IsSoundBid, IsSound as IsSoundS
 use Rattle.tetri_trace.specs.Scenario.{Scenario}
 use Rattle.tetri_trace.specs.Sound.{IsSound, IsSoundSubmission}
 use Rattle.tetri_state.specs.declared.pieces.Piece.{Piece}
-use Rattle.tetri_state.specs.Begin.{has}
+use Rattle.tetri_base.specs.Lists.{has}
 use Rattle.tetri_state.specs.Planning.{IsNumbered, bid_of, busy_until, expected_or, instance_of}
 use Rattle.tetri_state.specs.Snapshot.{Snapshot, demanded, nothing_submitted, submission_of}
 use Rattle.tetri_state.proofs.ArrivalLemmas.{ArrivedBefore}

@@ -1,7 +1,7 @@
 -- What a plan launches.
 use Rattle.std.proofs.Common.{◌≡◌, ℕ, ◌+◌, ◌<◌, ◌==◌, ◌&&◌, ◌||◌, Bool, true, false, cond, List, [], ◌∷◌, length, get_or, map, filter, not, All, AllPairs, Contains, Option, Some, None, refl, sym, ap, ◌∙◌, subst, arith, zero, suc}
-use Rattle.std.specs.List.{cons_option, filter_map, list_any, position_from}
-use Rattle.std.specs.Option.{IsSomeAnd, option_map}
+use Rattle.std.specs.List.{cons_option, filter_map, find, list_any, position_from}
+use Rattle.std.specs.Option.{IsSomeAnd, option_and_then, option_map}
 use Rattle.std.proofs.lemmas.Bool.Decides.{nat_tests}
 use Rattle.std.proofs.lemmas.List.{length-map, get_or-map}
 use Rattle.std.proofs.lemmas.List.Elements.{All-contains, All-contains_itself, All-head, All-tail, Contains-get_or}
@@ -25,17 +25,17 @@ use Rattle.tetri_trace.specs.Scenario.{Scenario}
 use Rattle.tetri_trace.specs.Sound.{IsSound}
 use Rattle.tetri_state.specs.declared.pieces.Piece.{Piece}
 use Rattle.tetri_state.specs.After.{after, new_pieces, piece_of}
-use Rattle.tetri_state.specs.Begin.{has}
+use Rattle.tetri_base.specs.Lists.{has}
 use Rattle.tetri_state.specs.Launch.{start_of, start_or_0, starts_now}
 use Rattle.tetri_state.specs.Pieces.{ShareNoNode}
 use Rattle.tetri_state.specs.Planning.{bid_of, instance_of}
 use Rattle.tetri_state.specs.Reached.{IsPlan}
 use Rattle.tetri_state.specs.Snapshot.{Snapshot, demanded, nothing_submitted}
 use Rattle.tetri_state.proofs.ArrivalLemmas.{ArrivedBefore}
-use Rattle.tetri_state.proofs.Ascending.{ascend_filter, each_filtered, each_from, each_parts}
+use Rattle.tetri_state.proofs.Ascending.{ascend_filter, each_filtered, each_from, each_parts, each_passing}
 use Rattle.tetri_state.proofs.InstanceLemmas.{instance_sound, not_free}
 use Rattle.tetri_state.proofs.PieceLemmas.{NoneShare, share_append}
-use Rattle.tetri_state.proofs.StandLemmas.{IsWithin, Stands}
+use Rattle.tetri_state.proofs.StandLemmas.{IsWithin, NamesLeaf, Stands}
 use Rattle.tetri_state.proofs.ToldLemmas.{Each, each_weaker}
 
 -- a fact of each two elements
@@ -52,14 +52,6 @@ pairs_from R (x ∷ xs) pairs = (
 
 -- of the elements that pass a test
 module _ {X : Type 0} (test : X → Bool) where
-  each_passing : (P Q : X → Type 0) → ((x : X) → P x → test x ≡ true → Q x) → (xs : List X) → Each P xs → Each Q (filter test xs)
-  each_passing P Q step [] each = tt
-  each_passing P Q step (x ∷ xs) each = by_test (test x) refl (each_passing P Q step xs each.1)
-    where
-      by_test : (b : Bool) → test x ≡ b → Each Q (filter test xs) → Each Q (cond b (x ∷ filter test xs) (filter test xs))
-      by_test true passes rest = (step x each.0 passes, rest)
-      by_test false fails rest = rest
-
   pairs_passing : (P : X → Type 0) (R Q : X → X → Type 0) → ((x y : X) → P x → P y → R x y → test x ≡ true → test y ≡ true → Q x y) →
       (xs : List X) → Each P xs → PairsOf R xs → PairsOf Q (filter test xs)
   pairs_passing P R Q step [] each pairs = tt
@@ -71,7 +63,7 @@ module _ {X : Type 0} (test : X → Bool) where
 
       by_test : (b : Bool) → test x ≡ b → PairsOf Q (filter test xs) → PairsOf Q (cond b (x ∷ filter test xs) (filter test xs))
       by_test true passes rest =
-          (each_passing (λ y. P y × R x y) (Q x) (λ y known goes. step x y each.0 known.0 known.1 passes goes) xs (both xs each.1 pairs.0), rest)
+          (each_passing test (λ y. P y × R x y) (Q x) (λ y known goes. step x y each.0 known.0 known.1 passes goes) xs (both xs each.1 pairs.0), rest)
       by_test false fails rest = rest
 
 -- of what a function gives
@@ -110,7 +102,7 @@ leaf_named i g lawful = by_leaf (leaf_in i.bids g.job g.leaf) refl lawful
     by_leaf None is ok = absurd ok
     by_leaf (Some l) is ok = (l, is, ok)
 
-held_grant : (a : List Grant) (job : ℕ) (k : ℕ) (d : Grant) → k < length a → (get_or a k d).job ≡ job → Contains (held_leaves a job) (get_or a k d).leaf
+pub held_grant : (a : List Grant) (job : ℕ) (k : ℕ) (d : Grant) → k < length a → (get_or a k d).job ≡ job → Contains (held_leaves a job) (get_or a k d).leaf
 held_grant [] job k d lt same = absurd (omega arith)
 held_grant (g ∷ a) job zero d lt same = by_test (g.job == job) (test_true g.job job same)
   where
@@ -162,12 +154,34 @@ bid_known t ns b at =
     itself : (n : ℕ) → (n == n) ≡ true
     itself n = grind (arith, nat_tests)
 
+-- what holds of each number holds of one that is there
+pub each_has : (P : ℕ → Type 0) (ns : List ℕ) (n : ℕ) → Each P ns → has ns n ≡ true → P n
+each_has P [] n each there = absurd cc
+each_has P (m ∷ ns) n each there = by_test (m == n) refl there (each_has P ns n each.1)
+  where
+    by_test : (b : Bool) → (m == n) ≡ b → (b || has ns n) ≡ true → (has ns n ≡ true → P n) → P n
+    by_test true same e rest = let at : m ≡ n = grind (arith, nat_tests) in subst P at each.0
+    by_test false differ e rest = rest e
+
 both_true : (x y : Bool) → (x && y) ≡ true → (x ≡ true) × (y ≡ true)
 both_true true y e = (refl, e)
 both_true false y e = absurd cc
 
-same_from_test : (x y : ℕ) → (x == y) ≡ true → x ≡ y
+pub same_from_test : (x y : ℕ) → (x == y) ≡ true → x ≡ y
 same_from_test x y e = grind (arith, nat_tests)
+
+-- and its leaves are those of what it asks for
+pub leaf_pending : (t : Scenario) (ns : List ℕ) (job num : ℕ) → has ns job ≡ true → leaf_in (map (bid_of t) ns) job num ≡ find (λ l. l.num == num) (leaves (demanded t job))
+leaf_pending t ns job num there = ap (option_and_then (λ (b : Bid). find (λ l. l.num == num) (leaves b.expr))) (found ns there)
+  where
+    found : (ms : List ℕ) → has ms job ≡ true → find (λ b. b.job == job) (map (bid_of t) ms) ≡ Some (bid_of t job)
+    found [] here = absurd cc
+    found (m ∷ ms) here = by_test (m == job) refl here (found ms)
+      where
+        by_test : (b : Bool) → (m == job) ≡ b → (b || has ms job) ≡ true → (has ms job ≡ true → find (λ b. b.job == job) (map (bid_of t) ms) ≡ Some (bid_of t job)) →
+            cond b (Some (bid_of t m)) (find (λ b. b.job == job) (map (bid_of t) ms)) ≡ Some (bid_of t job)
+        by_test true same e rest = let at : m ≡ job = grind (arith, nat_tests) in ap (λ n. Some (bid_of t n)) at
+        by_test false differ e rest = rest e
 
 -- grants that a cycle may plan in a state whose slot has begun
 module _ (t : Scenario) (s : Snapshot) (sound : IsSound t) (stands : Stands t (s.now + 1) s) (early : s.now < 10000) (a : List Grant) (plan : IsPlan t s a) where
@@ -258,6 +272,27 @@ module _ (t : Scenario) (s : Snapshot) (sound : IsSound t) (stands : Stands t (s
       each_given (made t i) (IsWithin t) (filter goes a)
       (each_passing goes (Contains a) (λ g. (p : Piece) → made t i g ≡ Some p → IsWithin t p) made_within a contained)
 
+  -- the job of a grant is pending
+  grant_job : (g : Grant) → Contains a g → has s.pending g.job ≡ true
+  grant_job g at =
+      let m = grant_leaf g at in
+      let b = leaf_in-within i.bids g.job g.leaf m.0 m.1 in
+      subst (λ j. has s.pending j ≡ true) b.1.of_job (bid_known t s.pending b.0 b.1.pending).1
+
+  grant_arrived : (g : Grant) → Contains a g → ArrivedBefore t (s.now + 1) g.job
+  grant_arrived g at = each_has (ArrivedBefore t (s.now + 1)) s.pending g.job stands.arrived (grant_job g at)
+
+  grant_named : (g : Grant) → Contains a g → NamesLeaf t g
+  grant_named g at = let m = grant_leaf g at in (m.0, sym (leaf_pending t s.pending g.job g.leaf (grant_job g at)) ∙ m.1)
+
+  new_ran : Each (λ p. ArrivedBefore t (s.now + 1) p.job) (new_pieces t i a)
+  new_ran =
+      each_given (made t i) (λ p. ArrivedBefore t (s.now + 1) p.job) (filter goes a)
+      (each_passing goes (Contains a) (λ g. (p : Piece) → made t i g ≡ Some p → ArrivedBefore t (s.now + 1) p.job)
+      (λ g at starts p given.
+      let m = grant_leaf g at in
+      subst (λ (q : Piece). ArrivedBefore t (s.now + 1) q.job) (sym (made_is g p m.0 m.1 given)) (grant_arrived g at)) a contained)
+
   new_apart : NoneShare (new_pieces t i a)
   new_apart =
       share_given t i (filter goes a)
@@ -304,9 +339,11 @@ module _ (t : Scenario) (s : Snapshot) (sound : IsSound t) (stands : Stands t (s
   after_stands ahead = record {
     ascending = ascend_filter (λ j. not (starts_now i a j)) s.pending stands.ascending;
     arrived = each_filtered (ArrivedBefore t (s.now + 1)) (λ j. not (starts_now i a j)) s.pending stands.arrived;
+    ran = each_parts (λ p. ArrivedBefore t (s.now + 1) p.job) s.pieces (new_pieces t i a) stands.ran new_ran;
     drained = stands.drained;
     pieces = each_parts (IsWithin t) s.pieces (new_pieces t i a) stands.pieces new_within;
     apart = share_append s.pieces (new_pieces t i a) stands.apart new_apart (old_apart ahead);
+    planned = each_weaker (Contains a) (NamesLeaf t) grant_named a contained;
     thrifty = after_thrifty;
   }
 

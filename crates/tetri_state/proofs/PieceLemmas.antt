@@ -23,7 +23,15 @@ share_filter test (p ∷ ps) apart = by_test (test p) (share_filter test ps apar
 pub prolonged-nodes : (now : ℕ) (p : Piece) → (prolonged now p).nodes ≡ p.nodes
 prolonged-nodes now p = by_test (is_over now p)
   where
-    by_test : (b : Bool) → (cond b (record { job = p.job; leaf = p.leaf; nodes = p.nodes; started = p.started; expected = now + 1; real = p.real }) p).nodes ≡ p.nodes
+    by_test : (b : Bool) → (cond b (record p { expected = now + 1 }) p).nodes ≡ p.nodes
+    by_test true = refl
+    by_test false = refl
+
+-- and the job
+pub prolonged-job : (now : ℕ) (p : Piece) → (prolonged now p).job ≡ p.job
+prolonged-job now p = by_test (is_over now p)
+  where
+    by_test : (b : Bool) → (cond b (record p { expected = now + 1 }) p).job ≡ p.job
     by_test true = refl
     by_test false = refl
 
@@ -32,14 +40,14 @@ pub prolonged-ahead : (now : ℕ) (p : Piece) → now < (prolonged now p).expect
 prolonged-ahead now p = by_test (nat_le p.expected now) refl
   where
     by_test : (b : Bool) → nat_le p.expected now ≡ b →
-        now < (cond b (record { job = p.job; leaf = p.leaf; nodes = p.nodes; started = p.started; expected = now + 1; real = p.real }) p).expected
+        now < (cond b (record p { expected = now + 1 }) p).expected
     by_test true over = omega arith
     by_test false still = let later : now < p.expected = grind (arith, nat_tests) in later
 
 pub prolonged-within : (now : ℕ) (p : Piece) → now < 30000 → p.expected ≤ 30000 → (prolonged now p).expected ≤ 30000
 prolonged-within now p early within = by_test (is_over now p)
   where
-    by_test : (b : Bool) → (cond b (record { job = p.job; leaf = p.leaf; nodes = p.nodes; started = p.started; expected = now + 1; real = p.real }) p).expected ≤ 30000
+    by_test : (b : Bool) → (cond b (record p { expected = now + 1 }) p).expected ≤ 30000
     by_test true = omega arith
     by_test false = within
 

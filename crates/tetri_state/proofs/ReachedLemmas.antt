@@ -19,9 +19,11 @@ opening_stands : (t : Scenario) → IsSound t → Stands t 0 (opening_state t)
 opening_stands t sound = record {
   ascending = tt;
   arrived = tt;
+  ran = tt;
   drained = length-replicate (length t.nodes) _;
   pieces = tt;
   apart = tt;
+  planned = tt;
   thrifty = λ job known. thrifty_without [] job (demanded t job) (sound.jobs job nothing_submitted known).well_made.sound (All-nil (λ (g : Grant). g.job ≡ job → ⊥));
 }
 

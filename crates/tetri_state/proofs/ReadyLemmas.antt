@@ -17,7 +17,7 @@ use Rattle.tetri_space.specs.Space.{Bid, Space, leaf_in}
 use Rattle.tetri_space.proofs.LeafLemmas.{leaf_in-within}
 use Rattle.tetri_state.specs.declared.pieces.Piece.{Piece}
 use Rattle.tetri_state.specs.After.{after, new_pieces, piece_of}
-use Rattle.tetri_state.specs.Begin.{has}
+use Rattle.tetri_base.specs.Lists.{has}
 use Rattle.tetri_state.specs.Launch.{launched_in, start_of, start_or_0, starts_now}
 use Rattle.tetri_state.specs.Planning.{AreThrifty, bid_of, instance_of}
 use Rattle.tetri_state.specs.Reached.{IsPlan}

@@ -1,15 +1,16 @@
--- A piece runs on unless it is told that it ended or was cancelled.
-use Rattle.std.proofs.Common.{◌≡◌, ℕ, ◌+◌, ◌<◌, ◌==◌, ◌||◌, ◌⊎◌, Bool, true, false, cond, List, [], ◌∷◌, ◌++◌, length, get_or, map, filter, not, Contains, refl, sym, ap, ◌∙◌, subst, inl, inr, ⊎_elim, arith, zero, suc}
+-- A piece runs on unless it is told that it ended, was cancelled or failed.
+use Rattle.std.proofs.Common.{◌≡◌, ℕ, ◌+◌, ◌<◌, ◌==◌, ◌||◌, ◌⊎◌, Bool, true, false, cond, List, [], ◌∷◌, ◌++◌, Option, Some, None, length, get_or, map, filter, not, set, Contains, refl, sym, ap, ◌∙◌, subst, inl, inr, ⊎_elim, arith, zero, suc}
 use Rattle.std.proofs.lemmas.Bool.Decides.{nat_tests}
 use Rattle.std.proofs.lemmas.List.Elements.{Contains-append_left, Contains-push}
 use Rattle.std.proofs.lemmas.List.Folds.{list_any_at}
 use Rattle.tetri_trace.specs.declared.trace.Event.{Event}
 use Rattle.tetri_trace.specs.declared.trace.Happening.{Happening}
-use Rattle.tetri_trace.specs.declared.trace.Happening.TheVariants.{Arrive, Cancel, Drain, Undrain}
+use Rattle.tetri_trace.specs.declared.trace.Happening.TheVariants.{Arrive, Cancel, Drain, Undrain, Fail}
 use Rattle.tetri_trace.specs.Scenario.{Scenario}
 use Rattle.tetri_state.specs.declared.happened.PieceId.{PieceId}
 use Rattle.tetri_state.specs.declared.pieces.Piece.{Piece}
-use Rattle.tetri_state.specs.Begin.{Turn, comes_before, events_at, happen, happen_all, has, has_ended, in_order, is_over, named, prolonged, put, running_on, runs, staying, told, turn, without}
+use Rattle.tetri_base.specs.Lists.{has}
+use Rattle.tetri_state.specs.Begin.{Turn, but_of, cancel, comes_before, events_at, fail, fail_on, happen, happen_all, has_ended, holder_in, in_order, is_over, named, prolonged, put, put_number, running_on, runs, staying, told, turn, unturned, without}
 use Rattle.tetri_state.specs.Pieces.{IsSameRun, RunsOnUnlessTold}
 use Rattle.tetri_state.specs.Snapshot.{Snapshot}
 
@@ -78,10 +79,10 @@ told_runs ps p at =
     same : (m : ℕ) → m ≡ p.job → (m == p.job) ≡ true
     same m e = grind (arith, nat_tests)
 
--- a job of which pieces run at first runs, or was cancelled
+-- a job of which pieces run at first runs, or was cancelled, or failed
 module _ (job : ℕ) where
-  abbrev RunsOrCancelled : Turn → Type 0
-  RunsOrCancelled v = (runs v.running job ≡ true) ⊎ Contains v.cancelled job
+  abbrev RunsOrTold : Turn → Type 0
+  RunsOrTold v = (runs v.running job ≡ true) ⊎ (Contains v.cancelled job ⊎ Contains v.failed job)
 
   runs_without : (other : ℕ) → (other == job) ≡ false → (ids : List PieceId) → runs ids job ≡ true → runs (filter (λ a. not (a.job == other)) ids) job ≡ true
   runs_without other differ [] runs_on = absurd cc
@@ -99,47 +100,58 @@ module _ (job : ℕ) where
       by_tests false true is_job is_other e rest = rest e
       by_tests false false is_job is_other e rest = ap (λ b. a.job == job || b) (rest e) ∙ either_true (a.job == job)
 
-  cancel_keeps : (other : ℕ) (v : Turn) → RunsOrCancelled v → RunsOrCancelled (happen (Cancel other) v)
+  -- the last of a list
+  last_told : (jobs : List ℕ) (other : ℕ) → (other == job) ≡ true → Contains (jobs ++ other ∷ []) job
+  last_told jobs other same = let at : other ≡ job = grind (arith, nat_tests) in subst (λ n. Contains (jobs ++ n ∷ []) job) (sym at) (Contains-push jobs job)
+
+  cancel_keeps : (other : ℕ) (v : Turn) → RunsOrTold v → RunsOrTold (cancel other v)
   cancel_keeps other v holds = by_test (has v.pending other || runs v.running other)
     where
-      left : RunsOrCancelled (record {
-        drained = v.drained;
-        pending = without other v.pending;
-        running = filter (λ a. not (a.job == other)) v.running;
-        cancelled = v.cancelled ++ other ∷ [];
-      })
-      left = ⊎_elim (λ runs_on. by_job (other == job) refl runs_on) (λ at. inr (Contains-append_left v.cancelled (other ∷ []) job at)) holds
-        where
-          by_job : (b : Bool) → (other == job) ≡ b → runs v.running job ≡ true →
-              (runs (filter (λ a. not (a.job == other)) v.running) job ≡ true) ⊎ Contains (v.cancelled ++ other ∷ []) job
-          by_job true same runs_on =
-              let at : other ≡ job = grind (arith, nat_tests) in
-              inr (subst (λ n. Contains (v.cancelled ++ n ∷ []) job) (sym at) (Contains-push v.cancelled job))
-          by_job false differ runs_on = inl (runs_without other differ v.running runs_on)
+      by_job : (b : Bool) → (other == job) ≡ b → runs v.running job ≡ true →
+          (runs (but_of other v.running) job ≡ true) ⊎ (Contains (v.cancelled ++ other ∷ []) job ⊎ Contains v.failed job)
+      by_job true same runs_on = inr (inl (last_told v.cancelled other same))
+      by_job false differ runs_on = inl (runs_without other differ v.running runs_on)
 
-      by_test : (b : Bool) → RunsOrCancelled (cond b (record {
-        drained = v.drained;
-        pending = without other v.pending;
-        running = filter (λ a. not (a.job == other)) v.running;
-        cancelled = v.cancelled ++ other ∷ [];
-      }) v)
-      by_test true = left
+      by_test : (b : Bool) → RunsOrTold (cond b (record v { pending = without other v.pending; running = but_of other v.running; cancelled = v.cancelled ++ other ∷ [] }) v)
+      by_test true =
+          ⊎_elim (λ runs_on. by_job (other == job) refl runs_on)
+          (λ is_told. ⊎_elim (λ at. inr (inl (Contains-append_left v.cancelled (other ∷ []) job at))) (λ at. inr (inr at)) is_told) holds
       by_test false = holds
 
-  happen_keeps : (what : Happening) (v : Turn) → RunsOrCancelled v → RunsOrCancelled (happen what v)
-  happen_keeps (Arrive other) v holds = holds
-  happen_keeps (Cancel other) v holds = cancel_keeps other v holds
-  happen_keeps (Drain node) v holds = holds
-  happen_keeps (Undrain node) v holds = holds
+  fail_keeps : (other : ℕ) (v : Turn) → RunsOrTold v → RunsOrTold (fail other v)
+  fail_keeps other v holds = by_test (runs v.running other)
+    where
+      by_job : (b : Bool) → (other == job) ≡ b → runs v.running job ≡ true →
+          (runs (but_of other v.running) job ≡ true) ⊎ (Contains v.cancelled job ⊎ Contains (v.failed ++ other ∷ []) job)
+      by_job true same runs_on = inr (inr (last_told v.failed other same))
+      by_job false differ runs_on = inl (runs_without other differ v.running runs_on)
 
-  happen_all_keeps : (es : List Event) (v : Turn) → RunsOrCancelled v → RunsOrCancelled (happen_all es v)
-  happen_all_keeps [] v holds = holds
-  happen_all_keeps (e ∷ es) v holds = happen_all_keeps es (happen e.what v) (happen_keeps e.what v holds)
+      by_test : (b : Bool) → RunsOrTold (cond b (record v { pending = put_number other v.pending; running = but_of other v.running; failed = v.failed ++ other ∷ [] }) v)
+      by_test true =
+          ⊎_elim (λ runs_on. by_job (other == job) refl runs_on)
+          (λ is_told. ⊎_elim (λ at. inr (inl at)) (λ at. inr (inr (Contains-append_left v.failed (other ∷ []) job at))) is_told) holds
+      by_test false = holds
+
+  fail_on_keeps : (held : Option ℕ) (v : Turn) → RunsOrTold v → RunsOrTold (fail_on held v)
+  fail_on_keeps None v holds = holds
+  fail_on_keeps (Some other) v holds = fail_keeps other v holds
+
+  module _ (holder : ℕ → Option ℕ) where
+    happen_keeps : (what : Happening) (v : Turn) → RunsOrTold v → RunsOrTold (happen holder what v)
+    happen_keeps (Arrive other) v holds = holds
+    happen_keeps (Cancel other) v holds = cancel_keeps other v holds
+    happen_keeps (Drain node) v holds = holds
+    happen_keeps (Undrain node) v holds = holds
+    happen_keeps (Fail node) v holds = fail_on_keeps (holder node) (record v { drained = set v.drained node true }) holds
+
+    happen_all_keeps : (es : List Event) (v : Turn) → RunsOrTold v → RunsOrTold (happen_all holder es v)
+    happen_all_keeps [] v holds = holds
+    happen_all_keeps (e ∷ es) v holds = happen_all_keeps es (happen holder e.what v) (happen_keeps e.what v holds)
 
 same_run : (now : ℕ) (p : Piece) → IsSameRun p (prolonged now p)
 same_run now p = by_test (is_over now p)
   where
-    by_test : (b : Bool) → IsSameRun p (cond b (record { job = p.job; leaf = p.leaf; nodes = p.nodes; started = p.started; expected = now + 1; real = p.real }) p)
+    by_test : (b : Bool) → IsSameRun p (cond b (record p { expected = now + 1 }) p)
     by_test true = record { job = refl; leaf = refl; nodes = refl; started = refl; real = refl }
     by_test false = record { job = refl; leaf = refl; nodes = refl; started = refl; real = refl }
 
@@ -156,9 +168,8 @@ runs_on_unless_told t s p at = by_end (has_ended s.now p) refl
         (prolonged s.now p, mapped (prolonged s.now) (staying t s) p (passing (λ (q : Piece). runs (turn t s).running q.job) (running_on s) p on runs_on), same_run s.now p)
     by_job on false left =
         inr (inr
-        (⊎_elim (λ runs_on. let e : true ≡ false = sym runs_on ∙ left in absurd cc) (λ cancelled. cancelled)
-        (happen_all_keeps p.job (events_at t s.now) (record { drained = s.drained; pending = s.pending; running = told (running_on s); cancelled = [] })
-        (inl (told_runs (running_on s) p on)))))
+        (⊎_elim (λ runs_on. let e : true ≡ false = sym runs_on ∙ left in absurd cc) (λ is_told. is_told)
+        (happen_all_keeps p.job (holder_in (running_on s)) (events_at t s.now) (unturned s) (inl (told_runs (running_on s) p on)))))
 
     by_end : (b : Bool) → has_ended s.now p ≡ b → RunsOnUnlessTold t s p
     by_end true ended = inr (inl (told_has (filter (has_ended s.now) s.pieces) p (passing (has_ended s.now) s.pieces p at ended)))

@@ -17,7 +17,9 @@ pub record IsSameRun (p q : Piece) : Type 0 where
   pub started : q.started ≡ p.started
   pub real : q.real ≡ p.real
 
--- once the slot has begun, the piece still runs, or it is told that it ended or that its job was cancelled
+-- once the slot has begun, the piece still runs, or it is told that it ended, that its job was cancelled, or that its job
+-- failed
 abbrev pub RunsOnUnlessTold : Scenario → Snapshot → Piece → Type 0
 RunsOnUnlessTold t s p =
-    ((q : Piece) × Contains (begin t s).pieces q × IsSameRun p q) ⊎ (Contains (occurring t s).ended (named p) ⊎ Contains (occurring t s).cancelled p.job)
+    ((q : Piece) × Contains (begin t s).pieces q × IsSameRun p q)
+    ⊎ (Contains (occurring t s).ended (named p) ⊎ (Contains (occurring t s).cancelled p.job ⊎ Contains (occurring t s).failed p.job))

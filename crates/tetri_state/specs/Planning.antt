@@ -1,15 +1,17 @@
 -- What a cycle plans for, and what it carries over.
-use Rattle.std.specs.Prelude.{◌≡◌, ℕ, ◌==◌, ◌⊎◌, List, [], ◌∷◌, slice_set, map, filter, find, length, All, Option, Some, None}
-use Rattle.std.specs.List.{list_any, range_with_len}
+use Rattle.std.specs.Prelude.{◌≡◌, ℕ, ◌+◌, ◌⊎◌, Bool, false, List, [], ◌∷◌, slice_set, map, filter, find, length, All, Option, Some, None}
+use Rattle.std.specs.List.{range_with_len}
+use Rattle.tetri_base.specs.Lists.{has}
+use Rattle.tetri_strl.specs.declared.expr.Leaf.{Leaf}
 use Rattle.tetri_strl.specs.declared.grants.Grant.{Grant}
+use Rattle.tetri_strl.specs.Prune.{starts_in}
 use Rattle.tetri_strl.specs.Thrifty.{IsThriftyFor}
 use Rattle.tetri_strl.specs.Tree.{leaves, numbers}
-use Rattle.tetri_space.specs.Space.{Bid, Space}
+use Rattle.tetri_space.specs.Space.{Bid, Space, leaf_in}
 use Rattle.tetri_space.specs.Lawful.{IsLawful}
 use Rattle.tetri_trace.specs.Scenario.{Scenario}
 use Rattle.tetri_state.specs.declared.pieces.Piece.{Piece}
 use Rattle.tetri_state.specs.Snapshot.{Snapshot, demanded}
-use Rattle.tetri_state.specs.Begin.{has}
 
 abbrev pub expected_or : ℕ → Option Piece → ℕ
 expected_or now None = now
@@ -19,10 +21,10 @@ expected_or now (Some p) = p.expected
 abbrev pub busy_until : ℕ → List Piece → ℕ → ℕ
 busy_until now pieces node = expected_or now (find (λ p. has p.nodes node) pieces)
 
--- a row with this number at each of the places
-abbrev pub marked : ℕ → List ℕ → List ℕ → List ℕ
-marked until row [] = row
-marked until row (n ∷ ns) = marked until (slice_set row n until) ns
+-- a row with this at each of the places
+abbrev pub marked : {X : Type 0} → X → List X → List ℕ → List X
+marked x row [] = row
+marked x row (n ∷ ns) = marked x (slice_set row n x) ns
 
 abbrev pub bid_of : Scenario → ℕ → Bid
 bid_of t job = record { job = job; expr = demanded t job }
@@ -47,11 +49,17 @@ IsNumbered b = numbers b.expr ≡ range_with_len 0 (length (leaves b.expr))
 abbrev pub AreThrifty : Space → List Grant → Type 0
 AreThrifty i a = All (λ b. IsThriftyFor a b.job b.expr) i.bids
 
--- the grants whose jobs are in the instance
-abbrev pub still_pending : Space → List Grant → List Grant
-still_pending i a = filter (λ g. list_any (λ b. b.job == g.job) i.bids) a
+-- the leaf is there, and starts in the window
+abbrev pub is_live : Space → Option Leaf → Bool
+is_live i None = false
+is_live i (Some l) = starts_in i.now (i.now + i.window) l
 
--- what is carried over of a plan: the grants of its jobs that are still pending, where these are lawful together, and else none
+-- the grants that name a job of the instance and a live leaf of its offer
+abbrev pub still_pending : Space → List Grant → List Grant
+still_pending i a = filter (λ g. is_live i (leaf_in i.bids g.job g.leaf)) a
+
+-- what is carried over of a plan: its grants of live leaves of jobs that are pending, where these are lawful together, and
+-- else none
 abbrev pub IsCarry : Space → List Grant → List Grant → Type 0
 IsCarry i plan c =
     (IsLawful i (still_pending i plan) × (c ≡ still_pending i plan)) ⊎ ((IsLawful i (still_pending i plan) → ⊥) × (c ≡ []))

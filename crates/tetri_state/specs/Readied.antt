@@ -1,10 +1,10 @@
 -- A launch that is ready.
 use Rattle.std.specs.Prelude.{◌≡◌, ℕ, ◌+◌, ◌<◌, ◌≤◌, not, List, ◌++◌, filter, length}
+use Rattle.tetri_base.specs.Lists.{has}
 use Rattle.tetri_strl.specs.declared.grants.Grant.{Grant}
 use Rattle.tetri_trace.specs.Scenario.{Scenario}
 use Rattle.tetri_state.specs.declared.pieces.Piece.{Piece}
 use Rattle.tetri_state.specs.After.{new_pieces}
-use Rattle.tetri_state.specs.Begin.{has}
 use Rattle.tetri_state.specs.Launch.{launched_in}
 use Rattle.tetri_state.specs.Planning.{instance_of}
 use Rattle.tetri_state.specs.Reached.{IsPlan}

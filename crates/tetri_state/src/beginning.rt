@@ -1,13 +1,14 @@
 // The beginning of a cycle.
-ghost use Rattle.std.specs.Prelude.{◌≡◌, ◌<◌, ◌++◌, ◌&&◌, All, filter, length, map, not, IfOk, OnErr, OnOk};
+ghost use Rattle.std.specs.Prelude.{◌≡◌, ◌<◌, ◌&&◌, All, filter, length, map, not, IfOk, OnErr, OnOk};
 ghost use Rattle.std.specs.List.Sorted.{IsNonDecreasingBy, IsStrictlyIncreasing};
-ghost use Rattle.tetri_state.specs.Begin.{arriving, begin, ending, events_at, finished, has_ended, occurrences, occurring, prolonged, running_on, runs, told, turn};
+ghost use Rattle.tetri_state.specs.Begin.{begin, ending, finished, has_ended, occurrences, occurring, prolonged, running_on, runs, told, turn};
 ghost use Rattle.tetri_state.specs.Reached as moment;
 ghost use Rattle.tetri_state.specs.Reached.{IsReached};
 ghost use Rattle.tetri_trace.specs.Scenario.{scenario};
 ghost use Rattle.tetri_trace.specs.Sound.{IsSound};
 
 use crate::State;
+use crate::busy::holder_row;
 use crate::events::{events_at, take_all};
 use crate::expiry::part;
 use crate::happened::{Happened, PieceId};
@@ -70,9 +71,9 @@ impl State {
         requires sound { IsSound (scenario trace.now) }
         requires early { self.old.now < 20000 }
         requires drained { length self.old.drained ≡ length (scenario trace.now).nodes }
-        requires arrivals { IsStrictlyIncreasing (self.old.pending ++ arriving (events_at (scenario trace.now) self.old.now)) }
-        requires known { All (λ j. j < length (scenario trace.now).submissions)
-            (self.old.pending ++ arriving (events_at (scenario trace.now) self.old.now)) }
+        requires pending { IsStrictlyIncreasing self.old.pending }
+        requires known { All (λ j. j < length (scenario trace.now).submissions) (turn (scenario trace.now) self.old).pending }
+        requires nodes { All (λ p. All (λ n. n < length (scenario trace.now).nodes) p.nodes) self.old.pieces }
         ensures state { OnOk result (self.new ≡ begin (scenario trace.now) self.old) }
         ensures happened { IfOk result (λ h. occurrences h ≡ occurring (scenario trace.now) self.old) }
         ensures err { OnErr result (self.new ≡ self.old) }
@@ -98,9 +99,9 @@ impl State {
     fn begun(&self, alloc: Global, trace: &Trace) -> Result<Begun, AllocError>
         requires sound { IsSound (scenario trace.now) }
         requires drained { length self.now.drained ≡ length (scenario trace.now).nodes }
-        requires arrivals { IsStrictlyIncreasing (self.now.pending ++ arriving (events_at (scenario trace.now) self.now.now)) }
-        requires known { All (λ j. j < length (scenario trace.now).submissions)
-            (self.now.pending ++ arriving (events_at (scenario trace.now) self.now.now)) }
+        requires pending { IsStrictlyIncreasing self.now.pending }
+        requires known { All (λ j. j < length (scenario trace.now).submissions) (turn (scenario trace.now) self.now).pending }
+        requires nodes { All (λ p. All (λ n. n < length (scenario trace.now).nodes) p.nodes) self.now.pieces }
         ensures drained { IfOk result (λ b. b.drained.items ≡ (turn (scenario trace.now) self.entry.now).drained) }
         ensures pending { IfOk result (λ b. b.pending.items ≡ (begin (scenario trace.now) self.entry.now).pending) }
         ensures running { IfOk result (λ b. b.running.items ≡ (turn (scenario trace.now) self.entry.now).running) }
@@ -112,7 +113,15 @@ impl State {
         let running = running(alloc, &self.pieces, self.now)?;
         let finished = finished(alloc, &running, &ended)?;
         let events = events_at(&trace.events, self.now);
-        let turn = take_all(alloc, &self.drained, &self.pending, &running, events)?;
+        let holders = holder_row(alloc, trace.cluster.count(), self.now, &self.pieces)?;
+        let turn = take_all(
+            alloc,
+            &self.drained,
+            &self.pending,
+            &running,
+            &holders,
+            events,
+        )?;
         let over = over(alloc, &self.pieces, self.now, &turn.running)?;
         let parted = part(alloc, trace, self.now, &turn.pending)?;
         Ok(Begun {
@@ -123,7 +132,7 @@ impl State {
             happened: Happened {
                 ended,
                 cancelled: turn.cancelled,
-                failed: Vec::new(alloc),
+                failed: turn.failed,
                 over,
                 expired: parted.expired,
             },

@@ -1,30 +1,39 @@
 // What is carried over of a plan.
-ghost use Rattle.std.specs.Prelude.{◌≡◌, filter, IfOk};
-ghost use Rattle.std.specs.List.Sorted.{IsNonDecreasing};
+ghost use Rattle.std.specs.Prelude.{◌≡◌, IfOk};
 ghost use Rattle.tetri_space.specs.Lawful.{IsLawful};
-ghost use Rattle.tetri_space.specs.Space.{space};
-ghost use Rattle.tetri_state.specs.Begin.{has};
-ghost use Rattle.tetri_state.specs.Planning.{AreThrifty, IsCarry, instance_of};
+ghost use Rattle.tetri_space.specs.Sound.{IsSound as IsSoundSpace};
+ghost use Rattle.tetri_space.specs.Space.{leaf_in, space};
+ghost use Rattle.tetri_state.specs.Planning.{AreThrifty, IsCarry, instance_of, is_live, still_pending};
 ghost use Rattle.tetri_state.specs.Reached as moment;
 ghost use Rattle.tetri_state.specs.Reached.{IsReached};
 ghost use Rattle.tetri_trace.specs.Scenario.{scenario};
 ghost use Rattle.tetri_trace.specs.Sound.{IsSound};
 
 use crate::State;
-use crate::prepared::is_among;
 use std::alloc::{AllocError, Global};
-use tetri_space::{Instance, lawful};
+use tetri_space::{Instance, lawful, leaf_of};
 use tetri_strl::{Allotment, Grant, copy_grant};
 use tetri_trace::Trace;
 
-// The grants of these jobs.
-fn grants_of(alloc: Global, grants: &[Grant], jobs: &[u32]) -> Result<Allotment, AllocError>
-    requires { IsNonDecreasing jobs.now }
-    ensures { IfOk result (λ a. a ≡ filter (λ g. has jobs.now g.job) grants.now) }
+// Whether the grant names a pending job and a leaf that it offers in the window.
+fn is_live(inst: &Instance, grant: &Grant) -> bool
+    requires { IsSoundSpace (space inst.now) }
+    ensures { result ≡ is_live (space inst.entry.now) (leaf_in (space inst.entry.now).bids grant.now.job grant.now.leaf) }
+{
+    match leaf_of(inst, grant.job, grant.leaf) {
+        Some(leaf) => inst.now <= leaf.start && leaf.start < inst.now + inst.window,
+        None => false,
+    }
+}
+
+// The grants that name a pending job and a leaf that it offers in the window.
+fn still_pending(alloc: Global, inst: &Instance, grants: &[Grant]) -> Result<Allotment, AllocError>
+    requires { IsSoundSpace (space inst.now) }
+    ensures { IfOk result (λ a. a ≡ still_pending (space inst.entry.now) grants.now) }
 {
     let mut kept = Allotment::new(alloc);
     for grant in grants {
-        if is_among(jobs, grant.job) {
+        if is_live(inst, grant) {
             kept.push(copy_grant(alloc, grant)?)?;
         }
     }
@@ -32,8 +41,8 @@ fn grants_of(alloc: Global, grants: &[Grant], jobs: &[u32]) -> Result<Allotment,
 }
 
 impl State {
-    /// What is carried over of the last plan: the grants of its jobs that are still pending, where these are lawful together
-    /// in the instance of this state, and else none. Its only error is want of memory.
+    /// What is carried over of the last plan: its grants that name a pending job and a leaf that the job offers in the window,
+    /// where these are lawful together in the instance of this state, and else none. Its only error is want of memory.
     pub fn carry(
         &self,
         alloc: Global,
@@ -48,7 +57,7 @@ impl State {
         ensures thrifty { IfOk result (AreThrifty (space inst.entry.now)) }
     {
         let _ = trace;
-        let kept = grants_of(alloc, self.plan.as_slice(), &self.pending)?;
+        let kept = still_pending(alloc, inst, self.plan.as_slice())?;
         match lawful(inst, &kept) {
             Ok(()) => Ok(kept),
             Err(_) => Ok(Allotment::new(alloc)),

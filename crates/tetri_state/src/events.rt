@@ -1,7 +1,8 @@
 // What the events of a slot do.
-ghost use Rattle.std.specs.Prelude.{◌≡◌, ◌<◌, ◌++◌, ◌==◌, [], All, filter, length, IfOk, OnOk};
+ghost use Rattle.std.specs.Prelude.{◌≡◌, ◌==◌, [], All, None, filter, length, slice_index_or, IfOk, OnOk};
 ghost use Rattle.std.specs.List.Sorted.{IsNonDecreasingBy, IsStrictlyIncreasing};
-ghost use Rattle.tetri_state.specs.Begin.{IsOfNodeBelow, arriving, cancel, happen, happen_all, has, without};
+ghost use Rattle.tetri_base.specs.Lists.{has};
+ghost use Rattle.tetri_state.specs.Begin.{IsOfNodeBelow, cancel, fail, happen, happen_all, put_number, without};
 
 use crate::happened::PieceId;
 use crate::told::runs;
@@ -27,6 +28,7 @@ pub struct Turn {
     pub pending: Vec<u32>,
     pub running: Vec<PieceId>,
     pub cancelled: Vec<u32>,
+    pub failed: Vec<u32>,
 }
 
 impl Model for Turn {
@@ -39,6 +41,7 @@ impl Model for Turn {
       pending = v.pending.items;
       running = v.running.items;
       cancelled = v.cancelled.items;
+      failed = v.failed.items;
     } };
 }
 
@@ -57,20 +60,53 @@ impl Turn {
         Ok(())
     }
 
-    fn take(&mut self, what: Happening) -> Result<(), AllocError>
+    // A job loses its pieces, where some run, and waits again.
+    fn fail(&mut self, job: u32) -> Result<(), AllocError>
         requires pending { IsStrictlyIncreasing self.old.pending }
         requires running { IsNonDecreasingBy (λ a. a.job) self.old.running }
-        requires known { IsOfNodeBelow (length self.old.drained) what }
-        ensures { OnOk result (self.new ≡ happen what self.old) }
+        ensures { OnOk result (self.new ≡ fail job self.old) }
     {
-        match what {
-            Happening::Arrive(job) => self.pending.push(job)?,
-            Happening::Cancel(job) => self.cancel(job)?,
-            Happening::Drain(node) => self.drained[node as usize] = true,
-            Happening::Undrain(node) => self.drained[node as usize] = false,
+        if runs(&self.running, job) {
+            self.running.retain(|id| id.job != job);
+            put_number(&mut self.pending, job)?;
+            self.failed.push(job)?;
         }
         Ok(())
     }
+
+    // What an event does, where these are by node the jobs whose pieces are on the nodes.
+    fn take(&mut self, what: Happening, holders: &[Option<u32>]) -> Result<(), AllocError>
+        requires pending { IsStrictlyIncreasing self.old.pending }
+        requires running { IsNonDecreasingBy (λ a. a.job) self.old.running }
+        requires known { IsOfNodeBelow (length self.old.drained) what }
+        requires holders { length holders.now ≡ length self.old.drained }
+        ensures { OnOk result (self.new ≡ happen (λ n. slice_index_or holders.now n None) what self.old) }
+    {
+        match what {
+            Happening::Arrive(job) => put_number(&mut self.pending, job)?,
+            Happening::Cancel(job) => self.cancel(job)?,
+            Happening::Drain(node) => self.drained[node as usize] = true,
+            Happening::Undrain(node) => self.drained[node as usize] = false,
+            Happening::Fail(node) => {
+                self.drained[node as usize] = true;
+                if let Some(job) = holders[node as usize] {
+                    self.fail(job)?;
+                }
+            }
+        }
+        Ok(())
+    }
+}
+
+// Puts a number among those that ascend, unless it is there.
+fn put_number(numbers: &mut Vec<u32>, number: u32) -> Result<(), AllocError>
+    requires { IsStrictlyIncreasing numbers.old.items }
+    ensures { OnOk result (numbers.new.items ≡ put_number number numbers.old.items) }
+{
+    if let Err(place) = numbers.binary_search(&number) {
+        numbers.insert(place, number)?;
+    }
+    Ok(())
 }
 
 // Takes a job out of those that ascend, and says whether it was there.
@@ -88,22 +124,25 @@ fn leave(jobs: &mut Vec<u32>, job: u32) -> bool
     }
 }
 
-// What the events change in their order. Where a job arrives, it stands behind all that are pending.
+// What the events change in their order, where these are by node the jobs whose pieces are on the nodes.
 pub fn take_all(
     alloc: Global,
     drained: &[bool],
     pending: &[u32],
     running: &[PieceId],
+    holders: &[Option<u32>],
     events: &[Event],
 ) -> Result<Turn, AllocError>
-    requires arrivals { IsStrictlyIncreasing (pending.now ++ arriving events.now) }
+    requires pending { IsStrictlyIncreasing pending.now }
     requires running { IsNonDecreasingBy (λ a. a.job) running.now }
+    requires holders { length holders.now ≡ length drained.now }
     requires known { All (λ e. IsOfNodeBelow (length drained.now) e.what) events.now }
-    ensures turn { IfOk result (λ v. v ≡ happen_all events.now (record {
+    ensures turn { IfOk result (λ v. v ≡ happen_all (λ n. slice_index_or holders.now n None) events.now (record {
       drained = drained.now;
       pending = pending.now;
       running = running.now;
       cancelled = [];
+      failed = [];
     })) }
     ensures pending { IfOk result (λ v. IsStrictlyIncreasing v.pending) }
     ensures running { IfOk result (λ v. IsNonDecreasingBy (λ a. a.job) v.running) }
@@ -113,9 +152,10 @@ pub fn take_all(
         pending: Vec::from_slice(alloc, pending)?,
         running: Vec::from_slice(alloc, running)?,
         cancelled: Vec::new(alloc),
+        failed: Vec::new(alloc),
     };
     for event in events {
-        turn.take(event.what)?;
+        turn.take(event.what, holders)?;
     }
     Ok(turn)
 }

@@ -8,8 +8,8 @@ pub struct PieceId {
 }
 
 /// What happened at the beginning of a cycle: the pieces that ended and those that ran over, by job and then
-/// leaf, the jobs that were cancelled and those that lost their pieces by a failure, in the order of their lines, and those
-/// that expired, by job.
+/// leaf, the jobs that were cancelled and those that failed, each in the order of their lines, and those that expired, by
+/// job. A job that failed lost its pieces with a node and waits again.
 #[derive(Drop)]
 pub struct Happened {
     pub ended: Vec<PieceId>,

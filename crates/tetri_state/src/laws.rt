@@ -28,7 +28,7 @@ pub fn no_two_running_pieces_share_a_node(trace: &Trace)
 }
 
 /// A piece that runs in one slot runs in the next slot on the same nodes, unless the beginning of that slot tells that it
-/// ended or that its job was cancelled.
+/// ended, that its job was cancelled, or that its job failed.
 pub fn running_pieces_run_on_unless_told(trace: &Trace)
     ensures stays { (s : Snapshot) (a : List Grant) (p : Piece) → Contains s.pieces p
         → Contains (after (scenario trace.entry.now) s a).pieces p }

@@ -2,10 +2,10 @@
 ghost use Rattle.std.specs.Prelude.{◌≡◌, ◌<◌, ◌≤◌, ◌==◌, ℕ, ℤ, negsuc, pos, ◌≤ℤ◌, All, filter, length, map, not, option_map, IfOk};
 ghost use Rattle.std.specs.List.{filter_map, list_any};
 ghost use Rattle.std.specs.List.Sorted.{IsNonDecreasing};
+ghost use Rattle.tetri_base.specs.Lists.{has};
 ghost use Rattle.tetri_space.specs.Sound.{IsSound as IsSoundSpace};
 ghost use Rattle.tetri_space.specs.Space.{leaf_in, space};
 ghost use Rattle.tetri_state.specs.After.{piece_of, real_dur};
-ghost use Rattle.tetri_state.specs.Begin.{has};
 ghost use Rattle.tetri_state.specs.Launch.{start_of};
 ghost use Rattle.tetri_strl.specs.WellMade.{IsGoodLeaf};
 ghost use Rattle.tetri_trace.specs.Scenario.{scenario};

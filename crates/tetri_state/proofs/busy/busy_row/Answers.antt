@@ -1,9 +1,9 @@
-use Rattle.std.proofs.Common.{◌≡◌, ◌<◌, ◌-◌, ◌∙◌, All, sym, ap, subst, arith, rules, drop, length, map, replicate}
+use Rattle.std.proofs.Common.{◌≡◌, ◌<◌, ◌-◌, ◌∙◌, ◌∷◌, [], All, refl, sym, ap, subst, arith, rules, drop, length, map, replicate}
 use Rattle.std.specs.List.{range_with_len}
 use Rattle.std.proofs.lemmas.List.{drop_all}
 use Rattle.std.proofs.lemmas.List.FromFn.{length-map-range_with_len}
 use Rattle.tetri_state.specs.Planning.{busy_until, marked}
-use Rattle.tetri_state.proofs.BusyLemmas.{known_nodes, none_busy, one_more_busy, piece_before}
+use Rattle.tetri_state.proofs.BusyLemmas.{first_busy, known_nodes, piece_before, row_marked, row_of_same}
 use Rattle.tetri_state.proofs.busy.busy_row.Goals as goal
 
 pub loop-left-init : goal.loop-left-init
@@ -12,7 +12,7 @@ loop-left-init c =
     record {
       within = omega arith;
       row =
-          none_busy c.args.now c.args.nodes c.in_ok-row.row.items fresh
+          row_of_same c.args.nodes c.args.now (busy_until c.args.now []) c.in_ok-row.row.items fresh (λ n. refl)
           ∙ ap (λ ps. map (busy_until c.args.now ps) (range_with_len 0 c.args.nodes)) (sym (drop_all (length c.args.pieces.now) c.args.pieces.now (omega arith)));
     }
 
@@ -28,13 +28,15 @@ pub loop-left-preserved : goal.loop-left-preserved
 loop-left-preserved c =
     let p = c.index-pieces-left.result in
     let nodes = c.args.nodes in
+    let rest = drop c.loop-left.left c.args.pieces.now in
     let known = known_nodes nodes c.args.pieces.now (c.loop-left.left - 1) p c.requires (omega (arith, c.loop-left.invariant.within)) c.index-pieces-left.is in
     record {
       within = omega arith;
       row =
           c.mark.ensures
           ∙ ap (marked p.expected c.loop-left.row.items) c.as_slice.ensures
-          ∙ one_more_busy c.args.now nodes c.loop-left.row.items p (drop c.loop-left.left c.args.pieces.now) c.loop-left.invariant.row known
+          ∙ row_marked nodes p.expected (busy_until c.args.now rest) (busy_until c.args.now (p ∷ rest)) c.loop-left.row.items p.nodes c.loop-left.invariant.row known
+              (first_busy c.args.now p rest)
           ∙ ap (λ ps. map (busy_until c.args.now ps) (range_with_len 0 nodes))
           (sym (piece_before c.args.pieces.now c.loop-left.left p c.loop-left-test.true c.loop-left.invariant.within c.index-pieces-left.is));
     }

@@ -1,7 +1,8 @@
 use Rattle.std.proofs.Common.{◌≡◌, ◌∙◌, ◌<◌, ℕ, sym, ap, subst, false, is_ok, length, get_or}
 use Rattle.std.specs.List.Sorted.{IsNonDecreasingBy}
 use Rattle.std.proofs.lemmas.Cmp.{ranked}
-use Rattle.tetri_state.specs.Begin.{has, without}
+use Rattle.tetri_base.specs.Lists.{has}
+use Rattle.tetri_state.specs.Begin.{without}
 use Rattle.tetri_state.proofs.Ascending.{ascend_from, remove_is, without_absent}
 use Rattle.tetri_state.proofs.SearchLemmas.{never_fall, search_by_key}
 use Rattle.tetri_state.proofs.events.leave.Goals as goal

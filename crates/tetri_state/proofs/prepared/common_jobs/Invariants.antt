@@ -1,5 +1,5 @@
 use Rattle.std.proofs.Common.{◌≡◌, ◌++◌, drop, filter}
-use Rattle.tetri_state.specs.Begin.{has}
+use Rattle.tetri_base.specs.Lists.{has}
 use Rattle.tetri_state.proofs.prepared.common_jobs.Given as goal
 
 abbrev pub invariant-loop-job : goal.invariant-loop-job

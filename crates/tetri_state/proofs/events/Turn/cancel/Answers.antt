@@ -1,7 +1,8 @@
 use Rattle.std.proofs.Common.{rules, ◌≡◌, ◌∙◌, ◌||◌, ◌==◌, ap, sym, true, false, filter, not}
 use Rattle.std.proofs.lemmas.Fn.{filter_same}
 use Rattle.tetri_state.specs.declared.happened.PieceId.{PieceId}
-use Rattle.tetri_state.specs.Begin.{Turn, has, runs}
+use Rattle.tetri_base.specs.Lists.{has}
+use Rattle.tetri_state.specs.Begin.{Turn, runs}
 use Rattle.tetri_state.proofs.Ascending.{without_absent}
 use Rattle.tetri_state.proofs.TurnLemmas.{cancel_done, cancel_passed, either_left, either_right}
 use Rattle.tetri_state.proofs.events.Turn.cancel.Goals as goal
@@ -15,6 +16,7 @@ returns-in_ok-push c =
       pending = c.self.inside.pending.items;
       running = c.self.inside.running.items;
       cancelled = c.self.inside.cancelled.items;
+      failed = c.self.inside.failed.items;
     } in
     let some : (has v.pending job || runs v.running job) ≡ true = elim c.then-waited.branch [
       | then-waited-via-then-waited w ↦ either_left _ _ (sym c.leave-waited.ensures.was ∙ w.if-waited.true)
@@ -32,6 +34,7 @@ returns-else-runs c =
       pending = c.self.inside.pending.items;
       running = c.self.inside.running.items;
       cancelled = c.self.inside.cancelled.items;
+      failed = c.self.inside.failed.items;
     } in
     let waits : has v.pending job ≡ false = sym c.leave-waited.ensures.was ∙ c.if-waited.false in
     let runs_on : runs v.running job ≡ false = ap (λ xs. runs xs job) (sym c.deref.ensures.value) ∙ sym c.runs.ensures ∙ c.if-runs.false in

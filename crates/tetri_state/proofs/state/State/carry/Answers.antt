@@ -12,12 +12,12 @@ use Rattle.tetri_state.proofs.ReachedLemmas.{early_begun, stands_begun}
 use Rattle.tetri_state.proofs.SearchLemmas.{never_fall}
 use Rattle.tetri_state.proofs.state.State.carry.Goals as goal
 
-pub grants_of-requires : goal.grants_of-requires
-grants_of-requires c =
-    let s : Snapshot = c.args.self.now in
-    let pending : c.deref.result.now ≡ s.pending = c.deref.ensures.value ∙ ap (λ (r : Snapshot). r.pending) c.self.view_is in
-    subst (IsNonDecreasingBy (λ (n : ℕ). n)) (sym pending)
-    (never_fall s.pending (ascend_to s.pending (stands_begun (scenario c.args.trace.now) s c.requires.sound c.requires.reached).ascending))
+pub still_pending-kept-requires : goal.still_pending-kept-requires
+still_pending-kept-requires c =
+    let t = scenario c.args.trace.now in
+    let s = c.args.self.now in
+    subst IsSoundSpace (sym c.requires.instance)
+    (instance_sound t s c.requires.sound (stands_begun t s c.requires.sound c.requires.reached) (early_begun t s c.requires.sound c.requires.reached))
 
 pub lawful-requires : goal.lawful-requires
 lawful-requires c =
@@ -31,27 +31,21 @@ returns-in-Ok-clause-carry c =
     let t = scenario c.args.trace.now in
     let s : Snapshot = c.args.self.now in
     carried t s c.requires.sound (stands_begun t s c.requires.sound c.requires.reached) (space c.args.inst.now) c.requires.instance c.in_ok-kept.kept
-    c.as_slice.result.now c.deref.result.now
-    (c.deref.ensures.value ∙ ap (λ (r : Snapshot). r.pending) c.self.view_is)
-    (c.as_slice.ensures ∙ ap (λ (r : Snapshot). r.plan) c.self.view_is) c.in_ok-kept.ensures (c.lawful.ensures.ok.0 (ap is_ok c.in-Ok.is))
+    c.as_slice.result.now (c.as_slice.ensures ∙ ap (λ (r : Snapshot). r.plan) c.self.view_is) c.in_ok-kept.ensures (c.lawful.ensures.ok.0 (ap is_ok c.in-Ok.is))
 
 pub returns-in-Ok-clause-thrifty : goal.returns-in-Ok-clause-thrifty
 returns-in-Ok-clause-thrifty c =
     let t = scenario c.args.trace.now in
     let s : Snapshot = c.args.self.now in
     carried_thrifty t s c.requires.sound (stands_begun t s c.requires.sound c.requires.reached) (space c.args.inst.now) c.requires.instance c.in_ok-kept.kept
-    c.as_slice.result.now c.deref.result.now
-    (c.deref.ensures.value ∙ ap (λ (r : Snapshot). r.pending) c.self.view_is)
-    (c.as_slice.ensures ∙ ap (λ (r : Snapshot). r.plan) c.self.view_is) c.in_ok-kept.ensures
+    c.as_slice.result.now (c.as_slice.ensures ∙ ap (λ (r : Snapshot). r.plan) c.self.view_is) c.in_ok-kept.ensures
 
 pub returns-in-Err-clause-carry : goal.returns-in-Err-clause-carry
 returns-in-Err-clause-carry c =
     let t = scenario c.args.trace.now in
     let s : Snapshot = c.args.self.now in
     carried_none t s c.requires.sound (stands_begun t s c.requires.sound c.requires.reached) (space c.args.inst.now) c.requires.instance c.in_ok-kept.kept
-    c.as_slice.result.now c.deref.result.now
-    (c.deref.ensures.value ∙ ap (λ (r : Snapshot). r.pending) c.self.view_is)
-    (c.as_slice.ensures ∙ ap (λ (r : Snapshot). r.plan) c.self.view_is) c.in_ok-kept.ensures c.new.result c.new.ensures
+    c.as_slice.result.now (c.as_slice.ensures ∙ ap (λ (r : Snapshot). r.plan) c.self.view_is) c.in_ok-kept.ensures c.new.result c.new.ensures
     (λ lawful. let e = sym (ap is_ok c.in-Err.is) ∙ c.lawful.ensures.ok.1 lawful in absurd cc)
 
 pub returns-in-Err-clause-thrifty : goal.returns-in-Err-clause-thrifty

@@ -9,7 +9,7 @@ use Rattle.tetri_space.specs.Space.{Space, leaf_in, space}
 use Rattle.tetri_trace.specs.Scenario.{Scenario, scenario}
 use Rattle.tetri_state.specs.declared.pieces.Piece.{Piece}
 use Rattle.tetri_state.specs.After.{new_pieces, piece_of}
-use Rattle.tetri_state.specs.Begin.{has}
+use Rattle.tetri_base.specs.Lists.{has}
 use Rattle.tetri_state.specs.Launch.{start_of, starts_now}
 use Rattle.tetri_state.specs.Planning.{instance_of}
 use Rattle.tetri_state.specs.Reached.{IsPlan}
