@@ -92,6 +92,7 @@ pub cycle_printable : (t : Scenario) (i : Space) (carry : List Grant) (b : Block
 cycle_printable t i carry b budget is jobs plan tops = record {
   ended = jobs.ended;
   cancelled = jobs.cancelled;
+  failed = jobs.failed;
   over = jobs.over;
   expired = jobs.expired;
   grants = All-weaker (IsLawfulGrant i) (IsPrintableGrant t) (grant_printable t i is) b.grants plan.honest.lawful.grants;
