@@ -12,6 +12,3 @@ pub use judging::judge;
 pub use laws::plans_have_one_verdict;
 pub use places::place_of;
 pub use verdict::Verdict;
-
-#[cfg(test)]
-mod tests;
