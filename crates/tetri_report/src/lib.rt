@@ -17,5 +17,4 @@ pub use cycle::{Cycle, Summary};
 pub use differences::{Expected, first_other_line, plan_place};
 pub use laws::{printed_lines_are_short, printed_reports_read_back};
 pub use print::print_cycle;
-pub use ranges::cycle_is_in_range;
 pub use summary::print_summary;

@@ -2,7 +2,7 @@
 ghost use Rattle.std.specs.Prelude.{◌≡◌, ◌++◌, ◌<◌, ◌≤◌, OnOk, string_bytes, length, All, map, flat_map};
 ghost use Rattle.tetri_cert.specs.Text.{mark_text};
 ghost use Rattle.tetri_cluster.specs.Cluster.{name_at};
-ghost use Rattle.tetri_report.specs.Printable.{AreJobs, ArePieces, IsPrintableGrant};
+ghost use Rattle.tetri_report.specs.Printable.{AreJobs, ArePieces, GrantSmallLeaves, HaveSmallLeaves, IsPrintableGrant};
 ghost use Rattle.tetri_report.specs.Text.{cycle_line, plan_line, name_line, leaf_line, joined, granted_line, job_name, job_line, piece_line, grant_line, grant_lines};
 ghost use Rattle.tetri_trace.specs.Scenario.{scenario};
 
@@ -77,7 +77,8 @@ pub(crate) fn add_piece_lines(
     pieces: &[PieceId],
 ) -> Result<(), AllocError>
     requires { ArePieces (scenario trace.now) pieces.now }
-    ensures { OnOk result (string_bytes out.new ≡ string_bytes out.old ++ flat_map (piece_line (scenario trace.entry.now) word.now) pieces.now) }
+    ensures text { OnOk result (string_bytes out.new ≡ string_bytes out.old ++ flat_map (piece_line (scenario trace.entry.now) word.now) pieces.now) }
+    ensures in_range { OnOk result (HaveSmallLeaves pieces.now) }
 {
     for piece in pieces {
         add_leaf_line(out, word, name_of(trace, piece.job), piece.leaf)?;
@@ -126,7 +127,8 @@ pub(crate) fn add_grant_lines(
 ) -> Result<(), AllocError>
     requires printable { All (IsPrintableGrant (scenario trace.now)) grants.now }
     requires starts { length starts.now ≡ length grants.now }
-    ensures { OnOk result (string_bytes out.new ≡ string_bytes out.old ++ grant_lines (scenario trace.entry.now) grants.now starts.now) }
+    ensures text { OnOk result (string_bytes out.new ≡ string_bytes out.old ++ grant_lines (scenario trace.entry.now) grants.now starts.now) }
+    ensures in_range { OnOk result (GrantSmallLeaves grants.now) }
 {
     for (i, grant) in grants.iter().enumerate() {
         add_grant_line(out, trace, grant, starts[i])?;

@@ -62,9 +62,9 @@ returns-clause-ready c =
         bounded = subst (λ (i : Space). BoundsEveryLawful i b.bound) is c.in_ok-told.ensures.bounded;
         by_tops = c.in_ok-told.ensures.by_tops;
         kept_for = subst (λ (i : Space). IsKeptFor i carry b) is c.in_ok-told.ensures.kept;
-        in_range = c.cycle_is_in_range.ensures;
+        in_range = c.in_ok-text.ensures.in_range;
       };
-      text = c.in_ok-text.ensures;
+      text = c.in_ok-text.ensures.text;
       launch = subst (λ (q : Snapshot). IsLaunchOf t q b.grants c.in_ok-prepared.prepared) begun c.in_ok-prepared.ensures.launch;
       fits = subst (λ (q : Snapshot). Fits q c.in_ok-prepared.prepared) begun c.in_ok-prepared.ensures.fits;
       worth = c.in_ok-told.ensures.worth ∙ ap (λ (i : Space). worth_launched i b.grants) is;
