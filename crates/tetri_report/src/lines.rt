@@ -1,5 +1,5 @@
 // The lines of a cycle.
-ghost use Rattle.std.specs.Prelude.{◌≡◌, ◌++◌, ◌<◌, ◌≤◌, OnOk, string_bytes, length, All, map, flat_map};
+ghost use Rattle.std.specs.Prelude.{◌≡◌, ◌++◌, ◌<◌, ◌≤◌, ◌^◌, OnOk, string_bytes, length, All, map, flat_map};
 ghost use Rattle.tetri_cert.specs.Text.{mark_text};
 ghost use Rattle.tetri_cluster.specs.Cluster.{name_at};
 ghost use Rattle.tetri_report.specs.Printable.{AreJobs, ArePieces, GrantSmallLeaves, HaveSmallLeaves, IsPrintableGrant};
@@ -43,7 +43,8 @@ fn add_name_line(out: &mut String, word: &str, name: &str) -> Result<(), AllocEr
 
 #[tactic(auto, unfolding(crate::specs::Text::leaf_line))]
 fn add_leaf_line(out: &mut String, word: &str, name: &str, leaf: u32) -> Result<(), AllocError>
-    ensures { OnOk result (string_bytes out.new ≡ string_bytes out.old ++ leaf_line word.now name.now leaf) }
+    ensures text { OnOk result (string_bytes out.new ≡ string_bytes out.old ++ leaf_line word.now name.now leaf) }
+    ensures in_range { leaf < 2 ^ 32 }
 {
     write!(out, "{word} {name} {leaf}\n")
 }
@@ -110,7 +111,8 @@ fn add_grant_line(
     start: u32,
 ) -> Result<(), AllocError>
     requires { IsPrintableGrant (scenario trace.now) grant.now }
-    ensures { OnOk result (string_bytes out.new ≡ string_bytes out.old ++ grant_line (scenario trace.entry.now) grant.now start) }
+    ensures text { OnOk result (string_bytes out.new ≡ string_bytes out.old ++ grant_line (scenario trace.entry.now) grant.now start) }
+    ensures in_range { grant.now.leaf < 2 ^ 32 }
 {
     let name = name_of(trace, grant.job);
     let leaf = grant.leaf;
