@@ -28,17 +28,17 @@ module _ (t : Scenario) where
       let here : get_or t.submissions from nothing_submitted ≡ j = ap (λ i. get_or t.submissions i nothing_submitted) (omega arith) ∙ same 0 nothing_submitted (omega arith) in
       ((omega arith, ap (λ (s : Submission). s.arrival) here), rest)
 
+  first_arrival : (at : ℕ) (what : Happening) (es : List Event) → Each (λ a. ArrivesAt a.0 a.1) (filter_map arrival_in (record { at = at; what = what } ∷ es)) →
+      OfArrival (ArrivesAt at) what × Each (λ a. ArrivesAt a.0 a.1) (filter_map arrival_in es)
+  first_arrival at (Arrive job) es all = all
+  first_arrival at (Cancel job) es all = (tt, all)
+  first_arrival at (Drain node) es all = (tt, all)
+  first_arrival at (Undrain node) es all = (tt, all)
+  first_arrival at (Fail node) es all = (tt, all)
+
   each_arrival : (es : List Event) → Each (λ a. ArrivesAt a.0 a.1) (filter_map arrival_in es) → Each (λ e. OfArrival (ArrivesAt e.at) e.what) es
   each_arrival [] each = tt
-  each_arrival (e ∷ es) each = by_kind e.at e.what each
-    where
-      by_kind : (at : ℕ) (what : Happening) → Each (λ a. ArrivesAt a.0 a.1) (filter_map arrival_in (record { at = at; what = what } ∷ es)) →
-          OfArrival (ArrivesAt at) what × Each (λ f. OfArrival (ArrivesAt f.at) f.what) es
-      by_kind at (Arrive job) all = (all.0, each_arrival es all.1)
-      by_kind at (Cancel job) all = (tt, each_arrival es all)
-      by_kind at (Drain node) all = (tt, each_arrival es all)
-      by_kind at (Undrain node) all = (tt, each_arrival es all)
-      by_kind at (Fail node) all = (tt, each_arrival es all)
+  each_arrival (e ∷ es) each = let first = first_arrival e.at e.what es each in (first.0, each_arrival es first.1)
 
   -- those that arrive in a slot are there
   pub arrive_now : IsSound t → (now : ℕ) → Each (λ e. OfArrival (ArrivesAt now) e.what) (events_at t now)

@@ -1,6 +1,7 @@
 -- What holds in each state that a run reaches.
 use Rattle.std.proofs.Common.{◌≡◌, ℕ, ◌+◌, ◌<◌, ◌≤◌, ◌==◌, Some, length, map, not, All, sym, subst, arith}
 use Rattle.std.specs.List.{find}
+use Rattle.std.specs.List.Sorted.{IsStrictlyIncreasing}
 use Rattle.tetri_strl.specs.declared.expr.Leaf.{Leaf}
 use Rattle.tetri_strl.specs.declared.grants.Grant.{Grant}
 use Rattle.tetri_strl.specs.Tree.{leaves}
@@ -8,10 +9,10 @@ use Rattle.tetri_strl.specs.Thrifty.{IsThriftyFor}
 use Rattle.tetri_trace.specs.Scenario.{Scenario}
 use Rattle.tetri_trace.specs.Sound.{IsSound}
 use Rattle.tetri_state.specs.declared.pieces.Piece.{Piece}
-use Rattle.tetri_state.specs.Begin.{begin, events_at, has_ended, has_expired, holder_in, named, prolonged, running_on, runs, staying, turn, unturned}
+use Rattle.tetri_state.specs.Begin.{begin, events_at, has_ended, has_expired, holder_in, named, occurring, prolonged, running_on, runs, staying, turn, unturned}
 use Rattle.tetri_state.specs.Snapshot.{Snapshot, demanded}
 use Rattle.tetri_state.proofs.ArrivalLemmas.{ArrivedBefore, arrivals_before, arrived_later}
-use Rattle.tetri_state.proofs.Ascending.{Ascend, ascend_filter, each_filtered}
+use Rattle.tetri_state.proofs.Ascending.{Ascend, ascend_filter, ascend_to, each_filtered}
 use Rattle.tetri_state.proofs.PieceLemmas.{NoneShare, each_mapped, each_of, prolonged-ahead, prolonged-job, prolonged-nodes, prolonged-within, share_filter, share_prolonged}
 use Rattle.tetri_state.proofs.SoundLemmas.{happen_all-pending, held_of}
 use Rattle.tetri_state.proofs.ToldLemmas.{Each, each_weaker, in_order-rises}
@@ -53,6 +54,9 @@ module _ (t : Scenario) (s : Snapshot) (sound : IsSound t) (stands : Stands t s.
       happen_all-pending (ArrivedBefore t (s.now + 1)) (holder_in (running_on s)) (held_of (ArrivedBefore t (s.now + 1)) (running_on s) ran_later)
       (events_at t s.now) (unturned s) (arrivals_before t sound s.now)
       (each_weaker (ArrivedBefore t s.now) (ArrivedBefore t (s.now + 1)) (arrived_later t s.now) s.pending stands.arrived)
+
+  pub expired_ascends : IsStrictlyIncreasing (occurring t s).expired
+  expired_ascends = ascend_to (occurring t s).expired (ascend_filter (has_expired t s.now) (turn t s).pending turn_keeps.pending)
 
   -- once its slot has begun
   pub begin_stands : s.now < 10000 → Stands t (s.now + 1) (begin t s)

@@ -14,10 +14,7 @@ use Rattle.tetri_state.proofs.Ascending.{Ascend, ascend_filter, put-ascend}
 pub cancel_passed : (job : ℕ) (v : Turn) → has v.pending job ≡ false → runs v.running job ≡ false → cancel job v ≡ v
 cancel_passed job v waits runs_on = by_tests (has v.pending job) (runs v.running job) waits runs_on
   where
-    abbrev left : Turn
-    left = record v { pending = without job v.pending; running = but_of job v.running; cancelled = v.cancelled ++ job ∷ [] }
-
-    by_tests : (s t : Bool) → s ≡ false → t ≡ false → cond (s || t) left v ≡ v
+    by_tests : (s t : Bool) → s ≡ false → t ≡ false → cond (s || t) (record v { pending = without job v.pending; running = but_of job v.running; cancelled = v.cancelled ++ job ∷ [] }) v ≡ v
     by_tests true t p q = absurd cc
     by_tests false true p q = absurd cc
     by_tests false false p q = refl
@@ -35,10 +32,7 @@ cancel_done job v some = by_test (has v.pending job || runs v.running job) some
 pub fail_passed : (job : ℕ) (v : Turn) → runs v.running job ≡ false → fail job v ≡ v
 fail_passed job v runs_on = by_test (runs v.running job) runs_on
   where
-    abbrev left : Turn
-    left = record v { pending = put_number job v.pending; running = but_of job v.running; failed = v.failed ++ job ∷ [] }
-
-    by_test : (t : Bool) → t ≡ false → cond t left v ≡ v
+    by_test : (t : Bool) → t ≡ false → cond t (record v { pending = put_number job v.pending; running = but_of job v.running; failed = v.failed ++ job ∷ [] }) v ≡ v
     by_test true p = absurd cc
     by_test false p = refl
 

@@ -53,13 +53,13 @@ impl State {
     /// Begins the cycle of the slot: pieces that really end do so, the events of the slot happen, pieces that run longer
     /// than expected are prolonged, and pending jobs whose remaining leaves are worth nothing expire. Its only error is want
     /// of memory, which changes nothing.
-    #[tactic(auto, using(crate::proofs::ReachedLemmas::begin_reached))]
     pub fn begin_cycle(&mut self, alloc: Global, trace: &Trace) -> Result<Happened, AllocError>
         requires sound { IsSound (scenario trace.now) }
         requires reached { IsReached (scenario trace.now) moment.between self.old }
         requires more { self.old.now < (scenario trace.now).header.until }
         ensures state { OnOk result (self.new ≡ begin (scenario trace.entry.now) self.old) }
         ensures happened { IfOk result (λ h. occurrences h ≡ occurring (scenario trace.entry.now) self.old) }
+        ensures expired { IfOk result (λ h. IsStrictlyIncreasing h.expired.items) }
         ensures reached { OnOk result (IsReached (scenario trace.entry.now) moment.begun self.new) }
         ensures err { OnErr result (self.new ≡ self.old) }
     {

@@ -1,10 +1,14 @@
-use Rattle.std.proofs.Common.{◌+◌}
+use Rattle.std.proofs.Common.{◌≡◌, ◌+◌, ap, subst, sym}
+use Rattle.std.specs.List.Sorted.{IsStrictlyIncreasing}
+use Rattle.std.proofs.lemmas.Result.{on_ok_weaker}
 use Rattle.tetri_trace.specs.Scenario.{scenario}
-use Rattle.tetri_state.specs.Begin.{turn}
+use Rattle.tetri_state.specs.declared.happened.Happened.{Happened}
+use Rattle.tetri_state.specs.Begin.{Occurrences, occurrences, occurring, turn}
+use Rattle.tetri_state.specs.Reached.{IsReached, begun}
 use Rattle.tetri_state.proofs.ArrivalLemmas.{ArrivedBefore}
 use Rattle.tetri_state.proofs.Ascending.{ascend_to}
-use Rattle.tetri_state.proofs.ReachedLemmas.{stands_between}
-use Rattle.tetri_state.proofs.StandLemmas.{IsWithin, turn_arrived}
+use Rattle.tetri_state.proofs.ReachedLemmas.{begin_reached, if_ok, stands_between}
+use Rattle.tetri_state.proofs.StandLemmas.{IsWithin, expired_ascends, turn_arrived}
 use Rattle.tetri_state.proofs.ToldLemmas.{each_at}
 use Rattle.tetri_state.proofs.state.State.begin_cycle.Goals as goal
 
@@ -27,3 +31,17 @@ begin-requires-clause-nodes c =
     let t = scenario c.args.trace.now in
     let s = c.args.self.now in
     λ k d lt. (each_at (IsWithin t) s.pieces k d lt (stands_between t s c.requires.sound c.requires.reached).pieces).nodes
+
+pub returns-clause-reached : goal.returns-clause-reached
+returns-clause-reached c =
+    let t = scenario c.args.trace.now in
+    let s = c.args.self.now in
+    on_ok_weaker c.begin.result (λ is. subst (IsReached t begun) (sym is) (begin_reached t s c.requires.reached c.requires.more)) c.begin.ensures.state
+
+pub returns-clause-expired : goal.returns-clause-expired
+returns-clause-expired c =
+    let t = scenario c.args.trace.now in
+    let s = c.args.self.now in
+    let ascends = expired_ascends t s c.requires.sound (stands_between t s c.requires.sound c.requires.reached) in
+    if_ok (λ (h : Happened). occurrences h ≡ occurring t s) (λ (h : Happened). IsStrictlyIncreasing h.expired.items)
+    (λ h is. subst IsStrictlyIncreasing (sym (ap (λ (o : Occurrences). o.expired) is)) ascends) c.begin.result c.begin.ensures.happened

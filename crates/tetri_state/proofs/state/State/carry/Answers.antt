@@ -12,8 +12,8 @@ use Rattle.tetri_state.proofs.ReachedLemmas.{early_begun, stands_begun}
 use Rattle.tetri_state.proofs.SearchLemmas.{never_fall}
 use Rattle.tetri_state.proofs.state.State.carry.Goals as goal
 
-pub still_pending-kept-requires : goal.still_pending-kept-requires
-still_pending-kept-requires c =
+pub still_pending-requires : goal.still_pending-requires
+still_pending-requires c =
     let t = scenario c.args.trace.now in
     let s = c.args.self.now in
     subst IsSoundSpace (sym c.requires.instance)
