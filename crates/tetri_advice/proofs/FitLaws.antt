@@ -17,7 +17,8 @@ use Rattle.tetri_strl.proofs.PartsApart.{left_pairs, right_pairs, across_pairs}
 use Rattle.tetri_strl.proofs.WorthLemmas.{eq_from_test}
 use Rattle.tetri_space.specs.Space.{Space, set_of}
 use Rattle.tetri_space.proofs.LawfulLemmas.{AllPairs-append}
-use Rattle.tetri_advice.specs.Fit.{Placement, all_fit, best_fit, better, enough, fit_beside, fit_of_leaf, fit_worth, fits, is_available, is_free_from, is_held, is_held_by, is_live, lowest}
+use Rattle.tetri_space.specs.Free.{is_free_throughout}
+use Rattle.tetri_advice.specs.Fit.{Placement, all_fit, best_fit, better, enough, fit_beside, fit_of_leaf, fit_worth, fits, is_available, is_held, is_held_by, is_live, lowest}
 
 and_left : (a b : Bool) → (a && b) ≡ true → a ≡ true
 and_left true b e = refl
@@ -71,7 +72,7 @@ module _ (s : Space) (job : ℕ) (taken : Leaf → ℕ → Bool) where
     pub few : length p.nodes ≤ p.leaf.k
     pub ascending : IsStrictlyIncreasing p.nodes
     pub in_set : All (Contains (set_of s p.leaf)) p.nodes
-    pub free : All (λ n. is_free_from s p.leaf.start n ≡ true) p.nodes
+    pub free : All (λ n. is_free_throughout s p.leaf n ≡ true) p.nodes
     pub not_taken : All (λ n. taken p.leaf n ≡ false) p.nodes
 
   module _ (Before : Leaf → Leaf → Type 0) where
@@ -177,8 +178,8 @@ module _ (s : Space) (job : ℕ) (taken : Leaf → ℕ → Bool) where
           placed : Placement
           placed = record { leaf = l; nodes = nodes }
 
-          front_of : (n : ℕ) → is_available s taken held l n ≡ true → (is_free_from s l.start n && not (taken l n)) ≡ true
-          front_of n e = and_left (is_free_from s l.start n && not (taken l n)) (not (is_held held l n)) e
+          front_of : (n : ℕ) → is_available s taken held l n ≡ true → (is_free_throughout s l n && not (taken l n)) ≡ true
+          front_of n e = and_left (is_free_throughout s l n && not (taken l n)) (not (is_held held l n)) e
 
           own : IsRight placed
           own = record {
@@ -190,17 +191,17 @@ module _ (s : Space) (job : ℕ) (taken : Leaf → ℕ → Bool) where
             in_set =
                 All-take (Contains (set_of s l)) l.k (filter (is_available s taken held l) (set_of s l))
                 (All-filter (is_available s taken held l) (Contains (set_of s l)) (set_of s l) (All-contains_itself (set_of s l)));
-            free = All-weaker (λ n. is_available s taken held l n ≡ true) (λ n. is_free_from s l.start n ≡ true)
-                (λ n e. and_left (is_free_from s l.start n) (not (taken l n)) (front_of n e)) nodes open_nodes;
+            free = All-weaker (λ n. is_available s taken held l n ≡ true) (λ n. is_free_throughout s l n ≡ true)
+                (λ n e. and_left (is_free_throughout s l n) (not (taken l n)) (front_of n e)) nodes open_nodes;
             not_taken =
                 All-weaker (λ n. is_available s taken held l n ≡ true) (λ n. taken l n ≡ false)
-                (λ n e. not_true (taken l n) (and_right (is_free_from s l.start n) (not (taken l n)) (front_of n e))) nodes open_nodes;
+                (λ n e. not_true (taken l n) (and_right (is_free_throughout s l n) (not (taken l n)) (front_of n e))) nodes open_nodes;
           }
 
           apart : IsBeside held placed
           apart =
               All-weaker (λ n. is_available s taken held l n ≡ true) (λ n. is_held held l n ≡ false)
-              (λ n e. not_true (is_held held l n) (and_right (is_free_from s l.start n && not (taken l n)) (not (is_held held l n)) e)) nodes open_nodes
+              (λ n e. not_true (is_held held l n) (and_right (is_free_throughout s l n && not (taken l n)) (not (is_held held l n)) e)) nodes open_nodes
       fit-leaf_with true false live all = fit-nothing held (l ∷ [])
       fit-leaf_with false b live all = fit-nothing held (l ∷ [])
 

@@ -7,7 +7,8 @@ use Rattle.tetri_strl.specs.Aligned.{EachLeaf, EachLeafOf}
 use Rattle.tetri_strl.specs.Tree.{greatest, least, added, Tree, one, join, scale, barrier, Trees, none, more}
 use Rattle.tetri_strl.specs.WellMade.{IsGoodLeaf}
 use Rattle.tetri_space.specs.Space.{Space, set_of}
-use Rattle.tetri_advice.specs.Fit.{Placement, all_fit, best_fit, better, enough, fit_beside, fit_of_leaf, fit_worth, fits, is_available, is_free_from, is_held, is_live, lowest}
+use Rattle.tetri_space.specs.Free.{is_free_throughout}
+use Rattle.tetri_advice.specs.Fit.{Placement, all_fit, best_fit, better, enough, fit_beside, fit_of_leaf, fit_worth, fits, is_available, is_held, is_live, lowest}
 
 filter-same : (p q : ℕ → Bool) (xs : List ℕ) → ((n : ℕ) → p n ≡ q n) → filter p xs ≡ filter q xs
 filter-same p q [] same = refl
@@ -22,7 +23,7 @@ module _ (s : Space) (job : ℕ) (f g : Leaf → ℕ → Bool) (same : (l : Leaf
       below e = grind (arith, nat_tests)
 
       by_there : (t : Bool) → nat_lt n s.nodes ≡ t → is_available s f held l n ≡ is_available s g held l n
-      by_there true e = ap (λ b. is_free_from s l.start n && not b && not (is_held held l n)) (same l n live some (below e))
+      by_there true e = ap (λ b. is_free_throughout s l n && not b && not (is_held held l n)) (same l n live some (below e))
       by_there false e = rw e refl
 
   leaf-same : (held : List Placement) (l : Leaf) → 1 ≤ l.dur → fit_of_leaf s f held l ≡ fit_of_leaf s g held l

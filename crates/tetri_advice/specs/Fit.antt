@@ -1,10 +1,11 @@
 -- The fit of an expression: greedily, the lowest nodes that are free beside what is held already.
-use Rattle.std.specs.Prelude.{ℕ, ◌+◌, ◌==◌, ◌&&◌, List, [], ◌∷◌, ◌++◌, map, filter, take, length, slice_index, slice_get, Bool, true, false, not, nat_lt, nat_le, if◌then◌else◌, Option, Some, None}
+use Rattle.std.specs.Prelude.{ℕ, ◌+◌, ◌==◌, ◌&&◌, List, [], ◌∷◌, ◌++◌, map, filter, take, length, Bool, true, false, not, nat_lt, nat_le, if◌then◌else◌}
 use Rattle.std.specs.List.{list_any}
 use Rattle.tetri_strl.specs.declared.expr.Leaf.{Leaf}
 use Rattle.tetri_strl.specs.declared.grants.Grant.{Grant}
 use Rattle.tetri_strl.specs.Tree.{greatest, least, added, Tree, one, join, scale, barrier, Trees, none, more}
 use Rattle.tetri_strl.specs.Worth.{worth_of}
+use Rattle.tetri_space.specs.Free.{is_free_throughout}
 use Rattle.tetri_space.specs.Space.{Space, set_of}
 
 -- a leaf with the nodes that it is to get
@@ -21,14 +22,6 @@ grants_of job ps = map (grant_of job) ps
 -- the leaf starts in the window
 abbrev pub is_live : Space → Leaf → Bool
 is_live s l = nat_le s.now l.start && nat_lt l.start (s.now + s.window)
-
-abbrev pub is_open : Option Bool → Bool
-is_open None = false
-is_open (Some drained) = not drained
-
--- the node is free from this slot on
-abbrev pub is_free_from : Space → ℕ → ℕ → Bool
-is_free_from s slot n = nat_lt n s.nodes && is_open (slice_get s.drained n) && nat_le (slice_index s.busy_until n) slot
 
 -- two leaves have a slot in common
 abbrev pub overlap : Leaf → Leaf → Bool
@@ -58,7 +51,7 @@ better best next = if nat_lt best.0 next.0 then next else best
 module _ (s : Space) (taken : Leaf → ℕ → Bool) where
   -- the node is free, and not held, in every slot of the leaf
   abbrev pub is_available : List Placement → Leaf → ℕ → Bool
-  is_available held l n = is_free_from s l.start n && not (taken l n) && not (is_held held l n)
+  is_available held l n = is_free_throughout s l n && not (taken l n) && not (is_held held l n)
 
   -- the lowest nodes of the leaf's set that are available, at most `k`
   abbrev pub lowest : List Placement → Leaf → List ℕ

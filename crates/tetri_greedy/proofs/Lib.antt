@@ -1,4 +1,3 @@
-pub mod Free
 pub mod Marks
 pub mod Masks
 pub mod Overlaps

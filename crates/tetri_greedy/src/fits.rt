@@ -4,6 +4,7 @@ ghost use Rattle.std.specs.List.Sorted.{IsStrictlyIncreasing};
 ghost use Rattle.tetri_advice.specs.Fit.{all_fit, best_fit, enough, fit_beside, fit_worth, fits, is_available, is_live, lowest};
 ghost use Rattle.tetri_greedy.specs.Fitted.{grown, with_fit};
 ghost use Rattle.tetri_greedy.specs.Held.{is_marked};
+ghost use Rattle.tetri_space.specs.Free.{is_free_throughout};
 ghost use Rattle.tetri_space.specs.Sound.{HasKnownSet, IsSound};
 ghost use Rattle.tetri_space.specs.Space.{space};
 ghost use Rattle.tetri_strl.specs.Aligned.{EachLeaf, EachLeafOf};
@@ -13,7 +14,7 @@ ghost use Rattle.tetri_strl.specs.WellMade as made;
 use crate::fitted::Placements;
 use crate::held::HeldSlots;
 use std::alloc::{AllocError, Global};
-use tetri_space::{Instance, free};
+use tetri_space::{Instance, free_throughout};
 use tetri_strl::{Expr, Leaf, NodeList};
 
 // Whether the leaf starts in the window.
@@ -35,12 +36,13 @@ fn is_enough(leaf: &Leaf, count: usize) -> bool
     }
 }
 
-// Whether the node is free from the slot on.
-fn is_free(inst: &Instance, node: u32, slot: u32) -> bool
-    requires { IsSound (space inst.now) }
-    ensures { result ≡ Rattle.tetri_advice.specs.Fit.is_free_from (space inst.entry.now) slot node }
+// Whether the node is free in every slot of the leaf.
+fn is_free(inst: &Instance, leaf: &Leaf, node: u32) -> bool
+    requires sound { IsSound (space inst.now) }
+    requires good { made.IsGoodLeaf leaf.now }
+    ensures { result ≡ is_free_throughout (space inst.entry.now) leaf.now node }
 {
-    free(inst, node, slot)
+    free_throughout(inst, leaf, node)
 }
 
 // Whether the node is free, and not held, in every slot of the live leaf.
@@ -52,7 +54,7 @@ fn is_open(inst: &Instance, held: &HeldSlots, own: &Placements, leaf: &Leaf, nod
     ensures { result
         ≡ is_available (space inst.entry.now) (is_marked held.now (space inst.entry.now).now) own.now.placements leaf.now node }
 {
-    is_free(inst, node, leaf.start) && !held.holds(inst.now, leaf, node) && !own.holds(leaf, node)
+    is_free(inst, leaf, node) && !held.holds(inst.now, leaf, node) && !own.holds(leaf, node)
 }
 
 // The lowest nodes that are open to the live leaf, at most `k`.

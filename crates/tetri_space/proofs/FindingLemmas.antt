@@ -1,5 +1,5 @@
 -- Steps of the loops that find the partitions.
-use Rattle.std.proofs.Common.{bytes_eq, length-drop, ◌≡◌, ℕ, suc, ◌+◌, ◌<◌, ◌==◌, ◌&&◌, ◌||◌, Bool, true, false, cond, List, [], ◌∷◌, ◌++◌, length, map, get_or, set, drop, All, Contains, Vec, Global, Some, None, refl, sym, ap, ◌∙◌, arith, true≢false, inl, inr}
+use Rattle.std.proofs.Common.{bytes_eq, length-drop, ◌≡◌, ℕ, suc, ◌+◌, ◌<◌, ◌≤◌, ◌==◌, ◌&&◌, ◌||◌, Bool, true, false, cond, List, [], ◌∷◌, ◌++◌, length, map, get_or, set, drop, All, Contains, Vec, Global, Some, None, refl, sym, ap, ◌∙◌, arith, true≢false, inl, inr}
 use Rattle.std.specs.List.{list_any, filter, position, range_with_len}
 use Rattle.std.proofs.lemmas.List.Quantifiers.{position-Some}
 use Rattle.std.proofs.lemmas.Slice.Eq.{bytes_eq-Decides}
@@ -17,12 +17,14 @@ use Rattle.tetri_strl.specs.Tree.{leaves, tree}
 use Rattle.tetri_strl.specs.Prune.{pruned}
 use Rattle.tetri_strl.specs.Aligned.{EachLeaf}
 use Rattle.tetri_strl.proofs.WorthLemmas.{EachLeaf-from}
-use Rattle.tetri_space.specs.Finding.{has_some, firsts, grouped, list_at}
+use Rattle.tetri_space.specs.Closed.{AreTurns}
+use Rattle.tetri_space.specs.Finding.{IsSigned, has_some, firsts, grouped, list_at}
 use Rattle.tetri_base.specs.Lists.{has, Each}
 use Rattle.tetri_space.specs.Partitions.{with_left, bids_left, sets_in}
-use Rattle.tetri_space.specs.Space.{bid}
+use Rattle.tetri_space.specs.Space.{Space, bid}
 use Rattle.tetri_space.specs.declared.instance.Offer.{Offer}
 use Rattle.tetri_space.proofs.BidLemmas.{next_bid}
+use Rattle.tetri_space.proofs.NodeLemmas.{never_falls}
 use Rattle.tetri_space.proofs.GroupLemmas.{range_next, group_empty, group_joined, group_new}
 use Rattle.tetri_space.proofs.PrunedLemmas.{sets_in_has}
 use Rattle.tetri_base.proofs.ListLaws.{any_from, Each-at, Each-from, EachPair-from, none_from, Each-map, test_from_ne}
@@ -78,6 +80,35 @@ put_next vs ps k j x old new rising lt within is grown =
         let within : k + 1 + at.0 < length ps = omega (arith, at.1, length-drop (k + 1) ps) in
         let less : get_or ps k 0 < get_or ps (k + 1 + at.0) 0 = AllPairs-from_increasing ps rising k (k + 1 + at.0) 0 (omega arith) within in
         omega (arith, less, get_or_default ps (k + 1 + at.0) q 0 within, there, at.2))
+
+-- a place that is not among the lists, and so none behind it
+pub past_lists : (ps : List ℕ) (k len j : ℕ) → IsStrictlyIncreasing ps → k < length ps → len ≤ get_or ps k 0 → j < len → has (drop k ps) j ≡ false
+past_lists ps k len j rising lt past below =
+    none_from (λ q. q == j) (drop k ps) (Each-from (λ q. (q == j) ≡ false) (drop k ps) (λ q at. test_from_ne q j (λ e.
+    let there : get_or (drop k ps) at.0 q ≡ get_or ps (k + at.0) q = get_or-drop k ps at.0 q in
+    let within : k + at.0 < length ps = omega (arith, at.1, length-drop k ps) in
+    omega (arith, never_falls ps rising k (k + at.0) (omega arith) within, get_or_default ps (k + at.0) q 0 within, there, at.2, e))))
+
+-- ---- signatures, one node further
+module _ (s : Space) (base n : ℕ) where
+  pub signed_none : (sets : List ℕ) → length sets ≡ 0 → IsSigned s base n sets sets
+  signed_none [] e = record { none = λ t. refl; some = λ t. absurd (true≢false (sym t)) }
+  signed_none (x ∷ xs) e = absurd (omega (arith, e))
+
+  pub signed_some : (sets signature : List ℕ) → (length sets ≡ 0 → ⊥) → (ts : List ℕ) → signature ≡ sets ++ ts → AreTurns s.closures n s.now base ts → IsSigned s base n sets signature
+  signed_some [] signature some ts is turns = absurd (some refl)
+  signed_some (x ∷ xs) signature some ts is turns = record { none = λ t. absurd (true≢false t); some = λ t. (ts, is, turns) }
+
+-- the list at a place where another is put
+pub put_here : (vs : List (Vec ℕ Global)) (i : ℕ) (v : Vec ℕ Global) → i < length vs → list_at (set vs i v) i ≡ v.items
+put_here vs i v lt =
+    ap (λ zs. get_or zs i []) (map-set (λ (w : Vec ℕ Global). w.items) vs i v)
+    ∙ get_or-set_same (map (λ (w : Vec ℕ Global). w.items) vs) i v.items [] (omega (arith, lt, length-map vs (λ (w : Vec ℕ Global). w.items)))
+
+pub put_other : (vs : List (Vec ℕ Global)) (i j : ℕ) (v : Vec ℕ Global) → (j ≡ i → ⊥) → list_at (set vs i v) j ≡ list_at vs j
+put_other vs i j v other =
+    ap (λ zs. get_or zs j []) (map-set (λ (w : Vec ℕ Global). w.items) vs i v)
+    ∙ get_or-set_other (map (λ (w : Vec ℕ Global). w.items) vs) i j v.items [] other
 
 -- ---- the offers that are left
 pub left_next : (from to : ℕ) (os : List Offer) (i : ℕ) (o : Offer) → i < length os → o ≡ get_or os i o →

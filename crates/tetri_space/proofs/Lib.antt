@@ -1,7 +1,9 @@
 pub mod BidLemmas
 pub mod ClashLemmas
+pub mod ClosedLaws
 pub mod ClosedLemmas
 pub mod FindingLemmas
+pub mod FirstLemmas
 pub mod FreeLemmas
 pub mod GroupLemmas
 pub mod JobLemmas

@@ -4,10 +4,7 @@ use Rattle.std.specs.List.Sorted.{IsStrictlyIncreasing}
 use Rattle.std.proofs.lemmas.Bool.{cases_lt}
 use Rattle.std.proofs.lemmas.List.{get_or-take, length-take, get_or_default}
 use Rattle.std.proofs.lemmas.List.Kept.{AllPairs-from_increasing}
-use Rattle.tetri_strl.specs.declared.expr.Leaf.{Leaf}
-use Rattle.tetri_space.specs.Space.{Space}
-use Rattle.tetri_space.specs.Free.{IsFree}
-use Rattle.tetri_space.specs.Broken.{IsLeast, IsFreeThroughout}
+use Rattle.tetri_space.specs.Broken.{IsLeast}
 
 -- of two places in an ascending list, the later one has no lesser node
 pub never_falls : (nodes : List ℕ) → IsStrictlyIncreasing nodes → (i j : ℕ) → i ≤ j → j < length nodes → get_or nodes i 0 ≤ get_or nodes j 0
@@ -38,17 +35,6 @@ least_failing P nodes i rising lt pass fails = record {
         omega (arith, never_falls nodes rising i at.0 behind at.1, at.2)
   ];
 }
-
--- a node that is free in the first slot is free in each
-pub free_throughout : (s : Space) (l : Leaf) (n : ℕ) → IsFree s n l.start → IsFreeThroughout s l n
-free_throughout s l n free slot covered = record {
-  there = free.there;
-  not_drained = free.not_drained;
-  idle = omega (arith, free.idle, covered.begun);
-}
-
-pub free_at_start : (s : Space) (l : Leaf) (n : ℕ) → 1 ≤ l.dur → IsFreeThroughout s l n → IsFree s n l.start
-free_at_start s l n some free = free l.start (record { begun = omega arith; not_over = omega arith })
 
 module _ (xs ys : List ℕ) (rising : IsStrictlyIncreasing xs) (others_rising : IsStrictlyIncreasing ys) (i j : ℕ) where
   -- a node below the next of the others, none of those before it being among the first list, is not among them

@@ -36,7 +36,7 @@ module _ (sets : List (List ℕ)) where
       all_from (λ s. same (has s m) (has s n)) sets
       (Each-map (λ s. has s m ≡ has s n) (λ s. same (has s m) (has s n) ≡ true) (λ s t. true-same (has s m) (has s n) t) sets h)
 
-  alike_self : (n : ℕ) → alike sets n n ≡ true
+  pub alike_self : (n : ℕ) → alike sets n n ≡ true
   alike_self n = alike_from n n (Each-all (λ s. has s n ≡ has s n) (λ s. refl) sets)
 
   agree_sym : (m n : ℕ) → Agree sets m n → Agree sets n m

@@ -15,7 +15,8 @@ use Rattle.tetri_space.specs.declared.rules.Rule.TheVariants.{NotPending, NotLiv
 use Rattle.tetri_space.specs.declared.rules.Unlawful.{Unlawful}
 use Rattle.tetri_space.specs.Space.{Bid, Space, set_of, leaf_in, IsLive, Covers}
 use Rattle.tetri_space.specs.Lawful.{MayBeGranted, IsLawfulGrant, AreApart, IsLawful}
-use Rattle.tetri_space.specs.Broken.{IsLeast, IsFreeThroughout, HasCommonSlot, NamesSameLeaf, ClashesAt, IsFirstClash, OfLeaf, Breaks, rank, IsFirstRule, IsBroken, IsFirstBroken}
+use Rattle.tetri_space.specs.Free.{IsFreeThroughout}
+use Rattle.tetri_space.specs.Broken.{IsLeast, HasCommonSlot, NamesSameLeaf, ClashesAt, IsFirstClash, OfLeaf, Breaks, rank, IsFirstRule, IsBroken, IsFirstBroken}
 use Rattle.tetri_space.proofs.LeafLemmas.{find-within, leaf_in-within}
 use Rattle.tetri_space.proofs.ClashLemmas.{value_in, of_value, at_value, all_at}
 

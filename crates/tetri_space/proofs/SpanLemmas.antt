@@ -1,12 +1,12 @@
 -- Spans of slots in which nodes are closed.
-use Rattle.std.proofs.Common.{◌≡◌, ◌⊎◌, ℕ, zero, suc, ◌+◌, ◌*◌, ◌^◌, ◌<◌, ◌≤◌, max, ◌==◌, ◌&&◌, ◌||◌, not, Bool, true, false, cond, List, [], ◌∷◌, ◌++◌, length, get_or, take, drop, All, AllPairs, Contains, refl, sym, ap, ◌∙◌, subst, arith, true≢false, inl, inr, ⊎_elim}
+use Rattle.std.proofs.Common.{◌≡◌, ◌⊎◌, ℕ, zero, suc, ◌+◌, ◌-◌, ◌*◌, ◌^◌, ◌<◌, ◌≤◌, max, ◌==◌, ◌&&◌, ◌||◌, not, Bool, true, false, cond, List, [], ◌∷◌, ◌++◌, length, get_or, take, drop, All, AllPairs, Contains, refl, sym, ap, ◌∙◌, subst, arith, true≢false, inl, inr, ⊎_elim}
 use Rattle.std.specs.Prelude.{nat_le, nat_lt}
 use Rattle.std.specs.Bool.{one_answer}
 use Rattle.std.specs.List.{list_any, range_with_len}
-use Rattle.std.specs.List.Sorted.{IsStrictlyIncreasing, IsPartitionedBy, IsPartitionPoint}
+use Rattle.std.specs.List.Sorted.{IsNonDecreasingBy, IsStrictlyIncreasing, IsPartitionedBy, IsPartitionPoint}
 use Rattle.std.proofs.lemmas.Bool.{cond_both, cases_Bool, cases_eq, cases_lt, cases_order, and_parts, and_from, or_right, or_cases, eq-eqb, ne_eqb, false_from_ne_true}
 use Rattle.std.proofs.lemmas.Bool.Decides.{nat_tests}
-use Rattle.std.proofs.lemmas.List.{append_assoc, take-append-drop, get_or-take, get_or-drop, length-take, length-drop, get_or_default}
+use Rattle.std.proofs.lemmas.List.{append_assoc, take-append-drop, get_or-take, get_or-drop, length-take, length-drop, drop_more, take_all, get_or_default}
 use Rattle.std.proofs.lemmas.List.Folds.{list_any-append}
 use Rattle.tetri_base.specs.Lists.{Each, EachPair, Ascends}
 use Rattle.tetri_base.proofs.ListLaws.{Each-append, Each-map, Each-at, Each-from, Each-get, EachPair-append, EachPair-from, any_from, none_from, range_contains, eq_from_test}
@@ -73,11 +73,37 @@ closes_from n t c e =
     record { node = eq_from_test c.node n first.0; begun = from_le c.from t first.1; not_over = from_le t c.to both.1 }
 
 pub closes_false : (n t : ℕ) (c : Closure) → (IsIn n t c → ⊥) → closes n t c ≡ false
-closes_false n t c no = false_from_ne_true (closes n t c) (λ e. no (closes_from n t c e))
+closes_false n t c none = false_from_ne_true (closes n t c) (λ e. none (closes_from n t c e))
 
 -- one that begins behind its end closes nothing
 pub closes_nothing : (n t : ℕ) (c : Closure) → c.to < c.from → closes n t c ≡ false
 closes_nothing n t c lt = closes_false n t c (λ h. omega (arith, h.begun, h.not_over))
+
+-- an answer for so many slots
+pub is_answer : (p : ℕ → Bool) (a n : ℕ) (b : Bool) → (b ≡ true → (t : ℕ) × (a ≤ t) × (t < a + n) × (p t ≡ true)) →
+    ((t : ℕ) → a ≤ t → t < a + n → p t ≡ true → b ≡ true) → b ≡ list_any p (range_with_len a n)
+is_answer p a n true some every = let w = some refl in sym (any_of_range p a n w.0 w.1 w.2 w.3)
+is_answer p a n false some every = sym (false_from_ne_true _ (λ e. let w = any_in_range p a n e in true≢false (sym (every w.0 w.1 w.2 w.3))))
+
+module _ (c : Closure) (n from size : ℕ) where
+  pub meets_other : (c.node ≡ n → ⊥) → false ≡ list_any (λ t. closes n t c) (range_with_len from size)
+  meets_other other = is_answer (λ t. closes n t c) from size false (λ e. absurd (true≢false (sym e))) (λ t low high e. absurd (other (closes_from n t c e).node))
+
+  pub meets_over : c.to < from → false ≡ list_any (λ t. closes n t c) (range_with_len from size)
+  meets_over over =
+      is_answer (λ t. closes n t c) from size false (λ e. absurd (true≢false (sym e))) (λ t low high e. let till = (closes_from n t c e).not_over in absurd (omega (arith, till, low, over)))
+
+  pub meets_later : c.node ≡ n → c.from ≤ c.to → from < c.from → nat_lt (c.from - from) size ≡ list_any (λ t. closes n t c) (range_with_len from size)
+  meets_later node some late =
+      is_answer (λ t. closes n t c) from size (nat_lt (c.from - from) size)
+      (λ e. (c.from, omega arith, omega (arith, from_lt (c.from - from) size e, late), closes_true n c.from c node (omega arith) some))
+      (λ t low high e. let begun = (closes_from n t c e).begun in lt_true (c.from - from) size (omega (arith, begun, high, late)))
+
+  pub meets_begun : c.node ≡ n → c.from ≤ from → from ≤ c.to → nat_lt 0 size ≡ list_any (λ t. closes n t c) (range_with_len from size)
+  meets_begun node begun till =
+      is_answer (λ t. closes n t c) from size (nat_lt 0 size)
+      (λ e. (from, omega arith, omega (arith, from_lt 0 size e), closes_true n from c node begun till))
+      (λ t low high e. lt_true 0 size (omega (arith, low, high)))
 
 -- ---- the merged spans
 -- The spans so far, the last one that may still grow, and the closures that are left.
@@ -299,7 +325,7 @@ module _ (n now base : ℕ) where
       cond_both (c.node == n) ((base + max now c.from) ∷ (base + (c.to + 1)) ∷ ends_in n now base cs) [] (λ xs. Each (λ x. low < x) xs)
       (λ e. let same = eq_from_test c.node n e in
       let first = late.0 same in
-      (first, omega (arith, first, h.some.0, h.reaching.0.not_over same), ends_late low cs (left_rest n now c cs h) late.1))
+      (first, (omega (arith, first, h.some.0, h.reaching.0.not_over same), ends_late low cs (left_rest n now c cs h) late.1)))
       (λ e. tt)
 
   -- those of the spans behind one of the node
@@ -326,7 +352,7 @@ module _ (n now base : ℕ) where
   ends_from [] h = tt
   ends_from (c ∷ cs) h =
       cond_both (c.node == n) ((base + max now c.from) ∷ (base + (c.to + 1)) ∷ ends_in n now base cs) [] (λ xs. Each (λ x. base + now ≤ x) xs)
-      (λ e. let till = h.reaching.0.not_over (eq_from_test c.node n e) in (omega arith, omega (arith, till), ends_from cs (left_rest n now c cs h)))
+      (λ e. let till = h.reaching.0.not_over (eq_from_test c.node n e) in (omega arith, (omega (arith, till), ends_from cs (left_rest n now c cs h))))
       (λ e. tt)
 
   twice : (b : Bool) → not (not b) ≡ b
@@ -424,3 +450,31 @@ spans_within cs spans most h all k d lt =
     let w = any_at (closes c.node c.to) cs (sym (h.same c.node c.to) ∙ closed) in
     let i = closes_from c.node c.to w.0 w.2 in
     omega (arith, i.not_over, Each-at (λ c. c.to < most) cs w.0 (each_of _ cs all) w.1)
+
+-- the closures that ascend, begun with the first
+pub merging_begun : (cs : List Closure) (c : Closure) (rest : List Closure) → cs ≡ c ∷ rest → All IsSome cs → All (λ d. d.from < 2 ^ 32) cs → IsNonDecreasingBy place_of cs →
+    IsMerging cs [] c rest
+merging_begun cs c rest e some fit up =
+    subst (λ xs. IsMerging xs [] c rest) (sym e)
+    (merging_first c rest (subst (Each IsSome) e (each_of IsSome cs some)) (subst (Each (λ d. d.from < 2 ^ 32)) e (each_of (λ d. d.from < 2 ^ 32) cs fit))
+    (subst (EachPair (λ d f. place_of d ≤ place_of f)) e (EachPair-from (λ d f. place_of d ≤ place_of f) cs (λ i j d lt short. up i j d (omega arith) short))))
+
+-- a node in so many slots, by the first span that is not past
+pub within_by_span : (cs spans : List Closure) (n from size place : ℕ) (d : Closure) → AreSpansOf cs spans → All (λ d. is_past n from d ≡ true) (take place spans) →
+    All (λ d. is_past n from d ≡ false) (drop place spans) → place < length spans →
+    list_any (λ t. closes n t (get_or spans place d)) (range_with_len from size) ≡ list_any (is_closed_by cs n) (range_with_len from size)
+within_by_span cs spans n from size place d h passed reaching lt =
+    let split = drop_more spans place d lt in
+    first_within cs spans h n from size place passed reaching (get_or spans place d) (drop (place + 1) spans) split
+    (subst (Each IsSome) split (left_some cs spans h n from place)) (subst (EachPair StandsBefore) split (left_ordered cs spans h n from place))
+
+-- the rest of a list, as a range to its end
+pub to_end : (xs : List Closure) (place : ℕ) → take (length xs - place) (drop place xs) ≡ drop place xs
+to_end xs place = take_all (length xs - place) (drop place xs) (omega (arith, length-drop place xs))
+
+-- what does not touch a span of its node has a slot before it
+pub not_touching : (a c : Closure) (b : Bool) → ((a.node ≡ c.node) × (c.from ≤ a.to + 1) → b ≡ true) → b ≡ false → a.node ≡ c.node → a.to + 1 < c.from
+not_touching a c b touch e same = elim (cases_lt (a.to + 1) c.from) [
+  | inl lt ↦ lt
+  | inr ge ↦ absurd (true≢false (sym (touch (same, ge)) ∙ e))
+]

@@ -28,13 +28,13 @@ module _ (now : ℕ) where
   turns_in cs = flat_map (λ c. max now c.from ∷ max now (c.to + 1) ∷ []) cs
 
   from_step : (a t : ℕ) → now ≤ t → (max now a ≡ t + 1 → ⊥) → nat_le a (t + 1) ≡ nat_le a t
-  from_step a t low no = elim (cases_lt t a) [
+  from_step a t low none = elim (cases_lt t a) [
     | inl lt ↦ le_false a (t + 1) (omega arith) ∙ sym (le_false a t lt)
     | inr ge ↦ le_true a (t + 1) (omega arith) ∙ sym (le_true a t ge)
   ]
 
   to_step : (b t : ℕ) → now ≤ t → (max now (b + 1) ≡ t + 1 → ⊥) → nat_le (t + 1) b ≡ nat_le t b
-  to_step b t low no = elim (cases_lt t b) [
+  to_step b t low none = elim (cases_lt t b) [
     | inl lt ↦ le_true (t + 1) b (omega arith) ∙ sym (le_true t b (omega arith))
     | inr ge ↦ le_false (t + 1) b (omega arith) ∙ sym (le_false t b (omega arith))
   ]
@@ -101,15 +101,16 @@ module _ (now : ℕ) where
 
   pub turns_late : (cs : List Closure) (u : ℕ) → has (turns_in cs) u ≡ true → now ≤ u
   turns_late [] u e = absurd (true≢false (sym e))
-  turns_late (c ∷ cs) u e = by_tests (cases_Bool (max now c.from == u)) (cases_Bool (max now (c.to + 1) == u))
+  turns_late (c ∷ cs) u e = by_tests (turns_late cs u) (cases_Bool (max now c.from == u)) (cases_Bool (max now (c.to + 1) == u))
     where
-      by_tests : ((max now c.from == u) ≡ true) ⊎ ((max now c.from == u) ≡ false) → ((max now (c.to + 1) == u) ≡ true) ⊎ ((max now (c.to + 1) == u) ≡ false) → now ≤ u
-      by_tests (inl a) b = omega (arith, eq_from_test (max now c.from) u a)
-      by_tests (inr a) (inl b) = omega (arith, eq_from_test (max now (c.to + 1)) u b)
-      by_tests (inr a) (inr b) = turns_late cs u (sym (ap (λ x. x || ((max now (c.to + 1) == u) || has (turns_in cs) u)) a ∙ ap (λ x. x || has (turns_in cs) u) b) ∙ e)
+      by_tests : (has (turns_in cs) u ≡ true → now ≤ u) → ((max now c.from == u) ≡ true) ⊎ ((max now c.from == u) ≡ false) →
+          ((max now (c.to + 1) == u) ≡ true) ⊎ ((max now (c.to + 1) == u) ≡ false) → now ≤ u
+      by_tests rest (inl a) b = omega (arith, eq_from_test (max now c.from) u a)
+      by_tests rest (inr a) (inl b) = omega (arith, eq_from_test (max now (c.to + 1)) u b)
+      by_tests rest (inr a) (inr b) = rest (sym (ap (λ x. x || ((max now (c.to + 1) == u) || has (turns_in cs) u)) a ∙ ap (λ x. x || has (turns_in cs) u) b) ∙ e)
 
 -- ---- ascending numbers by how many of them are at most a number
-odd_before : (xs : List ℕ) (t : ℕ) → Each (λ x. t < x) xs → is_odd_at xs t ≡ false
+pub odd_before : (xs : List ℕ) (t : ℕ) → Each (λ x. t < x) xs → is_odd_at xs t ≡ false
 odd_before [] t h = refl
 odd_before (x ∷ xs) t h = ap (λ b. b && not (is_odd_at xs t)) (le_false x t h.0)
 
@@ -125,8 +126,8 @@ same_turns low (x ∷ xs) [] up others_up at other_at same = absurd (true≢fals
 same_turns low (x ∷ xs) (y ∷ ys) up others_up at other_at same =
     elim (cases_order x y) [
       | inl e ↦ ap (λ z. z ∷ xs) e ∙ ap (λ zs. y ∷ zs) (same_turns (x + 1) xs ys up.1 others_up.1
-        (Each-map (λ z. x < z) (λ z. x + 1 ≤ z) (λ z lt. omega arith) xs up.0)
-        (Each-map (λ z. y < z) (λ z. x + 1 ≤ z) (λ z lt. omega (arith, e, lt)) ys others_up.0) (later e))
+          (Each-map (λ z. x < z) (λ z. x + 1 ≤ z) (λ z lt. omega arith) xs up.0)
+          (Each-map (λ z. y < z) (λ z. x + 1 ≤ z) (λ z lt. omega (arith, e, lt)) ys others_up.0) (later e))
       | inr (inl lt) ↦ absurd (true≢false (sym (odd_here x xs up.0) ∙ same x at.0 ∙ ap (λ b. b && not (is_odd_at ys x)) (le_false y x lt)))
       | inr (inr gt) ↦ absurd (true≢false (sym (odd_here y ys others_up.0) ∙ sym (same y other_at.0) ∙ ap (λ b. b && not (is_odd_at xs y)) (le_false x y gt)))
     ]

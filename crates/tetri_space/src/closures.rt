@@ -87,6 +87,7 @@ impl Closures {
     {
         let spans = self.spans.as_slice();
         let place = first_reaching(spans, node, now);
-        push_ends(&spans[place..], node, now, base, turns)
+        push_ends(&spans[place..], node, now, base, turns)?;
+        Ok(())
     }
 }

@@ -118,7 +118,20 @@ pub fn signatures_of(
 
 // Puts the slots from now on in which a node closes or opens behind its sets, each as a number past
 // those of the sets. A node that is in no used set is passed over.
-fn add_turns(signatures: &mut Vec<Vec<u32>>, inst: &Instance, base: u32) -> Result<(), AllocError>
+fn sign(signature: &mut Vec<u32>, inst: &Instance, base: u32, node: u32) -> Result<(), AllocError>
+    requires sound { IsSound (space inst.now) }
+    requires few { base ≤ 4096 }
+    ensures { OnOk result (IsSigned (space inst.entry.now) base node signature.old.items signature.new.items) }
+{
+    if signature.is_empty() {
+        return Ok(());
+    }
+    inst.closures.push_turns(node, inst.now, base, signature)?;
+    Ok(())
+}
+
+// The same for each node.
+fn sign_each(signatures: &mut Vec<Vec<u32>>, inst: &Instance, base: u32) -> Result<(), AllocError>
     requires sound { IsSound (space inst.now) }
     requires few { base ≤ 4096 }
     requires count { length signatures.old.items ≡ inst.now.nodes }
@@ -127,10 +140,7 @@ fn add_turns(signatures: &mut Vec<Vec<u32>>, inst: &Instance, base: u32) -> Resu
         → IsSigned (space inst.entry.now) base n (list_at signatures.old.items n) (list_at signatures.new.items n)) }
 {
     for node in 0..inst.nodes {
-        let signature = &mut signatures[node as usize];
-        if !signature.is_empty() {
-            inst.closures.push_turns(node, inst.now, base, signature)?;
-        }
+        sign(&mut signatures[node as usize], inst, base, node)?;
     }
     Ok(())
 }
@@ -182,7 +192,7 @@ pub fn group_alike(alloc: Global, inst: &Instance, live: &[Offer]) -> Result<Gro
 {
     let used = used_sets(alloc, live, inst.sets.len())?;
     let mut signatures = signatures_of(alloc, inst, &used)?;
-    add_turns(&mut signatures, inst, inst.sets.len())?;
+    sign_each(&mut signatures, inst, inst.sets.len())?;
     let grouped = group_nodes(alloc, &signatures)?;
     Ok(grouped)
 }

@@ -1,5 +1,5 @@
 // Spans of slots in which nodes are closed, ascending by node and slot.
-ghost use Rattle.std.specs.Prelude.{◌≡◌, ℕ, ◌<◌, ◌≤◌, ◌++◌, ◌^◌, true, false, length, All, IfOk, OnOk, take, drop};
+ghost use Rattle.std.specs.Prelude.{◌≡◌, ◌↔◌, IsTrue, ℕ, ◌+◌, ◌<◌, ◌≤◌, ◌++◌, ◌^◌, true, false, length, All, IfOk, OnOk, take, drop};
 ghost use Rattle.std.specs.List.{list_any, range_with_len};
 ghost use Rattle.std.specs.List.Sorted.{IsNonDecreasingBy};
 ghost use Rattle.tetri_space.specs.Closed.{closes, is_closed_by};
@@ -19,6 +19,7 @@ fn place(closure: &Closure) -> u64
 fn sorted(alloc: Global, given: &[Closure]) -> Result<Vec<Closure>, AllocError>
     ensures same { IfOk result (λ v. (n t : ℕ) → is_closed_by v.items n t ≡ is_closed_by given.now n t) }
     ensures some_slots { IfOk result (λ v. All (λ c. c.from ≤ c.to) v.items) }
+    ensures fit { IfOk result (λ v. All (λ c. c.from < 2 ^ 32) v.items) }
     ensures ascending { IfOk result (λ v. IsNonDecreasingBy place_of v.items) }
 {
     let mut closures = closing(alloc, given)?;
@@ -30,6 +31,7 @@ fn sorted(alloc: Global, given: &[Closure]) -> Result<Vec<Closure>, AllocError>
 fn closing(alloc: Global, given: &[Closure]) -> Result<Vec<Closure>, AllocError>
     ensures same { IfOk result (λ v. (n t : ℕ) → is_closed_by v.items n t ≡ is_closed_by given.now n t) }
     ensures some_slots { IfOk result (λ v. All (λ c. c.from ≤ c.to) v.items) }
+    ensures fit { IfOk result (λ v. All (λ c. c.from < 2 ^ 32) v.items) }
 {
     let mut closures = Vec::new(alloc);
     for closure in given {
@@ -40,9 +42,17 @@ fn closing(alloc: Global, given: &[Closure]) -> Result<Vec<Closure>, AllocError>
     Ok(closures)
 }
 
+// Whether a closure overlaps or touches a span of its node that does not begin after it.
+fn touches(span: &Closure, closure: &Closure) -> bool
+    ensures { IsTrue result ↔ ((span.now.node ≡ closure.now.node) × (closure.now.from ≤ span.now.to + 1)) }
+{
+    span.node == closure.node && (closure.from <= span.to || closure.from - span.to == 1)
+}
+
 // The spans of ascending closures: those of a node that overlap or touch are one.
 fn merged(alloc: Global, closures: &[Closure]) -> Result<Vec<Closure>, AllocError>
     requires some_slots { All (λ c. c.from ≤ c.to) closures.now }
+    requires fit { All (λ c. c.from < 2 ^ 32) closures.now }
     requires ascending { IsNonDecreasingBy place_of closures.now }
     ensures { IfOk result (λ v. AreSpansOf closures.now v.items) }
 {
@@ -52,7 +62,7 @@ fn merged(alloc: Global, closures: &[Closure]) -> Result<Vec<Closure>, AllocErro
     };
     let mut last = *first;
     for closure in rest {
-        if last.node == closure.node && (closure.from <= last.to || closure.from - last.to == 1) {
+        if touches(&last, closure) {
             last.to = last.to.max(closure.to);
         } else {
             spans.push(last)?;
@@ -91,10 +101,16 @@ pub fn meets(span: &Closure, node: u32, from: u32, count: u32) -> bool
     requires { span.now.from ≤ span.now.to }
     ensures { result ≡ list_any (λ t. closes node t span.now) (range_with_len from count) }
 {
-    span.node == node
-        && count > 0
-        && from <= span.to
-        && (span.from <= from || span.from - from < count)
+    if span.node != node {
+        return false;
+    }
+    if from < span.from {
+        return span.from - from < count;
+    }
+    if span.to < from {
+        return false;
+    }
+    count > 0
 }
 
 /// Puts where the first spans, as far as they are of the node, begin and end last in a list.

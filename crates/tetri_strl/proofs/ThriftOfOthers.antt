@@ -1,34 +1,37 @@
 -- A job's thrift depends on its own grants alone.
-use Rattle.std.proofs.Common.{◌≡◌, ◌≢◌, ℕ, ◌+◌, ◌⊎◌, ◌==◌, Bool, true, List, [], ◌∷◌, ◌++◌, map, length, false, cond, refl, sym, ap, ◌∙◌, subst, inl, inr, ⊎_elim, arith, append-nil}
+use Rattle.std.proofs.Common.{◌≡◌, ◌≢◌, ℕ, ◌+◌, ◌⊎◌, ◌==◌, Bool, true, List, [], ◌∷◌, ◌++◌, map, length, Contains, false, cond, refl, sym, ap, ◌∙◌, subst, inl, inr, ⊎_elim, arith, append-nil}
 use Rattle.std.specs.List.{filter}
 use Rattle.std.proofs.lemmas.Bool.Decides.{nat_tests}
 use Rattle.std.proofs.lemmas.List.Elements.{All-head, All-tail}
 use Rattle.tetri_strl.specs.declared.expr.Leaf.{Leaf}
 use Rattle.tetri_strl.specs.declared.grants.Grant.{Grant}
 use Rattle.tetri_strl.specs.Thrifty.{IsBare, AtMostOne, MeetsOne, IsThrifty, AreThrifty, held_leaves, IsThriftyFor}
-use Rattle.tetri_strl.specs.Tree.{Operator, greatest, least, added, Tree, one, join, scale, barrier, Trees, none, more}
+use Rattle.tetri_strl.specs.Tree.{Operator, greatest, least, added, Tree, one, join, scale, barrier, Trees, none, more, numbers, numbers_of}
 use Rattle.tetri_strl.specs.Worth.{granted, joined, leaf_worth, worth_at, worth_by, worths_by}
 use Rattle.tetri_strl.proofs.GrantLemmas.{NamesNot, granted-append, granted-others, worth_by-same, worths_by-same}
 
-module _ (value other : Leaf → ℕ) (held : List ℕ) (same : (l : Leaf) → value l ≡ other l) where
-  at_most_one-same : (ts : Trees) → AtMostOne value held ts → AtMostOne other held ts
-  at_most_one-same none h = tt
-  at_most_one-same (more t ts) h = ⊎_elim (λ k. inl (k.0, at_most_one-same ts k.1)) (λ k. inr k) h
+module _ (value other : Leaf → ℕ) (held fewer : List ℕ) (same : (l : Leaf) → value l ≡ other l) (within : (n : ℕ) → Contains fewer n → Contains held n) where
+  bare-same : (ns : List ℕ) → IsBare value held ns → IsBare other fewer ns
+  bare-same ns h n at there = h n at (within n there)
 
-  meets-same : (op : Operator) (ts : Trees) → MeetsOne value held op ts → MeetsOne other held op ts
+  at_most_one-same : (ts : Trees) → AtMostOne value held ts → AtMostOne other fewer ts
+  at_most_one-same none h = tt
+  at_most_one-same (more t ts) h = ⊎_elim (λ k. inl (bare-same (numbers t) k.0, at_most_one-same ts k.1)) (λ k. inr (bare-same (numbers_of ts) k)) h
+
+  meets-same : (op : Operator) (ts : Trees) → MeetsOne value held op ts → MeetsOne other fewer op ts
   meets-same greatest ts h = at_most_one-same ts h
   meets-same least ts h = tt
   meets-same added ts h = tt
 
   mutual
-    thrifty-same : (t : Tree) → IsThrifty value held t → IsThrifty other held t
-    thrifty-same (one l) h = λ z. h (same l ∙ z)
+    thrifty-same : (t : Tree) → IsThrifty value held t → IsThrifty other fewer t
+    thrifty-same (one l) h = λ z. bare-same (l.num ∷ []) (h (same l ∙ z))
     thrifty-same (join op ts) h =
-        ((λ z. h.0 (ap (joined op) (worths_by-same value other same ts) ∙ z)), meets-same op ts h.1, are_thrifty-same ts h.2)
-    thrifty-same (scale t s) h = ((λ z. h.0 (worth_by-same value other same (scale t s) ∙ z)), thrifty-same t h.1)
-    thrifty-same (barrier t v) h = ((λ z. h.0 (worth_by-same value other same (barrier t v) ∙ z)), thrifty-same t h.1)
+        ((λ z. bare-same (numbers_of ts) (h.0 (ap (joined op) (worths_by-same value other same ts) ∙ z))), meets-same op ts h.1, are_thrifty-same ts h.2)
+    thrifty-same (scale t s) h = ((λ z. bare-same (numbers t) (h.0 (worth_by-same value other same (scale t s) ∙ z))), thrifty-same t h.1)
+    thrifty-same (barrier t v) h = ((λ z. bare-same (numbers t) (h.0 (worth_by-same value other same (barrier t v) ∙ z))), thrifty-same t h.1)
 
-    are_thrifty-same : (ts : Trees) → AreThrifty value held ts → AreThrifty other held ts
+    are_thrifty-same : (ts : Trees) → AreThrifty value held ts → AreThrifty other fewer ts
     are_thrifty-same none h = tt
     are_thrifty-same (more t ts) h = (thrifty-same t h.0, are_thrifty-same ts h.1)
 
@@ -52,12 +55,15 @@ held_leaves-others (g ∷ gs) job other =
     ap (λ t. map (λ h. h.leaf) (cond t (g ∷ filter (λ h. h.job == job) gs) (filter (λ h. h.job == job) gs))) here
     ∙ held_leaves-others gs job (All-tail (λ h. h.job ≢ job) g gs other)
 
--- an allotment that gives the job the same, leaf by leaf
+-- an allotment that gives the job the same, leaf by leaf, and holds no other leaf of it
+pub thrifty_of-members : (a b : List Grant) (job : ℕ) (t : Tree) → ((leaf : ℕ) → granted a job leaf ≡ granted b job leaf) →
+    ((n : ℕ) → Contains (held_leaves b job) n → Contains (held_leaves a job) n) → IsThriftyFor a job t → IsThriftyFor b job t
+thrifty_of-members a b job t counts within h =
+    thrifty-same (leaf_worth a job) (leaf_worth b job) (held_leaves a job) (held_leaves b job) (λ l. ap (worth_at l) (counts l.num)) within t h
+
 pub thrifty_of-same : (a b : List Grant) (job : ℕ) (t : Tree) → ((leaf : ℕ) → granted a job leaf ≡ granted b job leaf) → held_leaves a job ≡ held_leaves b job →
     IsThriftyFor a job t → IsThriftyFor b job t
-thrifty_of-same a b job t counts leaves_same h =
-    subst (λ ns. IsThrifty (leaf_worth b job) ns t) leaves_same
-    (thrifty-same (leaf_worth a job) (leaf_worth b job) (held_leaves a job) (λ l. ap (worth_at l) (counts l.num)) t h)
+thrifty_of-same a b job t counts leaves_same h = thrifty_of-members a b job t counts (λ n at. subst (λ ns. Contains ns n) (sym leaves_same) at) h
 
 -- grants of other jobs before and after a job's own waste nothing of it
 pub thrifty-append_left : (a b : List Grant) (job : ℕ) (t : Tree) → NamesNot job b → IsThriftyFor a job t → IsThriftyFor (a ++ b) job t

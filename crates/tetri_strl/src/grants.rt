@@ -81,6 +81,15 @@ impl Allotment {
         }
     }
 
+    /// These grants in their order, without copying them.
+    pub fn of(grants: Vec<Grant>) -> Self
+        ensures { result ≡ grants.items }
+    {
+        Allotment {
+            grants,
+        }
+    }
+
     /// Puts the grant last.
     pub fn push(&mut self, item: Grant) -> Result<(), AllocError>
         ensures ok { OnOk result (self.new ≡ self.old ++ item ∷ []) }
@@ -95,5 +104,12 @@ impl Allotment {
         ensures { result.now ≡ self.now }
     {
         self.grants.as_slice()
+    }
+
+    /// The grants in order, without copying them.
+    pub fn into_items(self) -> Vec<Grant>
+        ensures { result.items ≡ self }
+    {
+        self.grants
     }
 }

@@ -19,9 +19,6 @@ pub use laws::thrifty_grants_start_together;
 pub use pruning::prune;
 pub use starts::aligned;
 pub use tops::top_in;
-pub use trimming::{idle_leaves, trim};
+pub use trimming::{idle_leaves, trim, trim_into};
 pub use wasting::{waste, waste_among};
 pub use worths::{worth, worth_among};
-
-#[cfg(test)]
-mod tests;

@@ -22,14 +22,29 @@ pub fn trim(alloc: Global, e: &Expr, job: u32, a: &Allotment) -> Result<Allotmen
     ensures thrifty { IfOk result (λ made. IsThriftyFor made job (tree e.now)) }
     ensures worth { IfOk result (λ made. worth_of made job (tree e.now) ≡ worth_of a.now job (tree e.now)) }
 {
-    let idle = idle_leaves(alloc, e, job, a.as_slice())?;
     let mut made = Allotment::new(alloc);
-    for grant in a.as_slice() {
+    trim_into(alloc, e, job, a.as_slice(), &mut made)?;
+    Ok(made)
+}
+
+/// Puts what `trim` keeps of these grants last in a list. Its only error is want of memory.
+pub fn trim_into(
+    alloc: Global,
+    e: &Expr,
+    job: u32,
+    grants: &[Grant],
+    made: &mut Allotment,
+) -> Result<(), AllocError>
+    requires { IsSound (tree e.now) }
+    ensures { OnOk result (made.new ≡ made.old ++ trimmed grants.now job (tree e.now)) }
+{
+    let idle = idle_leaves(alloc, e, job, grants)?;
+    for grant in grants {
         if is_earning(grant, job, &idle) {
             made.push(copy_grant(alloc, grant)?)?;
         }
     }
-    Ok(made)
+    Ok(())
 }
 
 /// The numbers of the leaves whose grants earn nothing, as `trim` says it. Its only error is want of

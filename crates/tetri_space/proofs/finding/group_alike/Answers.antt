@@ -1,6 +1,6 @@
 use Rattle.std.proofs.Common.{◌≡◌, ◌<◌, ◌∙◌, ◌&&◌, All, List, Vec, Global, Bool, ℕ, false, length, map, slice_index_or, subst, sym, ap, arith}
 use Rattle.std.specs.List.{filter, range_with_len}
-use Rattle.tetri_space.specs.Finding.{list_at, firsts, grouped}
+use Rattle.tetri_space.specs.Finding.{IsSigned, list_at, firsts, grouped}
 use Rattle.tetri_base.specs.Lists.{has}
 use Rattle.tetri_space.specs.Partitions.{live_bids, set_at, sets_in}
 use Rattle.tetri_space.specs.Space.{Bid, space}
@@ -23,19 +23,25 @@ signatures_of-requires c = record {
 }
 
 pub group_nodes-requires : goal.group_nodes-requires
-group_nodes-requires c = omega (arith, ap length c.deref-3.ensures.value, c.in_ok-signatures.ensures.count, c.requires.sound.few_nodes)
+group_nodes-requires c = omega (arith, ap length c.deref-4.ensures.value, c.in_ok-sign_each.ensures.count, c.requires.sound.few_nodes)
 
 pub returns : goal.returns
 returns c =
     let s = space c.args.inst.now in
-    let sigs = c.deref-3.result.now in
+    let sigs = c.deref-4.result.now in
     let used = c.deref-2.result.now in
     let count : length used ≡ length s.sets = ap length c.deref-2.ensures.value ∙ c.in_ok-used.ensures.count ∙ c.len.ensures.value ∙ ap length c.deref.ensures in
     let marks : (k : ℕ) → slice_index_or used k false ≡ has (sets_in (live_bids s)) k =
     λ k. ap (λ (us : List Bool). slice_index_or us k false) c.deref-2.ensures.value ∙ c.in_ok-used.ensures.marks k ∙ ap (λ (bs : List Bid). has (sets_in bs) k) c.requires.live in
-    let long : length sigs ≡ s.nodes = ap length c.deref-3.ensures.value ∙ c.in_ok-signatures.ensures.count in
-    let is : (n : ℕ) → n < s.nodes → list_at sigs n ≡ filter (λ k. slice_index_or used k false && has (set_at s k) n) (range_with_len 0 (length used)) =
-    λ n lt. ap (λ (vs : List (Vec ℕ Global)). list_at vs n) c.deref-3.ensures.value ∙ c.in_ok-signatures.ensures.sets n lt in
+    let long : length sigs ≡ s.nodes = ap length c.deref-4.ensures.value ∙ c.in_ok-sign_each.ensures.count in
+    let base : c.len-2.result ≡ length s.sets = c.len-2.ensures.value ∙ ap length c.deref-3.ensures in
+    let is : (n : ℕ) → n < s.nodes →
+    IsSigned s (length s.sets) n (filter (λ k. slice_index_or used k false && has (set_at s k) n) (range_with_len 0 (length used))) (list_at sigs n) =
+    λ n lt.
+    subst (λ (b : ℕ). IsSigned s b n (filter (λ k. slice_index_or used k false && has (set_at s k) n) (range_with_len 0 (length used))) (list_at sigs n)) base
+    (subst (λ (ns : List ℕ). IsSigned s c.len-2.result n ns (list_at sigs n)) (c.in_ok-signatures.ensures.sets n lt)
+    (subst (λ (vs : List (Vec ℕ Global)). IsSigned s c.len-2.result n (list_at c.in_ok-signatures.signatures.items n) (list_at vs n)) (sym c.deref-4.ensures.value)
+    (c.in_ok-sign_each.ensures.signed n lt))) in
     let groups : c.in_ok-grouped.grouped.groups.items ≡ grouped (list_at sigs) s.nodes = c.in_ok-grouped.ensures.groups ∙ ap (grouped (list_at sigs)) long in
     let known : map (λ (v : Vec ℕ Global). v.items) c.in_ok-grouped.grouped.signatures.keys ≡ map (list_at sigs) (firsts (list_at sigs) s.nodes) =
     c.in_ok-grouped.ensures.signatures ∙ ap (λ n. map (list_at sigs) (firsts (list_at sigs) n)) long in

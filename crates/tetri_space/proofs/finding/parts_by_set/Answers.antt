@@ -15,7 +15,7 @@ loop-part-preserved c =
       count = c.in_ok-add_to_each.ensures.count ∙ c.loop-part.invariant.count;
       parts = λ k lt.
           filter_kept (λ p. has (list_at c.args.signatures.now p) k) part (list_at c.loop-part.inside.items k) _ (c.loop-part.invariant.parts k lt)
-          (c.in_ok-add_to_each.ensures.added k ∙ ap (λ (ns : List ℕ). list_at c.loop-part.inside.items k ++ cond (has ns k) (part ∷ []) []) same);
+          (c.in_ok-add_to_each.ensures.added k (omega (arith, lt, c.loop-part.invariant.count)) ∙ ap (λ (ns : List ℕ). list_at c.loop-part.inside.items k ++ cond (has ns k) (part ∷ []) []) same);
     }
 
 pub returns-clause-ascending : goal.returns-clause-ascending

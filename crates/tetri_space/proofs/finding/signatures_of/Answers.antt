@@ -1,4 +1,4 @@
-use Rattle.std.proofs.Common.{◌&&◌, ◌++◌, ◌∷◌, [], false, List, ℕ, cond, length, slice_index_or, ap, sym, ◌∙◌}
+use Rattle.std.proofs.Common.{◌&&◌, ◌++◌, ◌∷◌, [], false, List, ℕ, cond, length, slice_index_or, ap, sym, ◌∙◌, arith}
 use Rattle.std.proofs.lemmas.List.{append-nil}
 use Rattle.tetri_space.specs.Finding.{list_at}
 use Rattle.tetri_base.specs.Lists.{has}
@@ -18,7 +18,7 @@ loop-set-preserved c =
         count = ap (λ v. length v.items) w.signatures-is ∙ w.in_ok-add_to_each.ensures.count ∙ c.loop-set.invariant.count;
         sets = λ n lt.
             filter_kept (p n) k (list_at c.loop-set.signatures.items n) _ (c.loop-set.invariant.sets n lt)
-            (ap (λ v. list_at v.items n) w.signatures-is ∙ w.in_ok-add_to_each.ensures.added n
+            (ap (λ v. list_at v.items n) w.signatures-is ∙ w.in_ok-add_to_each.ensures.added n (omega (arith, lt, c.loop-set.invariant.count))
             ∙ ap (λ b. list_at c.loop-set.signatures.items n ++ cond b (k ∷ []) [])
             (ap (λ (ns : List ℕ). has ns n) (w.as_slice.ensures ∙ w.nodes_of.ensures.value ∙ ap (λ (ss : List (List ℕ)). slice_index_or ss k []) w.deref-then-used-set.ensures)
             ∙ and_true (slice_index_or c.args.used.now k false) (has (set_at s k) n) w.if-used-set.true));

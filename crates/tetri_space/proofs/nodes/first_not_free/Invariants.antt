@@ -1,5 +1,5 @@
 use Rattle.std.proofs.Common.{take, All}
-use Rattle.tetri_space.specs.Broken.{IsFreeThroughout}
+use Rattle.tetri_space.specs.Free.{IsFreeThroughout}
 use Rattle.tetri_space.specs.Space.{space}
 use Rattle.tetri_space.proofs.nodes.first_not_free.Given as goal
 

@@ -1,6 +1,7 @@
 use Rattle.std.proofs.Common.{◌≡◌, ◌<◌, ℕ, List, length, get_or, true, ap, ◌∙◌, arith}
 use Rattle.tetri_base.specs.Lists.{bit, count}
-use Rattle.tetri_space.specs.Partitions.{is_free, part_at, partitions}
+use Rattle.tetri_space.specs.Free.{is_free}
+use Rattle.tetri_space.specs.Partitions.{part_at, partitions}
 use Rattle.tetri_space.specs.Space.{space}
 use Rattle.tetri_space.proofs.FreeLemmas.{free_answer, count_next, count_rest-le}
 use Rattle.tetri_space.proofs.PartsLemmas.{part_short}

@@ -1,6 +1,7 @@
 use Rattle.std.proofs.Common.{◌≡◌, ◌+◌, drop}
 use Rattle.tetri_base.specs.Lists.{count}
-use Rattle.tetri_space.specs.Partitions.{available, is_free, partitions}
+use Rattle.tetri_space.specs.Free.{is_free}
+use Rattle.tetri_space.specs.Partitions.{available, partitions}
 use Rattle.tetri_space.specs.Space.{space}
 use Rattle.tetri_space.proofs.partitions.available.Given as goal
 

@@ -1,10 +1,9 @@
-use Rattle.std.proofs.Common.{◌≡◌, ◌++◌, ◌∙◌, ap, sym, subst}
-use Rattle.std.proofs.lemmas.List.{append-nil, drop_all}
-use Rattle.std.specs.List.{filter}
+use Rattle.std.proofs.Common.{◌≡◌, ◌++◌, ◌∙◌, List, ap, sym, subst}
+use Rattle.tetri_strl.specs.declared.grants.Grant.{Grant}
 use Rattle.tetri_strl.specs.Thrifty.{IsThriftyFor}
 use Rattle.tetri_strl.specs.Tree.{tree}
-use Rattle.tetri_strl.specs.Trim.{earns, idle}
-use Rattle.tetri_strl.specs.Worth.{leaf_worth, worth_of}
+use Rattle.tetri_strl.specs.Trim.{trimmed}
+use Rattle.tetri_strl.specs.Worth.{worth_of}
 use Rattle.tetri_strl.proofs.PartsApart.{apart_of_pairs}
 use Rattle.tetri_strl.proofs.TrimThrift.{trimmed_thrifty}
 use Rattle.tetri_strl.proofs.TrimWorth.{trimmed_worth}
@@ -12,10 +11,8 @@ use Rattle.tetri_strl.proofs.trimming.trim.Goals as goal
 
 pub returns-clause-list : goal.returns-clause-list
 returns-clause-list c =
-    let idle_is = c.in_ok-idle.ensures ∙ ap (λ a. idle (leaf_worth a c.args.job) (tree c.args.e.now)) c.as_slice.ensures in
-    let left = ap (λ gs. c.loop-grant.made ++ filter (earns c.args.job c.in_ok-idle.idle.items) gs)
-    (drop_all c.loop-grant.grant-index _ c.loop-grant-test.false) in
-    sym (append-nil c.loop-grant.made) ∙ sym left ∙ c.loop-grant.invariant ∙ ap (λ ns. filter (earns c.args.job ns) c.args.a.now) idle_is
+    c.in_ok-trim_into.ensures ∙ ap (λ (xs : List Grant). xs ++ trimmed c.as_slice.result.now c.args.job (tree c.args.e.now)) c.new-made.ensures
+    ∙ ap (λ a. trimmed a c.args.job (tree c.args.e.now)) c.as_slice.ensures
 
 pub returns-clause-thrifty : goal.returns-clause-thrifty
 returns-clause-thrifty c =
