@@ -1,13 +1,13 @@
-use Rattle.std.proofs.Common.{ℕ, ◌<◌, ◌^◌, arith, length, rules, List, subst, below_more}
-use Rattle.std.specs.Prelude.{◌≤ℤ◌}
+use Rattle.std.proofs.Common.{ℕ, ◌<◌, ◌^◌, arith, length, rules, List, sym, ◌∙◌, subst, true, false}
 use Rattle.std.proofs.lemmas.Int.{to_z-of_z}
 use mir.Val.{SFits}
 use mir.Syntax.{w128}
 use Rattle.tetri_ip.specs.declared.programs.Term.{Term}
-use Rattle.tetri_ip.specs.Points.{column_at, left_side, right_of, sizes, terms_of}
-use Rattle.tetri_ip.proofs.Sides.{row_broken, row_met, sizes-reach}
+use Rattle.tetri_ip.specs.Points.{column_at, sizes, terms_of}
+use Rattle.tetri_ip.proofs.Sides.{sizes-reach}
 use Rattle.tetri_ip.proofs.Steps.{terms_of_at}
-use Rattle.tetri_ip.proofs.points.meets_rows.Goals as goal
+use Rattle.tetri_ip.proofs.UnmetLemmas.{unmet_step}
+use Rattle.tetri_ip.proofs.points.first_unmet.Goals as goal
 
 pub left_side-requires-clause-columns : goal.left_side-requires-clause-columns
 left_side-requires-clause-columns c =
@@ -31,15 +31,12 @@ pub returns-then-row-left_side : goal.returns-then-row-left_side
 returns-then-row-left_side c =
     let l : c.loop-i.i < length c.args.p.now.rows.items = omega arith in
     let f : SFits w128 c.index-row.result.now.right = search rules in
-    let g : SFits w128 c.left_side.result = search rules in (
-      λ t k m. absurd (search rules),
-      λ h. absurd (row_broken c.args.p.now.rows.items c.args.point.now c.loop-i.i c.index-row.result.now c.left_side.result _ _ l c.index-row.ensures c.left_side.ensures (to_z-of_z _ _ g) (to_z-of_z _ _ f) c.if-row-left_side.true (h c.loop-i.i l)),
-    )
+    let g : SFits w128 c.left_side.result = search rules in
+    sym (c.loop-i.invariant ∙ unmet_step c.args.p.now.rows.items c.args.point.now c.loop-i.i c.index-row.result.now c.left_side.result _ _ true l c.index-row.ensures c.left_side.ensures (to_z-of_z _ _ g) (to_z-of_z _ _ f) c.if-row-left_side.true)
 
 pub loop-i-preserved : goal.loop-i-preserved
 loop-i-preserved c =
     let l : c.loop-i.i < length c.args.p.now.rows.items = omega arith in
     let f : SFits w128 c.index-row.result.now.right = search rules in
     let g : SFits w128 c.left_side.result = search rules in
-    below_more (λ k. left_side (terms_of c.args.p.now.rows.items k) c.args.point.now ≤ℤ right_of c.args.p.now.rows.items k) c.loop-i.i c.loop-i.invariant
-    (row_met c.args.p.now.rows.items c.args.point.now c.loop-i.i c.index-row.result.now c.left_side.result _ _ l c.index-row.ensures c.left_side.ensures (to_z-of_z _ _ g) (to_z-of_z _ _ f) c.if-row-left_side.false)
+    c.loop-i.invariant ∙ unmet_step c.args.p.now.rows.items c.args.point.now c.loop-i.i c.index-row.result.now c.left_side.result _ _ false l c.index-row.ensures c.left_side.ensures (to_z-of_z _ _ g) (to_z-of_z _ _ f) c.if-row-left_side.false
