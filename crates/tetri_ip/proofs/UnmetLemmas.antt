@@ -1,7 +1,7 @@
 -- One step of the search for a row that a point breaks, and its test.
 use Rattle.std.proofs.Common.{◌≡◌, ℕ, ◌+◌, ◌<◌, refl, sym, ap, ◌∙◌, arith, List, [], ◌∷◌, length, get_or, drop, Bool, true, false, cond, Option, Some, None}
 use Prim.Native.Nat.{suc}
-use Rattle.std.specs.Prelude.{◌↔◌, IsTrue, is_none}
+use Rattle.std.specs.Prelude.{◌↔◌, IsTrue, is_some, not}
 use Rattle.std.proofs.Math.Seq.{drop-cons}
 use Rattle.std.proofs.lemmas.Bool.{false≢true}
 use lib.IntN.{ℤ}
@@ -18,6 +18,8 @@ unmet_step rows point i r side side' right' t l e se se' re te =
     let f : lt_z r.right (left_side r.terms.items point) ≡ t = ap (λ z. lt_z z (left_side r.terms.items point)) (sym re) ∙ ap (λ z. lt_z right' z) (sym (se' ∙ se)) ∙ te in
     ap (λ xs. first_unmet_from i xs point) d ∙ ap (λ b. cond b (Some i) (first_unmet_from (i + 1) (drop (i + 1) rows) point)) f
 
-pub none_is_met : (rows : List Row) (point : List ℤ) (o : Option ℕ) (t : Bool) → o ≡ first_unmet_from 0 rows point → t ≡ is_none o → IsTrue t ↔ MeetsRows rows point
-none_is_met rows point None t e f = (λ h. first_unmet_none 0 rows point (sym e), λ h. f)
-none_is_met rows point (Some i) t e f = (λ h. absurd (false≢true (sym f ∙ h)), λ h. let n = met_first_unmet 0 rows point h in cc)
+pub none_is_met : (rows : List Row) (point : List ℤ) (o : Option ℕ) (t : Bool) → o ≡ first_unmet_from 0 rows point → is_some o ≡ not t → IsTrue t ↔ MeetsRows rows point
+none_is_met rows point None true e f = (λ h. first_unmet_none 0 rows point (sym e), λ h. refl)
+none_is_met rows point None false e f = absurd (false≢true f)
+none_is_met rows point (Some i) true e f = absurd (false≢true (sym f))
+none_is_met rows point (Some i) false e f = (λ h. absurd (false≢true h), λ h. let n = met_first_unmet 0 rows point h in cc)

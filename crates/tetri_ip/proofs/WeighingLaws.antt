@@ -18,15 +18,11 @@ use Rattle.tetri_ip.specs.declared.programs.Term.{Term}
 use Rattle.tetri_ip.specs.declared.programs.Weight.{Weight}
 use Rattle.tetri_ip.specs.declared.programs.WeighFault.{WeighFault}
 use Rattle.tetri_ip.specs.Points.{Bounds, IsFit, IsFitRow, IsInBox, IsWithin, coefficient, column_at, cost_reach, left_side, number_at, objective, reach, right_of, size_at, term_at, terms_of}
-use Rattle.tetri_ip.specs.Weighed.{bound_taken, column_sum, columns_from, right_sum, weighed}
+use Rattle.tetri_ip.specs.Weighed.{bound_taken, column_sum, columns_from, once, right_sum, weighed}
 use Rattle.tetri_ip.specs.Forming.{add_product, first_negative, form_column, form_columns, form_factor, form_right, or_past, subtract_product, then_form, unless_negative, weigh_answer, within}
 use Rattle.tetri_ip.proofs.Coefficients.{coefficient_at, unit_other}
 use Rattle.tetri_ip.proofs.Duality.{dot_from-column_sum, left_sum}
 use Rattle.tetri_ip.proofs.Formed.{columns_are, right_is}
-
--- the weight 1 of one row
-abbrev pub once : ℕ → List Weight
-once i = record { row = i; by = pos 1 } ∷ []
 
 -- ---- where weighing answers, it answers the weighed number
 pub answer_is_weighed : (p : Program) (b : Bounds) (q : ℤ) (ws : List Weight) (z : ℤ) → weigh_answer p b q ws ≡ Ok z → z ≡ weighed p b q ws
@@ -75,10 +71,10 @@ columns_formed rows b q ws most j (c ∷ cs) sum f h =
     let x = bound_taken b j d in
     let s = size_of_sum sum (d *ℤ x) (most j c) (unsigned_abs d * unsigned_abs x) (sum_from most (j + 1) cs) (unsigned_abs-mul d x) g.small h in
     let one : form_column rows b q ws j c sum ≡ Some (sum +ℤ d *ℤ x) =
-        ap (λ (o : Option ℤ). then_form o (λ first. then_form (form_factor rows ws j first) (λ d. add_product sum d (bound_taken b j d)))) g.first_is
-        ∙ ap (λ (o : Option ℤ). then_form o (λ d. add_product sum d (bound_taken b j d))) g.factor_is
-        ∙ ap (λ (o : Option ℤ). then_form o (λ part. within (sum +ℤ part))) (within_told (d *ℤ x) s.0)
-        ∙ within_told (sum +ℤ d *ℤ x) s.1 in
+    ap (λ (o : Option ℤ). then_form o (λ first. then_form (form_factor rows ws j first) (λ d. add_product sum d (bound_taken b j d)))) g.first_is
+    ∙ ap (λ (o : Option ℤ). then_form o (λ d. add_product sum d (bound_taken b j d))) g.factor_is
+    ∙ ap (λ (o : Option ℤ). then_form o (λ part. within (sum +ℤ part))) (within_told (d *ℤ x) s.0)
+    ∙ within_told (sum +ℤ d *ℤ x) s.1 in
     let next = λ (k : ℕ) (l : k < length cs). subst (λ i. IsColumnFormed rows b q ws i (number_at cs k) (most i (number_at cs k))) (moved k) (f (suc k) (omega arith)) in
     let r = columns_formed rows b q ws most (j + 1) cs (sum +ℤ d *ℤ x) next s.2 in
     (r.0, ap (λ (o : Option ℤ). or_past j o (λ next. form_columns rows b q ws (j + 1) cs next)) one ∙ r.1)
@@ -166,7 +162,7 @@ term_past p t j (c ∷ cs) h =
 
 term_sum : (p : Program) (t : Term) (j : ℕ) (cs : List ℤ) → sum_from (term_most p t) j cs ≤ unsigned_abs t.by * size_at p t.column
 term_sum p t j [] = omega arith
-term_sum p t j (c ∷ cs) = by_column (eqb t.column j) refl
+term_sum p t j (c ∷ cs) = by_column (term_sum p t (j + 1) cs) (eqb t.column j) refl
   where
     here : (s n m : ℕ) → n ≡ 0 → m + n ≤ m
     here s n m e = omega arith
@@ -174,12 +170,12 @@ term_sum p t j (c ∷ cs) = by_column (eqb t.column j) refl
     later : (s n m : ℕ) → n ≤ m → unsigned_abs (pos 0) * s + n ≤ m
     later s n m h = omega (arith, ints)
 
-    by_column : (u : Bool) → eqb t.column j ≡ u → unsigned_abs (cond u t.by (pos 0)) * size_at p j + sum_from (term_most p t) (j + 1) cs ≤ unsigned_abs t.by * size_at p t.column
-    by_column true e =
+    by_column : sum_from (term_most p t) (j + 1) cs ≤ unsigned_abs t.by * size_at p t.column → (u : Bool) → eqb t.column j ≡ u → unsigned_abs (cond u t.by (pos 0)) * size_at p j + sum_from (term_most p t) (j + 1) cs ≤ unsigned_abs t.by * size_at p t.column
+    by_column rec true e =
         let same = eqb-true t.column j e in
         subst (λ i. unsigned_abs t.by * size_at p i + sum_from (term_most p t) (j + 1) cs ≤ unsigned_abs t.by * size_at p t.column) same
         (here 0 _ (unsigned_abs t.by * size_at p t.column) (term_past p t (j + 1) cs (omega arith)))
-    by_column false e = later (size_at p j) _ _ (term_sum p t (j + 1) cs)
+    by_column rec false e = later (size_at p j) _ _ rec
 
 row_sum : (p : Program) (ts : List Term) (j : ℕ) (cs : List ℤ) → sum_from (row_most p ts) j cs ≤ reach p ts
 row_sum p [] j cs = none j cs
@@ -200,17 +196,17 @@ row_sum p (t ∷ ts) j cs =
 -- a coefficient is that of a term, or 0
 coefficient_within : (ts : List Term) (j : ℕ) → ((k m : ℕ) → k < m → m < length ts → column_at ts k < column_at ts m) → ((k : ℕ) → k < length ts → IsWithin (term_at ts k).by) → IsWithin (coefficient ts j)
 coefficient_within [] j a w = omega (arith, ints)
-coefficient_within (t ∷ ts) j a w = by_column (eqb t.column j) refl
+coefficient_within (t ∷ ts) j a w = by_column (coefficient_within ts j (λ k m h l. a (suc k) (suc m) (omega arith) (omega arith)) (λ k l. w (suc k) (omega arith))) (eqb t.column j) refl
   where
     zero_plus : (x : ℤ) → IsWithin x → IsWithin (pos 0 +ℤ x)
     zero_plus x h = let e : pos 0 +ℤ x ≡ x = omega (arith, ints) in subst IsWithin (sym e) h
 
-    by_column : (u : Bool) → eqb t.column j ≡ u → IsWithin (cond u t.by (pos 0) +ℤ coefficient ts j)
-    by_column true e =
+    by_column : IsWithin (coefficient ts j) → (u : Bool) → eqb t.column j ≡ u → IsWithin (cond u t.by (pos 0) +ℤ coefficient ts j)
+    by_column rec true e =
         let c : coefficient (t ∷ ts) j ≡ t.by = coefficient_at (t ∷ ts) j 0 a (omega arith) (eqb-true t.column j e) in
         let u : unit_at ℤ_ring t.column t.by j ≡ t.by = ap (λ v. cond v t.by (pos 0)) e in
         subst IsWithin (sym c ∙ ap (λ z. z +ℤ coefficient ts j) u) (w 0 (omega arith))
-    by_column false e = zero_plus (coefficient ts j) (coefficient_within ts j (λ k m h l. a (suc k) (suc m) (omega arith) (omega arith)) (λ k l. w (suc k) (omega arith)))
+    by_column rec false e = zero_plus (coefficient ts j) rec
 
 row_formed : (p : Program) (b : Bounds) (i j : ℕ) (c : ℤ) → IsFit p → IsInBox p b → i < length p.rows.items → j < length p.costs.items → IsColumnFormed p.rows.items b (pos 0) (once i) j c (row_most p (terms_of p.rows.items i) j c)
 row_formed p b i j c f h l m =
@@ -241,8 +237,8 @@ weigh_of_row p b i f h l =
     let start = λ (k : ℕ) (m : k < length p.costs.items). subst (λ n. IsColumnFormed p.rows.items b (pos 0) (once i) n (number_at p.costs.items k) (row_most p ts n (number_at p.costs.items k))) (from_zero k) (row_formed p b i k (number_at p.costs.items k) f h l m) in
     let r = columns_formed p.rows.items b (pos 0) (once i) (row_most p ts) 0 p.costs.items y start (in_range _ _ (unsigned_abs y) a row.in_range) in
     let s : form_right p.rows.items (once i) (pos 0) ≡ Some y =
-        ap (λ (o : Option ℤ). then_form (then_form o (λ part. within (pos 0 +ℤ part))) (λ next. Some next)) (ap within one ∙ within_told y (right_within _ (unsigned_abs y) row.in_range))
-        ∙ ap (λ (o : Option ℤ). then_form o (λ next. Some next)) (ap within plus ∙ within_told y (right_within _ (unsigned_abs y) row.in_range)) in
+    ap (λ (o : Option ℤ). then_form (then_form o (λ part. within (pos 0 +ℤ part))) (λ next. Some next)) (ap within one ∙ within_told y (right_within _ (unsigned_abs y) row.in_range))
+    ∙ ap (λ (o : Option ℤ). then_form o (λ next. Some next)) (ap within plus ∙ within_told y (right_within _ (unsigned_abs y) row.in_range)) in
     let e : weigh_answer p b (pos 0) (once i) ≡ Ok r.0 = ap (λ (o : Option ℤ). or_past 0 o (λ sum. form_columns p.rows.items b (pos 0) (once i) 0 p.costs.items sum)) s ∙ r.1 in
     e ∙ ap Ok (answer_is_weighed p b (pos 0) (once i) r.0 e)
   where
@@ -274,7 +270,7 @@ columns_at_point rows b q ws j (c ∷ cs) (x ∷ xs) s e h =
     let Q = var 0 in let C = var 1 in let X = var 2 in let F = var 3 in let S = var 4 in let T = var 5 in
     ap (λ y. d *ℤ y +ℤ columns_from rows b q ws (j + 1) cs) taken ∙ ap (λ y. d *ℤ x +ℤ y) r
     ∙ ring ℤ_ring (q ∷ c ∷ x ∷ f ∷ dot ℤ_ring cs xs ∷ dot_from ℤ_ring (column_sum rows ws) (j + 1) xs ∷ [])
-      ((Q ⊗ C ⊕ minus F) ⊗ X ⊕ (Q ⊗ S ⊕ minus T)) (Q ⊗ (C ⊗ X ⊕ S) ⊕ minus (F ⊗ X ⊕ T)) refl
+    ((Q ⊗ C ⊕ minus F) ⊗ X ⊕ (Q ⊗ S ⊕ minus T)) (Q ⊗ (C ⊗ X ⊕ S) ⊕ minus (F ⊗ X ⊕ T)) refl
   where
     moved : (k : ℕ) → j + 1 + k ≡ j + suc k
     moved k = omega arith
