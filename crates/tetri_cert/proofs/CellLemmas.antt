@@ -22,4 +22,3 @@ frac_cells_added xs j i x cells more whole l e g m h =
     ∙ ap (λ w. cells ++ w) (sym (frac_cells_more j x (map value (drop (j + 1) xs))))
     ∙ ap (λ ys. cells ++ frac_cells_from j (map value ys)) (sym (drop_more xs j x l e))
     ∙ h
-

@@ -82,11 +82,7 @@ fn turn_high(
 /// Goes to the next open region after a node, if there is one: to the high side of a split, else back. The trail leads back
 /// from the region to the others that are open, and is empty at the root. Its only error is want of memory, and then both are
 /// as before.
-pub fn turn_on(
-    region: &mut Region,
-    trail: &mut Vec<Turn>,
-    mark: &Mark,
-) -> Result<bool, AllocError>
+pub fn turn_on(region: &mut Region, trail: &mut Vec<Turn>, mark: &Mark) -> Result<bool, AllocError>
     requires trail { All (λ t. t.column < length region.old.lower.items) trail.old.items }
     requires upper { length region.old.upper.items ≡ length region.old.lower.items }
     requires sides { HasSides (bounds_of region.old) mark.now }

@@ -6,8 +6,6 @@ use Rattle.std.specs.List.{fold, list_any}
 use Rattle.std.proofs.lemmas.Bool.{false≢true}
 use lib.IntN.{ℤ}
 use Rattle.tetri_ip.specs.declared.programs.Program.{Program}
-use Rattle.tetri_ip.specs.declared.programs.WeighFault.{WeighFault}
-use Rattle.tetri_ip.specs.Forming.{weigh_answer}
 use Rattle.tetri_ip.specs.Points.{Bounds, IsFit, IsInBox, IsPoint, box_of}
 use Rattle.tetri_base.specs.ResultSteps.{◌>>=◌}
 use Rattle.tetri_cert.specs.declared.marks.Cell.{Cell}
@@ -19,10 +17,11 @@ use Rattle.tetri_cert.specs.ProperTrees.{end_bound}
 use Rattle.tetri_cert.specs.Trees.{fills, if_fills, places_behind, tree_bound, tree_from}
 use Rattle.tetri_cert.proofs.ProperTreeLaws.{IsSound, node_told}
 use Rattle.tetri_search.specs.declared.duals.Dual.{Dual}
-use Rattle.tetri_search.specs.Table.{Node, rest_by, rest_mark, table, worked_mark}
+use Rattle.tetri_search.specs.Table.{Node, table}
 use Rattle.tetri_search.specs.Follow.{Follows, IsEarned, State, after, best_after, best_behind, dual_below, first_state, last_or, last_whole, open_behind, used_after}
 use Rattle.tetri_search.specs.Laws.{EarnedIsProper, IsSettled, has_rest, is_rest}
 use Rattle.tetri_search.specs.Nodes.{AreOpen, AreWholePoints, IfDual, IsWholePoint}
+use Rattle.tetri_search.proofs.MarkLemmas.{rest_rest}
 use Rattle.tetri_search.proofs.WorkedLemmas.{worked}
 use Rattle.tetri_search.proofs.NodeLemmas.{dual_or_is, first_open, mark_sound, open_behind_is, own_dual_is, sound_whole}
 
@@ -49,17 +48,9 @@ best_grows known (Rest q ws) = omega arith
 
 -- a mark that is no rest bounds its region by the best objective known behind it
 mark_at_most : (p : Program) (n : Node) (known : ℕ) (t : Bool) (m : Mark) → IsFit p → IsInBox p n.region → m ≡ table p n known t → is_rest m ≡ false → end_bound p n.region m ≤ best_after known m
-unfolding table rest_mark
+unfolding table
 mark_at_most p n known true m f h e r = subst (λ x. end_bound p n.region x ≤ best_after known x) (sym e) (worked p n.region known f h).at_most
-mark_at_most p n known false m f h e r = absurd (false≢true (sym r ∙ ap is_rest e ∙ by_dual n.dual))
-  where
-    by_dual : (o : Option Dual) → is_rest (rest_mark p n.region o) ≡ true
-    by_dual None = refl
-    by_dual (Some d) = by_answer (weigh_answer p n.region d.q d.weights)
-      where
-        by_answer : (r : Result ℤ WeighFault) → is_rest (rest_by d r) ≡ true
-        by_answer (Ok z) = refl
-        by_answer (Err e) = refl
+mark_at_most p n known false m f h e r = absurd (false≢true (sym r ∙ ap is_rest e ∙ rest_rest p n.region n.dual))
 
 -- the rest of a tree over the open nodes
 record IsRest (p : Program) (ns : List Node) (known node most : ℕ) (ms : List Mark) : Type 0 where

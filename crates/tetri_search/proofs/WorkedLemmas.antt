@@ -39,7 +39,6 @@ use Rattle.tetri_cert.proofs.ProperTreeLaws.{IsSound}
 use Rattle.tetri_search.specs.declared.branches.Branch.{Branch}
 use Rattle.tetri_search.specs.Table.{best_by, broken_from, end_mark, single_by, wide_from, worked_by, worked_mark}
 use Rattle.tetri_search.specs.Follow.{best_after, natural}
-use Rattle.tetri_search.specs.Laws.{is_rest}
 use Rattle.tetri_search.proofs.SplitLemmas.{IsBroken, IsWide, broken_is, not_broken, not_wide, wide_is}
 
 -- a whole point is better than the best objective known
@@ -49,12 +48,11 @@ IsBetter known (Close q ws) = Unit {0}
 IsBetter known (Whole q ws worth cells) = pos known <ℤ worth
 IsBetter known (Rest q ws) = Unit {0}
 
--- the mark passes its tests, bounds its region by the best objective known behind it, and is no rest
+-- the mark passes its tests, and bounds its region by the best objective known behind it
 pub record IsWorked (p : Program) (b : Bounds) (known : ℕ) (m : Mark) : Type 0 where
   pub sound : IsSound p b m
   pub at_most : end_bound p b m ≤ best_after known m
   pub better : IsBetter known m
-  pub written : is_rest m ≡ false
 
 -- ---- numbers
 capped_at_most : (z : ℤ) (n : ℕ) → z ≤ℤ pos n → capped z ≤ n
@@ -167,7 +165,6 @@ single_worked p b known f h s (Some i) e =
       sound = row_proper p b i f h s (subst (λ k. k < length p.rows.items) n u.in_list) (subst (λ k. right_of p.rows.items k <ℤ left_side (terms_of p.rows.items k) b.lower) n u.broken);
       at_most = omega arith;
       better = tt;
-      written = refl;
     }
 single_worked p b known f h s None e = by_test (le_z (objective p b.lower) (pos known)) refl
   where
@@ -176,13 +173,11 @@ single_worked p b known f h s None e = by_test (le_z (objective p b.lower) (pos 
       sound = none_proper p b f h;
       at_most = subst (λ n. n ≤ known) (sym (none_floor p b h s)) (capped_at_most (objective p b.lower) known (known_above (objective p b.lower) known g));
       better = tt;
-      written = refl;
     }
     by_test false g = record {
       sound = (none_proper p b f h, worth_of p b b.lower h.lower_count (lower_is_point p b h e));
       at_most = subst (λ n. n ≤ max known (natural (objective p b.lower))) (sym (none_floor p b h s)) (capped_at_most (objective p b.lower) (max known (natural (objective p b.lower))) (natural_above (objective p b.lower) known));
       better = known_below (objective p b.lower) known g;
-      written = refl;
     }
 
 -- ---- the ends of runs
@@ -210,7 +205,7 @@ whole_weighed p b known point q ws z w =
     (z.optimal ∙ ap (λ x. whole_ℚ q *ℚ x) (sym (worth_same p point w)) ∙ sym (whole_ℚ-*ℤ q (objective p (numerators point))))
 
 best_worked : (p : Program) (b : Bounds) (known : ℕ) (point : List ℚ) (q : ℤ) (ws : List Weight) → CertifiesBest p b known point q ws → (o : Option Branch) → broken_from 0 point ≡ o → IsWorked p b known (best_by o p point q ws)
-best_worked p b known point q ws z (Some c) e = record { sound = broken_sound p b known point q ws c z (broken_is 0 point c e); at_most = omega arith; better = tt; written = refl }
+best_worked p b known point q ws z (Some c) e = record { sound = broken_sound p b known point q ws c z (broken_is 0 point c e); at_most = omega arith; better = tt }
 best_worked p b known point q ws z None e =
     let w = not_broken 0 point e in
     let x = numerators point in
@@ -222,7 +217,6 @@ best_worked p b known point q ws z None e =
       sound = (proper_above p b q ws z.weights.rows z.weights.signs z.multiplier z.weights.formed, worth_of p b x i.count i);
       at_most = subst (λ n. n ≤ max known (natural o)) (sym f) (capped_at_most o (max known (natural o)) (natural_above o known));
       better = subst (λ y. pos known <ℤ y) g z.above;
-      written = refl;
     }
 
 end_worked : (p : Program) (b : Bounds) (known : ℕ) (c : Branch) → IsInBox p b → IsWide 0 b.lower b.upper c → (e : End) → Certifies p b known e → IsWorked p b known (end_mark p c e)
@@ -231,16 +225,14 @@ end_worked p b known c h w (cut q ws) z = record {
   sound = proper_above p b q ws z.weights.rows z.weights.signs z.multiplier z.weights.formed;
   at_most = subst (λ n. n ≤ known) (sym (floor_above_zero p b q ws z.multiplier)) (capped_at_most _ known z.at_most);
   better = tt;
-  written = refl;
 }
 end_worked p b known c h w (empty ws) z = record {
   sound = record { rows = z.weights.rows; weights = z.weights.signs; over = omega (arith, ints); formed = z.weights.formed; empty = λ e. z.negative };
   at_most = omega arith;
   better = tt;
-  written = refl;
 }
-end_worked p b known c h w (past place) z = record { sound = wide_sound p b c h w; at_most = omega arith; better = tt; written = refl }
-end_worked p b known c h w long z = record { sound = wide_sound p b c h w; at_most = omega arith; better = tt; written = refl }
+end_worked p b known c h w (past place) z = record { sound = wide_sound p b c h w; at_most = omega arith; better = tt }
+end_worked p b known c h w long z = record { sound = wide_sound p b c h w; at_most = omega arith; better = tt }
 
 worked_by_is : (p : Program) (b : Bounds) (known : ℕ) → IsFit p → IsInBox p b → (o : Option Branch) → wide_from 0 b.lower b.upper ≡ o → IsWorked p b known (worked_by o p b known)
 worked_by_is p b known f h None e =

@@ -1,8 +1,8 @@
-use Rattle.std.proofs.Common.{rules, ◌≡◌, ◌++◌, ◌≤◌, ◌^◌, IfOk, OnOk, Some, length, map, ℕ, ◌+◌, ◌-◌, ◌*◌, ◌<◌, ◌/◌, ◌%◌, Bool, true, false, nat_eq, nat_lt, List, [], ◌∷◌, slice_index_or, slice_set, bit_and, bit_or, Fits, w8, w32, w64, Bor, MutBor}
-use Rattle.tetri_num.specs.Frac.{value}
-use Rattle.tetri_cert.specs.Cells.{cell_at, cells_of, frac_cell_at, frac_cells_of}
+use Rattle.std.proofs.Common.{refl, ◌<◌, arith, length}
+use Rattle.tetri_cert.proofs.CellLemmas.{frac_cells_added}
 use Rattle.tetri_cert.proofs.cells.frac_cells_of.Goals as goal
 
--- src/cells.rt:48:5
 pub loop-j-preserved : goal.loop-j-preserved
-loop-j-preserved c = ?
+loop-j-preserved c =
+    let l : c.loop-j.j < length c.args.point.now = omega arith in
+    frac_cells_added c.args.point.now c.loop-j.j c.loop-j.j c.index-point-j.result c.loop-j.cells c.add_frac_cell.new.cells _ l c.index-point-j.is refl c.in_ok-add_frac_cell.ensures c.loop-j.invariant
