@@ -7,3 +7,6 @@ pub mod Sides
 pub mod IndexLemmas
 pub mod MergeLemmas
 pub mod FitTests
+pub mod PointLaws
+pub mod UnmetLemmas
+pub mod WeighingLaws

@@ -1,0 +1,8 @@
+pub mod Signed
+pub mod MarkLemmas
+pub mod SplitLemmas
+pub mod WorkedLemmas
+pub mod NodeLemmas
+pub mod ProperLemmas
+pub mod CountLemmas
+pub mod SpentLemmas

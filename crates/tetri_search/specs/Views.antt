@@ -1,0 +1,1 @@
+-- What the code keeps, as the definitions speak of it.
