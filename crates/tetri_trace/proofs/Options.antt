@@ -13,7 +13,7 @@ some_from_ok (Some y) e x h = cc
 -- a first step that stops is all that is seen
 pub stops_first : {A B : Type 0} (o : Option A) (f : A → Option B) (why : TraceWhy) (stop : Stop) → Stops stop (ok_or o why) → Stops stop (ok_or (option_and_then f o) why)
 stops_first o f why stops.NoMemory h = tt
-stops_first None f why (stops.Because other) h = h
+stops_first None f why (stops.Because other) h = cc
 stops_first (Some x) f why (stops.Because other) h = absurd (cc)
 
 -- a first step that gave nothing

@@ -8,13 +8,15 @@ use Rattle.tetri_space.specs.declared.closure.Closure.{Closure}
 use Rattle.tetri_trace.specs.Fields.{name_in, number_in}
 use Rattle.tetri_trace.specs.declared.closures.ClosureText.{ClosureText}
 
+-- the slot that a key holds, from `low` to 30,000
+unfoldable pub slot_at : List ℕ → ℕ → Data → Option ℕ
+slot_at key low d = get key d >>= number_in low 30000
+
 -- the first slot and the last, which is not below the first
 unfoldable pub slots_in : Data → Option (ℕ × ℕ)
 slots_in d = do
-  first ← get (codes "from") d
-  from ← number_in 0 30000 first
-  last ← get (codes "to") d
-  to ← number_in from 30000 last
+  from ← slot_at (codes "from") 0 d
+  to ← slot_at (codes "to") from d
   Some (from, to)
 
 -- a closure, with the name of its node

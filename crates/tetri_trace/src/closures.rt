@@ -5,7 +5,7 @@ ghost use Rattle.serde_json.specs.View.{view};
 ghost use Rattle.tetri_cluster.specs.Cluster.{names_of};
 ghost use Rattle.tetri_space.specs.Closed.{AreSoundClosures, IsSoundClosure};
 ghost use Rattle.tetri_trace.specs.Answers.{Gives};
-ghost use Rattle.tetri_trace.specs.Closures.{closure_in, closures_at, closures_in, closures_of, slots_in, IsWithinLimits};
+ghost use Rattle.tetri_trace.specs.Closures.{closure_in, closures_at, closures_in, closures_of, slot_at, slots_in, IsWithinLimits};
 ghost use Rattle.tetri_trace.specs.Fields.{optional};
 ghost use Rattle.tetri_trace.specs.declared.fault.Field.TheVariants as fields;
 ghost use Rattle.tetri_trace.specs.declared.fault.TraceWhy.TheVariants as whys;
@@ -27,22 +27,30 @@ pub(crate) struct ClosureText {
     pub(crate) to: u32,
 }
 
+// The slot that this key holds, from `low` to 30,000.
+#[tactic(auto, using(crate::proofs::Options::some_from_ok, crate::proofs::Options::stops_first, crate::proofs::Options::stops_none), unfolding(crate::specs::Closures::slot_at))]
+fn slot_at(closure: &Value, key: &str, low: u32) -> Result<u32, Stop>
+    ensures value { Gives (λ n. n) result (ok_or (slot_at key.now low (view closure.now)) (whys.BadField fields.Closures)) }
+    ensures within { IfOk result (λ n. (low ≤ n) × (n ≤ 30000)) }
+{
+    let Some(value) = closure.get(key) else {
+        return Err(bad(Field::Closures));
+    };
+    number_in(value, low, 30_000, Field::Closures)
+}
+
 // The first and the last slot of a closure.
+#[tactic(auto, using(crate::proofs::Options::some_from_ok, crate::proofs::Options::stops_first, crate::proofs::Options::stops_none), unfolding(crate::specs::Closures::slots_in))]
 fn slots_in(value: &Value) -> Result<(u32, u32), Stop>
     ensures value { Gives (λ slots. slots) result (ok_or (slots_in (view value.now)) (whys.BadField fields.Closures)) }
     ensures within { IfOk result (λ slots. (slots.0 ≤ slots.1) × (slots.1 ≤ 30000)) }
 {
-    let Some(first) = value.get("from") else {
-        return Err(bad(Field::Closures));
-    };
-    let from = number_in(first, 0, 30_000, Field::Closures)?;
-    let Some(last) = value.get("to") else {
-        return Err(bad(Field::Closures));
-    };
-    let to = number_in(last, from, 30_000, Field::Closures)?;
+    let from = slot_at(value, "from", 0)?;
+    let to = slot_at(value, "to", from)?;
     Ok((from, to))
 }
 
+#[tactic(auto, using(crate::proofs::Options::some_from_ok, crate::proofs::Options::stops_first, crate::proofs::Options::stops_none), unfolding(crate::specs::Closures::closure_in))]
 fn closure_in(alloc: Global, value: &Value) -> Result<ClosureText, Stop>
     ensures value { Gives (λ c. c) result (ok_or (closure_in (view value.now)) (whys.BadField fields.Closures)) }
     ensures within { IfOk result IsWithinLimits }
@@ -56,6 +64,7 @@ fn closure_in(alloc: Global, value: &Value) -> Result<ClosureText, Stop>
     Ok(ClosureText { node, from, to })
 }
 
+#[tactic(auto, using(crate::proofs::Options::some_from_ok, crate::proofs::Options::stops_first, crate::proofs::Options::stops_none))]
 fn closures_in(alloc: Global, value: &Value) -> Result<Vec<ClosureText>, Stop>
     ensures value { Gives (λ v. v.items) result (ok_or (option_and_then closures_in (as_array (view value.now))) (whys.BadField fields.Closures)) }
     ensures within { IfOk result (λ v. All IsWithinLimits v.items) }
@@ -86,6 +95,7 @@ pub(crate) fn closures_of(alloc: Global, object: &Value) -> Result<Vec<ClosureTe
     Ok(closures)
 }
 
+#[tactic(auto, using(crate::proofs::Options::some_from_ok, crate::proofs::Options::stops_first, crate::proofs::Options::stops_none))]
 fn numbered(alloc: Global, cluster: &Cluster, texts: &[ClosureText]) -> Result<Vec<Closure>, Stop>
     requires { All IsWithinLimits texts.now }
     ensures value { Gives (λ v. v.items) result (ok_or (closures_at (names_of cluster.now) texts.now) whys.NoSuchNode) }
