@@ -7,13 +7,13 @@ use Rattle.tetri_strl.specs.Tree.{leaves}
 use Rattle.tetri_strl.specs.WellMade.{IsSound}
 use Rattle.tetri_strl.proofs.PartsApart.{AreApart}
 use Rattle.tetri_base.specs.Lists.{sum_of, has, Each, EachPair, Ascends}
-use Rattle.tetri_space.specs.Partitions.{part_at, set_at, asked, live_bids, partitions}
+use Rattle.tetri_space.specs.Partitions.{part_at, set_at, asked, live_bids, partitions, closed_sets}
 use Rattle.tetri_space.specs.Space.{Bid, Space, leaf_in}
-use Rattle.tetri_base.proofs.ListLaws.{Each-map, Each-all, Each-append, Each-across, EachPair-append, range-ascends, filter-ascends, EachPair-filter}
+use Rattle.tetri_base.proofs.ListLaws.{Each-map, Each-all, Each-append, Each-across, EachPair-append, range-ascends, filter-ascends, EachPair-filter, Each-both}
 use Rattle.tetri_compile.specs.declared.outline.Tally.{Tally}
 use Rattle.tetri_compile.specs.Draft.{bid_tallies, draft}
 use Rattle.tetri_compile.specs.Walk.{width}
-use Rattle.tetri_compile.proofs.TallyLemmas.{IsOf, tallies_leaf, tallies_other}
+use Rattle.tetri_compile.proofs.ProgramLaws.{Each-has, IsOf, counts_are, tallies_leaf, tallies_other}
 use Rattle.std.specs.List.Sorted.{IsNonDecreasingBy, IsPermutation}
 use lib.IntN.{ℤ}
 use Rattle.tetri_ip.specs.Points.{IsPoint, box_of}
@@ -23,17 +23,16 @@ use Rattle.tetri_compile.specs.declared.compiling.Compiled.{Compiled}
 use Rattle.tetri_compile.specs.declared.taking.Taken.{Taken}
 use Rattle.tetri_compile.specs.Counting.{AreCountsOf, taken_at}
 use Rattle.tetri_compile.specs.Flat.{IsCompiled}
-use Rattle.tetri_compile.proofs.CountLemmas.{counts_are}
-use Rattle.tetri_compile.proofs.FairLemmas.{Each-has}
 use Rattle.tetri_assign.specs.Assigned.{all_held, assigned, count_at, gathered}
 use Rattle.tetri_assign.specs.Taking.{NEVER, back_at, backs, taken_from, want_of, wants_from}
 use Rattle.tetri_assign.specs.declared.held.Held.{Held}
 use Rattle.tetri_assign.specs.declared.wants.Want.{Want}
-use Rattle.tetri_assign.proofs.BackLemmas.{first_backs, taken_sum}
+use Rattle.tetri_assign.proofs.BackLemmas.{IsOpenAt, first_backs, taken_sum}
 use Rattle.tetri_assign.proofs.GrantsLawful.{all_of}
 use Rattle.tetri_assign.proofs.Law.{meeting}
+use Rattle.tetri_assign.proofs.LawfulFacts.{not_closed}
 use Rattle.tetri_assign.proofs.MarkLemmas.{each_of, parts_small}
-use Rattle.tetri_assign.proofs.Meeting.{IsMeeting, IsPlaced, all_placed, cs, good_leaf, inside, leaf_is, ordered, ordered_placed, parts, part_inside, above_zero, made_pieces, usable}
+use Rattle.tetri_assign.proofs.Meeting.{IsMeeting, IsOpen, IsPlaced, all_placed, cs, good_leaf, inside, leaf_is, ordered, ordered_open, ordered_placed, parts, part_inside, above_zero, made_pieces, usable}
 use Rattle.tetri_assign.proofs.Turns.{StartsFirst, in_turn}
 use Rattle.tetri_assign.proofs.Wanting.{IsOtherCount, held_test, sorted_held, sorted_wants, want_test, wants_are}
 
@@ -70,55 +69,58 @@ module _ (s : Space) (sound : IsSoundSpace s) (c : Compiled) (is : IsCompiled s 
   abbrev bs : List Bid
   bs = live_bids s
 
-  abbrev sets : List (List ℕ)
-  sets = asked s bs
+  abbrev asks : List (List ℕ)
+  asks = asked s bs
+
+  abbrev marks : List (List ℕ)
+  marks = closed_sets s
 
   abbrev x : ℕ → ℕ
   x = count_at point
 
-  meets : IsMeeting s bs sets x
+  meets : IsMeeting s bs asks marks x
   meets = meeting s sound c.program is.program point at
 
   abbrev turn : List Tally
-  turn = ordered s bs sets x meets
+  turn = ordered s bs asks marks x meets
 
   pub counts_right : AreCountsOf c.program c.counts.items
   counts_right =
-      counts_are (inside s bs sets x) (usable s bs sets x) bs (Each-map (λ b. IsSound b.expr × AreApart b.expr) (λ b. IsSound b.expr) (λ b h. h.0) bs meets.sound)
+      counts_are (inside s bs asks marks x) (usable s bs asks marks x) bs (Each-map (λ b. IsSound b.expr × AreApart b.expr) (λ b. IsSound b.expr) (λ b h. h.0) bs meets.sound)
       (draft s) refl refl c.program is.program c.counts.items is.counts
 
   offered : Each (λ d. leaf_in s.bids d.job d.leaf.num ≡ Some d.leaf) (draft s).tallies
   offered =
-      Each-map (IsPlaced s bs sets x) (λ d. leaf_in s.bids d.job d.leaf.num ≡ Some d.leaf) (λ d k. leaf_is s bs sets x meets d k) (cs s bs sets x) (all_placed s bs sets x)
+      Each-map (IsPlaced s bs asks marks x) (λ d. leaf_in s.bids d.job d.leaf.num ≡ Some d.leaf) (λ d k. leaf_is s bs asks marks x meets d k) (cs s bs asks marks x) (all_placed s bs asks marks x)
 
-  others : EachPair IsOtherCount (above_zero s bs sets x meets)
+  others : EachPair IsOtherCount (above_zero s bs asks marks x meets)
   others =
-      EachPair-filter IsOtherCount (λ d. nat_lt 0 (x d.column)) (cs s bs sets x)
-      (tallies_apart (inside s bs sets x) (usable s bs sets x)
-      (λ k. filter-ascends (λ p. list_all (has (set_at s k)) (part_at (parts s bs sets x) p)) (range_with_len 0 (length (parts s bs sets x))) (range-ascends 0 (length (parts s bs sets x))))
+      EachPair-filter IsOtherCount (λ d. nat_lt 0 (x d.column)) (cs s bs asks marks x)
+      (tallies_apart (inside s bs asks marks x) (usable s bs asks marks x)
+      (λ k. filter-ascends (λ p. list_all (has (set_at s k)) (part_at (parts s bs asks marks x) p)) (range_with_len 0 (length (parts s bs asks marks x))) (range-ascends 0 (length (parts s bs asks marks x))))
       bs 0 meets.sound meets.jobs)
 
   module _ (counts : List Taken) (wants sorted : List Want) (counted : counts ≡ taken_at point c.counts.items) (wanted : wants ≡ wants_from s.bids counts)
       (moved : IsPermutation wants sorted) (sorts : (k : ℕ) (d : Want) → 0 ≤ k → k + 1 < length sorted → want_test (get_or sorted (k + 1) d) (get_or sorted k d) ≡ false) where
     turn_is : sorted ≡ map (want_of x) turn
     turn_is =
-        let first : wants ≡ map (want_of x) (above_zero s bs sets x meets) =
+        let first : wants ≡ map (want_of x) (above_zero s bs asks marks x meets) =
         wanted ∙ ap (wants_from s.bids) (counted ∙ ap (taken_at point) is.counts) ∙ wants_are s.bids point (draft s).tallies offered in
-        sorted_wants x (above_zero s bs sets x meets) others sorted (subst (λ (ws : List Want). IsPermutation ws sorted) first moved) sorts
+        sorted_wants x (above_zero s bs asks marks x meets) others sorted (subst (λ (ws : List Want). IsPermutation ws sorted) first moved) sorts
 
-    all_wants : (P : Want → Type 0) → ((d : Tally) → IsPlaced s bs sets x d → P (want_of x d)) → All P sorted
+    all_wants : (P : Want → Type 0) → ((d : Tally) → IsPlaced s bs asks marks x d → P (want_of x d)) → All P sorted
     all_wants P f =
         subst (All P) (sym turn_is)
-        (all_of P (map (want_of x) turn) (each_want x P turn (Each-map (IsPlaced s bs sets x) (λ d. P (want_of x d)) f turn (ordered_placed s bs sets x meets))))
+        (all_of P (map (want_of x) turn) (each_want x P turn (Each-map (IsPlaced s bs asks marks x) (λ d. P (want_of x d)) f turn (ordered_placed s bs asks marks x meets))))
 
     pub wants_there : All (λ w. w.part < length (partitions s)) sorted
-    wants_there = all_wants (λ w. w.part < length (partitions s)) (λ d k. part_inside s bs sets x meets d k)
+    wants_there = all_wants (λ w. w.part < length (partitions s)) (λ d k. part_inside s bs asks marks x meets d k)
 
     pub wants_last : All (λ w. w.start < w.end) sorted
-    wants_last = all_wants (λ w. w.start < w.end) (λ d k. omega (arith, (good_leaf s bs sets x meets k.bid d.leaf k.among k.of_bid.leaf).some_slots))
+    wants_last = all_wants (λ w. w.start < w.end) (λ d k. omega (arith, (good_leaf s bs asks marks x meets k.bid d.leaf k.among k.of_bid.leaf).some_slots))
 
     pub wants_turn : IsNonDecreasingBy (λ (w : Want). w.start) sorted
-    wants_turn = subst (IsNonDecreasingBy (λ (w : Want). w.start)) (sym turn_is) (starts_rise x turn (in_turn (above_zero s bs sets x meets)))
+    wants_turn = subst (IsNonDecreasingBy (λ (w : Want). w.start)) (sym turn_is) (starts_rise x turn (in_turn (above_zero s bs asks marks x meets)))
 
     module _ (taken ordered_held : List Held) (took : taken ≡ taken_from (partitions s) (backs s) sorted)
         (held_moved : IsPermutation taken ordered_held)
@@ -126,15 +128,19 @@ module _ (s : Space) (sound : IsSoundSpace s) (c : Compiled) (is : IsCompiled s 
       small : (p n : ℕ) → has (part_at (partitions s) p) n ≡ true → n < s.nodes
       small p n e = Each-has (λ m. m < s.nodes) (part_at (partitions s) p) n (each_of (λ m. m < s.nodes) (part_at (partitions s) p) (parts_small s p)) e
 
-      same_sums : (f : Held → ℕ) → sum_of f taken ≡ sum_of f (all_held (made_pieces s bs sets x meets))
+      same_sums : (f : Held → ℕ) → sum_of f taken ≡ sum_of f (all_held (made_pieces s bs asks marks x meets))
       same_sums f =
-          let early = Each-map (IsPlaced s bs sets x) (λ d. d.leaf.start < NEVER) (λ d k. omega (arith, (good_leaf s bs sets x meets k.bid d.leaf k.among k.of_bid.leaf).within)) turn (ordered_placed s bs sets x meets) in
+          let early = Each-map (IsPlaced s bs asks marks x) (λ d. d.leaf.start < NEVER) (λ d k. omega (arith, (good_leaf s bs asks marks x meets k.bid d.leaf k.among k.of_bid.leaf).within)) turn (ordered_placed s bs asks marks x meets) in
           let long : length (backs s) ≡ s.nodes = length-map-range_with_len (back_at s) 0 s.nodes in
-          let sums = taken_sum s (partitions s) x small f turn [] (backs s) 0 long (first_backs s 0) (Each-all (λ d. 0 ≤ d.leaf.start) (λ d. omega arith) turn) (in_turn (above_zero s bs sets x meets)) early in
+          let opened =
+          Each-both (IsPlaced s bs asks marks x) (IsOpen s bs asks marks x meets) (IsOpenAt s (partitions s) x small)
+          (λ d k o n e. not_closed s (partitions s) d.part d.leaf o n d.leaf.start e (omega arith) (omega (arith, (good_leaf s bs asks marks x meets k.bid d.leaf k.among k.of_bid.leaf).some_slots)))
+          turn (ordered_placed s bs asks marks x meets) (ordered_open s bs asks marks x meets) in
+          let sums = taken_sum s (partitions s) x small f turn [] (backs s) 0 long (first_backs s 0) (Each-all (λ d. 0 ≤ d.leaf.start) (λ d. omega arith) turn) (in_turn (above_zero s bs asks marks x meets)) early opened in
           ap (sum_of f) (took ∙ ap (taken_from (partitions s) (backs s)) turn_is) ∙ plus_none (sum_of f (taken_from (partitions s) (backs s) (map (want_of x) turn))) ∙ sums
         where
           plus_none : (n : ℕ) → n ≡ n + 0
           plus_none n = omega arith
 
       pub gathered_assigned : gathered ordered_held ≡ assigned s point
-      gathered_assigned = ap gathered (sorted_held taken ordered_held (all_held (made_pieces s bs sets x meets)) held_moved held_sorts same_sums)
+      gathered_assigned = ap gathered (sorted_held taken ordered_held (all_held (made_pieces s bs asks marks x meets)) held_moved held_sorts same_sums)

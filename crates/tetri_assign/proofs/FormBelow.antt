@@ -9,8 +9,7 @@ use Rattle.tetri_strl.specs.WellMade.{HasChild, IsSound, AreSound}
 use Rattle.tetri_strl.specs.Worth.{greatest_of, least_of, least_from, added_of, worth_by, worths_by}
 use Rattle.tetri_compile.specs.Forms.{share, at_point, run, limit, AreMet, Within}
 use Rattle.tetri_compile.specs.Walk.{ones, best, uppers, uppers_of, width, form, forms, rows, rows_of, rows_under}
-use Rattle.tetri_compile.proofs.FormLemmas.{at_point-append, at_point-times, at_point-run, Within-split, AreMet-split}
-use Rattle.tetri_compile.proofs.WalkLemmas.{IsBelowEach}
+use Rattle.tetri_compile.proofs.ProgramLaws.{AreMet-split, IsBelowEach, Within-split, at_point-append, at_point-run, at_point-times}
 use Rattle.tetri_assign.proofs.Counted.{IsCounted, AreCounted}
 
 below_least_from : (m n : ℕ) (xs : List ℕ) → m ≤ n → IsBelowEach m xs → m ≤ least_from n xs

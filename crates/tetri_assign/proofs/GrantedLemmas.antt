@@ -16,15 +16,13 @@ use Rattle.tetri_compile.specs.declared.outline.Tally.{Tally}
 use Rattle.tetri_compile.specs.Draft.{tallies, bid_uppers, objective, bid_rows, bid_tallies}
 use Rattle.tetri_compile.specs.Forms.{at_point, run, AreMet, Within}
 use Rattle.tetri_compile.specs.Walk.{own_uppers, uppers, width, form, rows}
-use Rattle.tetri_compile.proofs.FormLemmas.{at_point-append, Within-split, AreMet-split}
-use Rattle.tetri_compile.proofs.TallyLemmas.{IsOf, tallies_leaf}
+use Rattle.tetri_compile.proofs.ProgramLaws.{AreMet-split, IsOf, Within-split, at_point-append, tallies_leaf, worth_of_bids}
 use Rattle.tetri_assign.specs.Assigned.{Piece, piece, pieces, all_held, held_before, gathered}
 use Rattle.tetri_base.specs.Order.{in_order}
 use Rattle.tetri_assign.proofs.Counted.{AtLeaves, AtLeavesOf, IsCounted}
 use Rattle.tetri_assign.proofs.FormBelow.{form_le}
 use Rattle.tetri_assign.proofs.LeafSums.{EachLeaf-at, AtLeaves-map, tree_sum, number_sum, few}
 use Rattle.tetri_compile.specs.Allotted.{granted_in}
-use Rattle.tetri_compile.proofs.FairLemmas.{worth_of_bids}
 use Rattle.tetri_assign.proofs.HeldLemmas.{weigh_pieces, granted_weigh}
 use Rattle.tetri_assign.proofs.Meeting.{parts, inside, usable, cs, IsMeeting, ordered, made_pieces, part_ascends, parts_differ, right, rows_met, zeros_vanish, cond_zero}
 use Rattle.tetri_assign.proofs.Pieces.{IsExact}
@@ -42,42 +40,42 @@ module _ (inside : ℕ → List ℕ) (usable : ℕ → Leaf → ℕ) (P Q : Leaf
     AtLeavesOf-join none n p q = tt
     AtLeavesOf-join (more t ts) n p q = (AtLeaves-join t n p.0 q.0, AtLeavesOf-join ts (n + width inside usable t) p.1 q.1)
 
-module _ (i : Space) (os : List Bid) (sets : List (List ℕ)) (x : ℕ → ℕ) (meets : IsMeeting i os sets x) where
+module _ (i : Space) (os : List Bid) (asks marks : List (List ℕ)) (x : ℕ → ℕ) (meets : IsMeeting i os asks marks x) where
   abbrev pub made : List Grant
-  made = gathered (in_order held_before (all_held (made_pieces i os sets x meets)))
+  made = gathered (in_order held_before (all_held (made_pieces i os asks marks x meets)))
 
   abbrev ins : ℕ → List ℕ
-  ins = inside i os sets x
+  ins = inside i os asks marks x
 
   abbrev rm : ℕ → Leaf → ℕ
-  rm = usable i os sets x
+  rm = usable i os asks marks x
 
   abbrev Exact : Piece → Type 0
-  Exact q = IsExact i (parts i os sets x) x (part_ascends i os sets x meets) (parts_differ i os sets x meets) q
+  Exact q = IsExact i (parts i os asks marks x) x (part_ascends i os asks marks x meets) (parts_differ i os asks marks x meets) q
 
   -- the pieces are of the counts
-  sum_of-pieces : (h : Tally → ℕ) (qs : List Piece) (ds : List Tally) → sum_of (λ q. h q.tally) (pieces i (parts i os sets x) x qs ds) ≡ sum_of h ds + sum_of (λ q. h q.tally) qs
+  sum_of-pieces : (h : Tally → ℕ) (qs : List Piece) (ds : List Tally) → sum_of (λ q. h q.tally) (pieces i (parts i os asks marks x) x qs ds) ≡ sum_of h ds + sum_of (λ q. h q.tally) qs
   sum_of-pieces h qs [] = omega arith
-  sum_of-pieces h qs (d ∷ ds) = omega (arith, sum_of-pieces h (piece i (parts i os sets x) x qs d ∷ qs) ds)
+  sum_of-pieces h qs (d ∷ ds) = omega (arith, sum_of-pieces h (piece i (parts i os asks marks x) x qs d ∷ qs) ds)
 
-  pieces_sum : (h : Tally → ℕ) → ((c : Tally) → x c.column ≡ 0 → h c ≡ 0) → sum_of (λ q. h q.tally) (made_pieces i os sets x meets) ≡ sum_of h (cs i os sets x)
-  pieces_sum h zero_at = omega (arith, sum_of-pieces h [] (ordered i os sets x meets), zeros_vanish i os sets x meets h zero_at)
+  pieces_sum : (h : Tally → ℕ) → ((c : Tally) → x c.column ≡ 0 → h c ≡ 0) → sum_of (λ q. h q.tally) (made_pieces i os asks marks x meets) ≡ sum_of h (cs i os asks marks x)
+  pieces_sum h zero_at = omega (arith, sum_of-pieces h [] (ordered i os asks marks x meets), zeros_vanish i os asks marks x meets h zero_at)
 
   -- ---- a leaf's nodes
   abbrev of_leaf : ℕ → ℕ → Tally → Bool
   of_leaf job leaf d = d.job == job && d.leaf.num == leaf
 
-  pub granted_sum : (job leaf : ℕ) → granted made job leaf ≡ sum_of (λ d. cond (of_leaf job leaf d) (x d.column) 0) (cs i os sets x)
+  pub granted_sum : (job leaf : ℕ) → granted made job leaf ≡ sum_of (λ d. cond (of_leaf job leaf d) (x d.column) 0) (cs i os asks marks x)
   granted_sum job leaf =
       granted_weigh made job leaf
-      ∙ weigh_pieces (λ n. 1) job leaf (made_pieces i os sets x meets)
-      ∙ sum_of-eq (λ q. cond (of_leaf job leaf q.tally) (sum_of (λ n. 1) q.nodes) 0) (λ q. cond (of_leaf job leaf q.tally) (x q.tally.column) 0) (made_pieces i os sets x meets)
+      ∙ weigh_pieces (λ n. 1) job leaf (made_pieces i os asks marks x meets)
+      ∙ sum_of-eq (λ q. cond (of_leaf job leaf q.tally) (sum_of (λ n. 1) q.nodes) 0) (λ q. cond (of_leaf job leaf q.tally) (x q.tally.column) 0) (made_pieces i os asks marks x meets)
       (Each-map Exact (λ q. cond (of_leaf job leaf q.tally) (sum_of (λ n. 1) q.nodes) 0 ≡ cond (of_leaf job leaf q.tally) (x q.tally.column) 0)
-      (λ q exact. ap (λ n. cond (of_leaf job leaf q.tally) n 0) (sum_of-one q.nodes ∙ exact.many)) (made_pieces i os sets x meets) (right i os sets x meets).0)
-      ∙ pieces_sum (λ d. cond (of_leaf job leaf d) (x d.column) 0) (λ d e. cond_zero i os sets x meets (of_leaf job leaf d) (x d.column) e)
+      (λ q exact. ap (λ n. cond (of_leaf job leaf q.tally) n 0) (sum_of-one q.nodes ∙ exact.many)) (made_pieces i os asks marks x meets) (right i os asks marks x meets).0)
+      ∙ pieces_sum (λ d. cond (of_leaf job leaf d) (x d.column) 0) (λ d e. cond_zero i os asks marks x meets (of_leaf job leaf d) (x d.column) e)
 
   -- ---- a leaf's nodes of one partition
-  in_part : (q : Piece) → Exact q → (p : ℕ) → sum_of (λ n. bit (has (part_at (parts i os sets x) p) n)) q.nodes ≡ cond (q.tally.part == p) (x q.tally.column) 0
+  in_part : (q : Piece) → Exact q → (p : ℕ) → sum_of (λ n. bit (has (part_at (parts i os asks marks x) p) n)) q.nodes ≡ cond (q.tally.part == p) (x q.tally.column) 0
   in_part q exact p = by_part (q.tally.part == p) refl
     where
       own : List ℕ → Type 0
@@ -93,17 +91,17 @@ module _ (i : Space) (os : List Bid) (sets : List (List ℕ)) (x : ℕ → ℕ) 
             Each-map (λ m. has ns m ≡ true) (λ m. has (n ∷ ns) m ≡ true) (λ m e. or_right (n == m) (has ns m) e) ns (has_own ns),
           )
 
-      by_part : (b : Bool) → (q.tally.part == p) ≡ b → sum_of (λ n. bit (has (part_at (parts i os sets x) p) n)) q.nodes ≡ cond b (x q.tally.column) 0
+      by_part : (b : Bool) → (q.tally.part == p) ≡ b → sum_of (λ n. bit (has (part_at (parts i os asks marks x) p) n)) q.nodes ≡ cond b (x q.tally.column) 0
       by_part true e =
-          sum_of-eq (λ n. bit (has (part_at (parts i os sets x) p) n)) (λ n. 1) q.nodes
-          (Each-map (λ n. has q.nodes n ≡ true) (λ n. bit (has (part_at (parts i os sets x) p) n) ≡ 1)
-          (λ n t. ap bit (subst (λ (r : ℕ). has (part_at (parts i os sets x) r) n ≡ true) (eq_from_test q.tally.part p e) (exact.in_part n t))) q.nodes nodes_own)
+          sum_of-eq (λ n. bit (has (part_at (parts i os asks marks x) p) n)) (λ n. 1) q.nodes
+          (Each-map (λ n. has q.nodes n ≡ true) (λ n. bit (has (part_at (parts i os asks marks x) p) n) ≡ 1)
+          (λ n t. ap bit (subst (λ (r : ℕ). has (part_at (parts i os asks marks x) r) n ≡ true) (eq_from_test q.tally.part p e) (exact.in_part n t))) q.nodes nodes_own)
           ∙ sum_of-one q.nodes ∙ exact.many
       by_part false e =
-          sum_of-eq (λ n. bit (has (part_at (parts i os sets x) p) n)) (λ n. 0) q.nodes
-          (Each-map (λ n. has q.nodes n ≡ true) (λ n. bit (has (part_at (parts i os sets x) p) n) ≡ 0)
-          (λ n t. ap bit (false_from_ne_true (has (part_at (parts i os sets x) p) n) (λ u.
-          true≢false (sym (test_from_eq q.tally.part p (parts_differ i os sets x meets q.tally.part p n (exact.in_part n t) u)) ∙ e)))) q.nodes nodes_own)
+          sum_of-eq (λ n. bit (has (part_at (parts i os asks marks x) p) n)) (λ n. 0) q.nodes
+          (Each-map (λ n. has q.nodes n ≡ true) (λ n. bit (has (part_at (parts i os asks marks x) p) n) ≡ 0)
+          (λ n t. ap bit (false_from_ne_true (has (part_at (parts i os asks marks x) p) n) (λ u.
+          true≢false (sym (test_from_eq q.tally.part p (parts_differ i os asks marks x meets q.tally.part p n (exact.in_part n t) u)) ∙ e)))) q.nodes nodes_own)
           ∙ sum_of-zero q.nodes
 
   nested : (a b : Bool) (n : ℕ) → cond a (cond b n 0) 0 ≡ cond (a && b) n 0
@@ -111,14 +109,14 @@ module _ (i : Space) (os : List Bid) (sets : List (List ℕ)) (x : ℕ → ℕ) 
   nested false b n = refl
 
   pub granted_parts : (job leaf p : ℕ) →
-      granted_in made job leaf (part_at (parts i os sets x) p) ≡ sum_of (λ d. cond (of_leaf job leaf d && d.part == p) (x d.column) 0) (cs i os sets x)
+      granted_in made job leaf (part_at (parts i os asks marks x) p) ≡ sum_of (λ d. cond (of_leaf job leaf d && d.part == p) (x d.column) 0) (cs i os asks marks x)
   granted_parts job leaf p =
-      weigh_pieces (λ n. bit (has (part_at (parts i os sets x) p) n)) job leaf (made_pieces i os sets x meets)
-      ∙ sum_of-eq (λ q. cond (of_leaf job leaf q.tally) (sum_of (λ n. bit (has (part_at (parts i os sets x) p) n)) q.nodes) 0)
-      (λ q. cond (of_leaf job leaf q.tally && q.tally.part == p) (x q.tally.column) 0) (made_pieces i os sets x meets)
-      (Each-map Exact (λ q. cond (of_leaf job leaf q.tally) (sum_of (λ n. bit (has (part_at (parts i os sets x) p) n)) q.nodes) 0 ≡ cond (of_leaf job leaf q.tally && q.tally.part == p) (x q.tally.column) 0)
-      (λ q exact. ap (λ n. cond (of_leaf job leaf q.tally) n 0) (in_part q exact p) ∙ nested (of_leaf job leaf q.tally) (q.tally.part == p) (x q.tally.column)) (made_pieces i os sets x meets) (right i os sets x meets).0)
-      ∙ pieces_sum (λ d. cond (of_leaf job leaf d && d.part == p) (x d.column) 0) (λ d e. cond_zero i os sets x meets (of_leaf job leaf d && d.part == p) (x d.column) e)
+      weigh_pieces (λ n. bit (has (part_at (parts i os asks marks x) p) n)) job leaf (made_pieces i os asks marks x meets)
+      ∙ sum_of-eq (λ q. cond (of_leaf job leaf q.tally) (sum_of (λ n. bit (has (part_at (parts i os asks marks x) p) n)) q.nodes) 0)
+      (λ q. cond (of_leaf job leaf q.tally && q.tally.part == p) (x q.tally.column) 0) (made_pieces i os asks marks x meets)
+      (Each-map Exact (λ q. cond (of_leaf job leaf q.tally) (sum_of (λ n. bit (has (part_at (parts i os asks marks x) p) n)) q.nodes) 0 ≡ cond (of_leaf job leaf q.tally && q.tally.part == p) (x q.tally.column) 0)
+      (λ q exact. ap (λ n. cond (of_leaf job leaf q.tally) n 0) (in_part q exact p) ∙ nested (of_leaf job leaf q.tally) (q.tally.part == p) (x q.tally.column)) (made_pieces i os asks marks x meets) (right i os asks marks x meets).0)
+      ∙ pieces_sum (λ d. cond (of_leaf job leaf d && d.part == p) (x d.column) 0) (λ d e. cond_zero i os asks marks x meets (of_leaf job leaf d && d.part == p) (x d.column) e)
 
   -- ---- the counts of one job
   abbrev pub job_sum : ℕ → ℕ → List Tally → ℕ
@@ -148,7 +146,7 @@ module _ (i : Space) (os : List Bid) (sets : List (List ℕ)) (x : ℕ → ℕ) 
 
   -- the whole sum is the bid's own, for each of these bids
   abbrev IsOwn : List Bid → ℕ → Bid → Type 0
-  IsOwn bs n b = (num : ℕ) → job_sum b.job num (cs i os sets x) ≡ job_sum b.job num (bid_tallies ins rm bs n)
+  IsOwn bs n b = (num : ℕ) → job_sum b.job num (cs i os asks marks x) ≡ job_sum b.job num (bid_tallies ins rm bs n)
 
   -- each leaf of the bid has what its columns from number n on say
   abbrev HasCounts : Bid → ℕ → Type 0
@@ -208,7 +206,7 @@ module _ (i : Space) (os : List Bid) (sets : List (List ℕ)) (x : ℕ → ℕ) 
       )
 
   all_bids : HaveBids os 0
-  all_bids = have_bids os 0 (Each-from (Contains os) os (λ b at. at)) meets.jobs (Each-all (IsOwn os 0) (λ b num. refl) os) meets.box (rows_met i os sets x meets).0
+  all_bids = have_bids os 0 (Each-from (Contains os) os (λ b at. at)) meets.jobs (Each-all (IsOwn os 0) (λ b num. refl) os) meets.box (rows_met i os asks marks x meets).0
 
   -- the grants are worth at least the form
   bids_worth : (bs : List Bid) (n : ℕ) → HaveBids bs n → at_point x (objective ins rm bs n) ≤ worth_of_bids made bs

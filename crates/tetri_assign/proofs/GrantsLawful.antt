@@ -9,25 +9,26 @@ use Rattle.tetri_strl.specs.declared.grants.Grant.{Grant}
 use Rattle.tetri_strl.specs.Tree.{leaves}
 use Rattle.tetri_strl.specs.Worth.{granted}
 use Rattle.tetri_base.specs.Lists.{has, Each, EachPair, Ascends}
-use Rattle.tetri_space.specs.Partitions.{part_at, set_at, is_free}
+use Rattle.tetri_space.specs.Partitions.{part_at, set_at}
 use Rattle.tetri_space.specs.Space.{Bid, Space, leaf_in, Covers, set_of}
 use Rattle.tetri_base.proofs.ListLaws.{eq_from_test, test_from_eq, Each-map, Each-append, Each-passed, Each-both, Each-at, Each-from, Each-across, EachPair-append, EachPair-with, from_all}
 use Rattle.tetri_compile.specs.declared.outline.Tally.{Tally}
 use Rattle.std.proofs.lemmas.Option.{same_Some}
 use Rattle.tetri_compile.specs.Sizes.{covers}
-use Rattle.tetri_compile.proofs.FairLemmas.{Each-has}
+use Rattle.tetri_compile.specs.Usable.{is_shut}
+use Rattle.tetri_compile.proofs.ProgramLaws.{Each-has}
 use Rattle.tetri_assign.specs.Assigned.{Piece, held, all_held}
 use Rattle.tetri_assign.specs.declared.held.Held.{Held}
 use Rattle.tetri_assign.proofs.Turns.{EachPair-get}
 use native.Mathlib.Numerals.{unary_clauses}
 use Rattle.std.specs.List.Sorted.{IsStrictlyIncreasing}
 use Rattle.std.proofs.lemmas.List.Kept.{AllPairs-cons}
-use Rattle.tetri_space.specs.Free.{IsFree}
+use Rattle.tetri_space.specs.Free.{IsFree, is_free}
 use Rattle.tetri_space.specs.Lawful.{MayBeGranted, IsLawfulGrant, IsLawful}
 use Rattle.tetri_space.specs.Lawful.{AreApart as GrantsApart}
 use Rattle.tetri_space.proofs.FreeLemmas.{free_decides}
 use Rattle.tetri_assign.proofs.HeldLemmas.{IsOther, AreGathered, gathered_right, leaf_before}
-use Rattle.tetri_assign.proofs.Meeting.{parts, inside, IsMeeting, IsPlaced, made_pieces, part_ascends, parts_differ, right, ps_placed, leaf_is, same_leaf_apart, HaveNoNode}
+use Rattle.tetri_assign.proofs.Meeting.{parts, inside, IsMeeting, IsOpen, IsPlaced, made_pieces, part_ascends, parts_differ, right, ps_open, ps_placed, leaf_is, same_leaf_apart, HaveNoNode}
 use Rattle.tetri_assign.proofs.GrantedLemmas.{made, granted_few}
 use Rattle.tetri_assign.proofs.LawfulFacts.{stays_free}
 use Rattle.tetri_assign.proofs.Pieces.{IsExact, NoClash, slot_from, has_own}
@@ -64,24 +65,27 @@ held_le (k ∷ a) g (zero, lt, e) =
     omega (arith, ap (λ b. cond b (length k.nodes) 0) own))
 held_le (k ∷ a) g (suc j, lt, e) = omega (arith, held_le a g (j, omega (arith, lt), e))
 
-module _ (i : Space) (os : List Bid) (sets : List (List ℕ)) (x : ℕ → ℕ) (meets : IsMeeting i os sets x) where
+module _ (i : Space) (os : List Bid) (asks marks : List (List ℕ)) (x : ℕ → ℕ) (meets : IsMeeting i os asks marks x) where
   abbrev pieces_made : List Piece
-  pieces_made = made_pieces i os sets x meets
+  pieces_made = made_pieces i os asks marks x meets
 
   abbrev grants_made : List Grant
-  grants_made = made i os sets x meets
+  grants_made = made i os asks marks x meets
 
   abbrev Exact : Piece → Type 0
-  Exact q = IsExact i (parts i os sets x) x (part_ascends i os sets x meets) (parts_differ i os sets x meets) q
+  Exact q = IsExact i (parts i os asks marks x) x (part_ascends i os asks marks x meets) (parts_differ i os asks marks x meets) q
 
   abbrev IsPiece : Piece → Type 0
-  IsPiece q = Contains pieces_made q × Exact q × IsPlaced i os sets x q.tally
+  IsPiece q = Contains pieces_made q × Exact q × IsPlaced i os asks marks x q.tally × IsOpen i os asks marks x meets q.tally
 
   all_pieces : Each IsPiece pieces_made
   all_pieces =
-      Each-both (Contains pieces_made) (λ q. Exact q × IsPlaced i os sets x q.tally) IsPiece (λ q a b. (a, b.0, b.1)) pieces_made
+      Each-both (Contains pieces_made) (λ q. Exact q × IsPlaced i os asks marks x q.tally × IsOpen i os asks marks x meets q.tally) IsPiece (λ q a b. (a, b.0, b.1, b.2)) pieces_made
       (Each-from (Contains pieces_made) pieces_made (λ q at. at))
-      (Each-both Exact (λ q. IsPlaced i os sets x q.tally) (λ q. Exact q × IsPlaced i os sets x q.tally) (λ q a b. (a, b)) pieces_made (right i os sets x meets).0 (ps_placed i os sets x meets))
+      (Each-both Exact (λ q. IsPlaced i os asks marks x q.tally × IsOpen i os asks marks x meets q.tally) (λ q. Exact q × IsPlaced i os asks marks x q.tally × IsOpen i os asks marks x meets q.tally)
+      (λ q a b. (a, b.0, b.1)) pieces_made (right i os asks marks x meets).0
+      (Each-both (λ q. IsPlaced i os asks marks x q.tally) (λ q. IsOpen i os asks marks x meets q.tally) (λ q. IsPlaced i os asks marks x q.tally × IsOpen i os asks marks x meets q.tally)
+      (λ q a b. (a, b)) pieces_made (ps_placed i os asks marks x meets) (ps_open i os asks marks x meets)))
 
   -- ---- what the leaves got is of the pieces, and nothing twice
   record IsFrom (h : Held) : Type 0 where
@@ -116,14 +120,14 @@ module _ (i : Space) (os : List Bid) (sets : List (List ℕ)) (x : ℕ → ℕ) 
       each (m ∷ ms) k = ((λ p q r. absurd (omega (arith, k.0, r))), each ms k.1)
 
   -- nothing of these pieces is of the other one too
-  apart_from : (q : Piece) (qs : List Piece) → Each (HaveNoNode i os sets x meets q) qs → Each (λ h. IsOf-piece q h → ⊥) (all_held qs)
+  apart_from : (q : Piece) (qs : List Piece) → Each (HaveNoNode i os asks marks x meets q) qs → Each (λ h. IsOf-piece q h → ⊥) (all_held qs)
   apart_from q [] h = tt
   apart_from q (r ∷ rs) h =
       Each-append (λ z. IsOf-piece q z → ⊥) (map (held r.tally) r.nodes) (all_held rs)
       (Each-map (IsOf-piece r) (λ z. IsOf-piece q z → ⊥) (λ z a b. h.0 z.node (b.0 ∙ sym a.0) (b.1 ∙ sym a.1) b.2 a.2) (map (held r.tally) r.nodes) (of_piece r r.nodes (has_own r.nodes)))
       (apart_from q rs h.1)
 
-  held_other : (qs : List Piece) → Each Exact qs → EachPair (HaveNoNode i os sets x meets) qs → EachPair IsOther (all_held qs)
+  held_other : (qs : List Piece) → Each Exact qs → EachPair (HaveNoNode i os asks marks x meets) qs → EachPair IsOther (all_held qs)
   held_other [] exact other = tt
   held_other (q ∷ qs) exact other =
       EachPair-append IsOther (map (held q.tally) q.nodes) (all_held qs) (nodes_other q.tally q.nodes exact.0.ascending) (held_other qs exact.1 other.1)
@@ -131,7 +135,7 @@ module _ (i : Space) (os : List Bid) (sets : List (List ℕ)) (x : ℕ → ℕ) 
       (map (held q.tally) q.nodes) (all_held qs) (of_piece q q.nodes (has_own q.nodes)) (apart_from q qs other.0))
 
   gathered_made : AreGathered IsFrom grants_made
-  gathered_made = gathered_right IsFrom (all_held pieces_made) (held_other pieces_made (right i os sets x meets).0 (same_leaf_apart i os sets x meets)) (from_pieces pieces_made all_pieces)
+  gathered_made = gathered_right IsFrom (all_held pieces_made) (held_other pieces_made (right i os asks marks x meets).0 (same_leaf_apart i os asks marks x meets)) (from_pieces pieces_made all_pieces)
 
   -- ---- each grant by itself
   abbrev node_of : Grant → ℕ → Held
@@ -139,13 +143,13 @@ module _ (i : Space) (os : List Bid) (sets : List (List ℕ)) (x : ℕ → ℕ) 
 
   -- the piece that a grant has a node of is of the grant's leaf
   leaf_from : (g : Grant) (n : ℕ) (h : IsFrom (node_of g n)) → leaf_in i.bids g.job g.leaf ≡ Some h.piece.tally.leaf
-  leaf_from g n h = ap (λ j. leaf_in i.bids j g.leaf) (sym h.job) ∙ ap (leaf_in i.bids h.piece.tally.job) (sym h.leaf) ∙ leaf_is i os sets x meets h.piece.tally h.fine.2
+  leaf_from g n h = ap (λ j. leaf_in i.bids j g.leaf) (sym h.job) ∙ ap (leaf_in i.bids h.piece.tally.job) (sym h.leaf) ∙ leaf_is i os asks marks x meets h.piece.tally h.fine.2
 
   in_set_of : (q : Piece) → IsPiece q → (n : ℕ) → has q.nodes n ≡ true → has (set_at i q.tally.leaf.set) n ≡ true
   in_set_of q fine n there =
       let set = set_at i q.tally.leaf.set in
-      let all = parts i os sets x in
-      let part_in_set = Each-at (λ m. list_all (has set) (part_at all m) ≡ true) (inside i os sets x q.tally.leaf.set) q.tally.part
+      let all = parts i os asks marks x in
+      let part_in_set = Each-at (λ m. list_all (has set) (part_at all m) ≡ true) (inside i os asks marks x q.tally.leaf.set) q.tally.part
       (Each-passed (λ m. list_all (has set) (part_at all m) ≡ true) (λ m. list_all (has set) (part_at all m)) (λ m t. t) (range_with_len 0 (length all)))
       fine.2.of_bid.part in
       Each-has (λ m. has set m ≡ true) (part_at all q.tally.part) n (from_all (has set) (part_at all q.tally.part) part_in_set) (fine.1.in_part n there)
@@ -154,9 +158,11 @@ module _ (i : Space) (os : List Bid) (sets : List (List ℕ)) (x : ℕ → ℕ) 
       Contains (set_of i l) n × ((slot : ℕ) → Covers l slot → IsFree i n slot)
   node_right g l found n h =
       let same : h.piece.tally.leaf ≡ l = same_Some h.piece.tally.leaf l (sym (leaf_from g n h) ∙ found) in
-      let idle : is_free i n l.start ≡ true = subst (λ (m : Leaf). is_free i n m.start ≡ true) same (h.fine.1.idle n h.node) in (
+      let part = h.piece.tally.part in
+      let idle : is_free i n l.start ≡ true = subst (λ (m : Leaf). is_free i n m.start ≡ true) same (h.fine.1.idle n h.node) in
+      let opened : is_shut i (parts i os asks marks x) part l ≡ false = subst (λ (m : Leaf). is_shut i (parts i os asks marks x) part m ≡ false) same h.fine.3 in (
         subst (λ (m : Leaf). Contains (set_of i m) n) same (contains_from (set_at i h.piece.tally.leaf.set) n (in_set_of h.piece h.fine n h.node)),
-        λ slot covers. (free_decides i n slot).0 (stays_free i n l.start slot covers.begun idle),
+        λ slot covers. (free_decides i n slot).0 (stays_free i (parts i os asks marks x) part l opened n slot (h.fine.1.in_part n h.node) covers.begun covers.not_over idle),
       )
 
   -- a grant's first node names its leaf
@@ -194,7 +200,7 @@ module _ (i : Space) (os : List Bid) (sets : List (List ℕ)) (x : ℕ → ℕ) 
       let live = meets.live h.bid h.leaf h.among h.below in
       let few : length g.nodes ≤ h.leaf.k =
       le_trans (held_le grants_made g at)
-      (subst (λ j. granted grants_made j g.leaf ≤ h.leaf.k) h.job (subst (λ n. granted grants_made h.bid.job n ≤ h.leaf.k) h.num (granted_few i os sets x meets h.bid h.leaf h.among h.below))) in
+      (subst (λ j. granted grants_made j g.leaf ≤ h.leaf.k) h.job (subst (λ n. granted grants_made h.bid.job n ≤ h.leaf.k) h.num (granted_few i os asks marks x meets h.bid h.leaf h.among h.below))) in
       let fine = Each-map (λ n. IsFrom (node_of g n)) (λ n. Contains (set_of i h.leaf) n × ((slot : ℕ) → Covers h.leaf slot → IsFree i n slot)) (λ n f. node_right g h.leaf h.found n f) g.nodes from in
       subst (λ o. IsSomeAnd o (λ l. MayBeGranted i l g.nodes)) (sym h.found)
       (record {
@@ -218,8 +224,8 @@ module _ (i : Space) (os : List Bid) (sets : List (List ℕ)) (x : ℕ → ℕ) 
   clear : (q r : Piece) → Contains pieces_made q → Contains pieces_made r → (q ≡ r → ⊥) → (n slot : ℕ) → has q.nodes n ≡ true → has r.nodes n ≡ true →
       covers q.tally.leaf slot ≡ true → covers r.tally.leaf slot ≡ true → ⊥
   clear q r a b other n slot c d e f =
-      let apart = (right i os sets x meets).1 in
-      let clash = NoClash i (parts i os sets x) x (part_ascends i os sets x meets) (parts_differ i os sets x meets) in
+      let apart = (right i os asks marks x meets).1 in
+      let clash = NoClash i (parts i os asks marks x) x (part_ascends i os asks marks x meets) (parts_differ i os asks marks x meets) in
       elim (cases_order a.0 b.0) [
         | inl same ↦ other (sym a.2 ∙ ap (λ j. get_or pieces_made j q) same ∙ get_or_any pieces_made b.0 q r b.1 ∙ b.2)
         | inr (inl lt) ↦
@@ -255,7 +261,7 @@ module _ (i : Space) (os : List Bid) (sets : List (List ℕ)) (x : ℕ → ℕ) 
   }
     where
       covered : (l : Leaf) (t : ℕ) → Covers l t → covers l t ≡ true
-      covered l t h = slot_from i (parts i os sets x) x (part_ascends i os sets x meets) (parts_differ i os sets x meets) l t h.begun h.not_over
+      covered l t h = slot_from i (parts i os asks marks x) x (part_ascends i os asks marks x meets) (parts_differ i os asks marks x meets) l t h.begun h.not_over
 
   pub made_lawful : IsLawful i grants_made
   made_lawful = record {

@@ -8,7 +8,7 @@ use Rattle.tetri_strl.specs.Worth.{granted}
 use Rattle.tetri_base.specs.Lists.{sum_of, Each, EachPair, Ascends}
 use Rattle.tetri_base.proofs.ListLaws.{eq_from_test, sum_of-eq, sum_of-zero, sum_of-one, sum_of-map, sum_of-append, Each-map, Each-all, Each-both, Each-at, Each-from}
 use Rattle.tetri_compile.specs.Allotted.{suits}
-use Rattle.tetri_compile.proofs.FairLemmas.{granted_total}
+use Rattle.tetri_compile.proofs.ProgramLaws.{granted_total}
 use Rattle.tetri_assign.specs.Assigned.{Piece, held, all_held, held_before, give, gathered, grant}
 use Rattle.tetri_base.specs.Order.{in_order}
 use Rattle.tetri_assign.specs.declared.held.Held.{Held}

@@ -13,7 +13,7 @@ use Rattle.tetri_strl.specs.Tree.{leaves}
 use Rattle.tetri_ip.specs.declared.programs.Program.{Program}
 use Rattle.tetri_ip.specs.Points.{number_at, objective, box_of, IsPoint}
 use Rattle.tetri_space.specs.Lawful.{IsLawful}
-use Rattle.tetri_space.specs.Partitions.{live_bids, asked}
+use Rattle.tetri_space.specs.Partitions.{live_bids, asked, closed_sets}
 use Rattle.tetri_space.specs.Sound.{IsSound}
 use Rattle.tetri_space.specs.Space.{Bid, Space, leaf_in}
 use Rattle.tetri_space.specs.Total.{total_in}
@@ -23,9 +23,7 @@ use Rattle.tetri_space.proofs.PrunedLemmas.{IsLeafOf, AllLeavesOf, lefts_good, l
 use Rattle.tetri_compile.specs.Draft.{draft}
 use Rattle.tetri_compile.specs.Flat.{FlatProgram, FlatRow, coefficient, plain, program_of}
 use Rattle.tetri_compile.specs.Forms.{Within}
-use Rattle.tetri_compile.proofs.FairLemmas.{lt_from_test, le_from_test}
-use Rattle.tetri_compile.proofs.FlatLemmas.{at_column, RowsMet, meets_to, flat_met, flat_objective}
-use Rattle.tetri_compile.proofs.LawfulLemmas.{goods, other_jobs, live_total}
+use Rattle.tetri_compile.proofs.ProgramLaws.{RowsMet, at_column, flat_met, flat_objective, goods, le_from_test, live_total, lt_from_test, meets_to, other_jobs}
 use Rattle.tetri_assign.specs.Assigned.{assigned}
 use Rattle.tetri_assign.specs.Granting.{GrantsCounts}
 use Rattle.tetri_assign.proofs.GrantedLemmas.{granted_sum, granted_parts, earns_no_less}
@@ -98,7 +96,7 @@ module _ (s : Space) (sound : IsSound s) (p : Program) (is : plain p ≡ program
   in_window : (l : Leaf) → starts_in s.now to l ≡ true → (s.now ≤ l.start) × (l.start < to)
   in_window l e = let both = and_parts (nat_le s.now l.start) (nat_lt l.start to) e in (le_from_test s.now l.start both.0, lt_from_test l.start to both.1)
 
-  pub meeting : IsMeeting s (live_bids s) (asked s (live_bids s)) (at_column point)
+  pub meeting : IsMeeting s (live_bids s) (asked s (live_bids s)) (closed_sets s) (at_column point)
   meeting = record {
     sound = lefts_good s.now to s.bids (goods s sound);
     jobs = lefts_jobs s.now to s.bids (other_jobs s sound);
@@ -114,16 +112,16 @@ module _ (s : Space) (sound : IsSound s) (p : Program) (is : plain p ≡ program
 
   pub assigned_counts : GrantsCounts s point (assigned s point)
   assigned_counts = record {
-    leaves = granted_sum s (live_bids s) (asked s (live_bids s)) (at_column point) meeting;
-    parts = granted_parts s (live_bids s) (asked s (live_bids s)) (at_column point) meeting;
+    leaves = granted_sum s (live_bids s) (asked s (live_bids s)) (closed_sets s) (at_column point) meeting;
+    parts = granted_parts s (live_bids s) (asked s (live_bids s)) (closed_sets s) (at_column point) meeting;
   }
 
   pub assigned_lawful : IsLawful s (assigned s point)
-  assigned_lawful = made_lawful s (live_bids s) (asked s (live_bids s)) (at_column point) meeting
+  assigned_lawful = made_lawful s (live_bids s) (asked s (live_bids s)) (closed_sets s) (at_column point) meeting
 
   pub assigned_worth : objective p point ≤ℤ pos (total_in s (assigned s point))
   assigned_worth =
-      let worth = earns_no_less s (live_bids s) (asked s (live_bids s)) (at_column point) meeting in
+      let worth = earns_no_less s (live_bids s) (asked s (live_bids s)) (closed_sets s) (at_column point) meeting in
       let total = live_total s sound (assigned s point) assigned_lawful in
       subst (λ cs. dot ℤ_ring cs point ≤ℤ pos (total_in s (assigned s point))) (sym costs_are)
       (subst (λ z. z ≤ℤ pos (total_in s (assigned s point))) (sym (flat_objective (draft s) point long whole)) (pos_le _ (total_in s (assigned s point)) (omega (arith, worth, total))))

@@ -12,8 +12,7 @@ use Rattle.tetri_compile.specs.declared.outline.Tally.{Tally}
 use Rattle.tetri_compile.specs.Draft.{leaf_tallies, tallies, tallies_of}
 use Rattle.tetri_compile.specs.Forms.{share, at_point, run, limit, AreMet, Within}
 use Rattle.tetri_compile.specs.Walk.{ones, own_uppers, uppers, uppers_of, width, form, rows, rows_of, rows_under}
-use Rattle.tetri_compile.proofs.FormLemmas.{Within-split, AreMet-split}
-use Rattle.tetri_compile.proofs.TallyLemmas.{number_of, number_of_all, IsOf, tallies_leaf, tallies_leaf_of}
+use Rattle.tetri_compile.proofs.ProgramLaws.{AreMet-split, IsOf, Within-split, number_of, number_of_all, tallies_leaf, tallies_leaf_of}
 use Rattle.tetri_assign.proofs.Counted.{AtLeaves, AtLeavesOf}
 
 module _ (P : Leaf → Type 0) where

@@ -8,7 +8,7 @@ use Rattle.std.proofs.lemmas.Bool.Decides.{nat_tests}
 use Rattle.std.proofs.lemmas.List.{take-append-drop, take_more, get_or-set_same, get_or-set_other, get_or-replicate, length-replicate, length-set, take_all, get_or-drop, get_or_default}
 use Rattle.std.proofs.lemmas.List.Elements.{filter-append, All-filter, All-take, All-drop, All-contains}
 use Rattle.tetri_base.specs.Lists.{has, Each}
-use Rattle.tetri_space.specs.Partitions.{alike, asked, leads, live_bids, nodes_of, part_at, partitions}
+use Rattle.tetri_space.specs.Partitions.{alike, asked, closed_sets, leads, live_bids, nodes_of, part_at, partitions}
 use Rattle.tetri_space.specs.Space.{Space}
 use Rattle.tetri_base.proofs.ListLaws.{Each-map, Each-append, Each-both, Each-from, Each-get, Each-filter, has-filter, range_from}
 use Rattle.tetri_assign.specs.Taking.{AreMarks, IsMark, held_by, hold, may_use, ready, taken_from}
@@ -151,7 +151,9 @@ parts_small s p = all_in (part_at (partitions s) p) (by_number (cases_lt p (leng
     past (x ∷ xs) (suc k) le = past xs k (omega (arith, le))
 
     by_number : (p < length (partitions s)) ⊎ (length (partitions s) ≤ p) → Each (λ n. n < s.nodes) (part_at (partitions s) p)
-    by_number (inl lt) = Each-get (Each (λ n. n < s.nodes)) (partitions s) p [] (small (asked s (live_bids s)) (filter (leads (asked s (live_bids s)) (nodes_of s)) (nodes_of s))) lt
+    by_number (inl lt) =
+        Each-get (Each (λ n. n < s.nodes)) (partitions s) p []
+        (small (asked s (live_bids s) ++ closed_sets s) (filter (leads (asked s (live_bids s)) (closed_sets s) (nodes_of s)) (nodes_of s))) lt
     by_number (inr ge) = subst (Each (λ n. n < s.nodes)) (sym (past (partitions s) p ge)) tt
 
     all_in : (ns : List ℕ) → Each (λ n. n < s.nodes) ns → All (λ n. n < s.nodes) ns

@@ -1,23 +1,22 @@
 -- What the counts of a point take.
-use Rattle.std.proofs.Common.{◌≡◌, ℕ, ◌+◌, ◌<◌, ◌≤◌, Bool, true, false, cond, List, [], ◌∷◌, length, Contains, refl, sym, ap, ◌∙◌, arith, Some}
+use Rattle.std.proofs.Common.{◌≡◌, ℕ, ◌+◌, ◌<◌, ◌≤◌, min, Bool, true, false, cond, List, [], ◌∷◌, length, map, Contains, refl, sym, ap, ◌∙◌, arith, Some, true≢false}
 use Rattle.std.specs.Prelude.{nat_lt}
 use Rattle.std.specs.List.{list_all, filter, range_with_len}
 use Rattle.std.proofs.lemmas.Bool.Decides.{nat_tests}
 use Rattle.tetri_strl.specs.declared.expr.Leaf.{Leaf}
-use Rattle.tetri_strl.specs.Tree.{leaves}
+use Rattle.tetri_strl.specs.Tree.{Tree, one, join, scale, barrier, Trees, none, more, leaves}
 use Rattle.tetri_strl.specs.WellMade.{IsGoodLeaf, IsSound}
 use Rattle.tetri_strl.proofs.PartsApart.{AreApart}
 use Rattle.tetri_base.specs.Lists.{sum_of, has, Each, EachPair, Ascends}
 use Rattle.tetri_space.specs.Partitions.{groups, part_at, nodes_of, parts_in, set_at, available}
 use Rattle.tetri_space.specs.Space.{Bid, Space, leaf_in}
-use Rattle.tetri_base.proofs.ListLaws.{sum_of-eq, sum_of-filter, Each-map, Each-all, Each-append, Each-filter, Each-at, Each-from, EachPair-with, range_contains, range_from}
+use Rattle.tetri_base.proofs.ListLaws.{sum_of-eq, sum_of-filter, Each-map, Each-all, Each-append, Each-both, Each-filter, Each-passed, Each-at, Each-from, EachPair-with, range_contains, range_from}
 use Rattle.tetri_compile.specs.declared.outline.Tally.{Tally}
-use Rattle.tetri_compile.specs.Draft.{bid_uppers, bid_rows, bid_tallies, is_held, supply, draft_of}
+use Rattle.tetri_compile.specs.Draft.{bid_uppers, bid_rows, bid_tallies, leaf_tallies, tallies, tallies_of, is_held, supply, draft_of}
 use Rattle.tetri_compile.specs.Forms.{AreMet, Within}
-use Rattle.tetri_compile.specs.Usable.{usable_by}
-use Rattle.tetri_compile.specs.Walk.{width}
-use Rattle.tetri_compile.proofs.FormLemmas.{AreMet-split}
-use Rattle.tetri_compile.proofs.TallyLemmas.{IsOf, tallies_leaf}
+use Rattle.tetri_compile.specs.Usable.{is_shut, usable_by}
+use Rattle.tetri_compile.specs.Walk.{own_uppers, uppers, uppers_of, width}
+use Rattle.tetri_compile.proofs.ProgramLaws.{AreMet-split, IsOf, Within-split, tallies_leaf}
 use Rattle.std.proofs.lemmas.Option.{same_Some}
 use Rattle.tetri_strl.proofs.WorthLemmas.{each_good}
 use Rattle.tetri_compile.specs.Sizes.{covers}
@@ -32,9 +31,39 @@ use Rattle.tetri_assign.proofs.Pieces.{IsExact, NoClash, pieces_right, use_at, s
 in_filtered : (p : ℕ → Bool) (ns : List ℕ) (P : ℕ → Type 0) → Each P ns → (n : ℕ) → Contains (filter p ns) n → P n
 in_filtered p ns P h n at = Each-at P (filter p ns) n (Each-filter P p ns h) at
 
-module _ (i : Space) (os : List Bid) (sets : List (List ℕ)) (x : ℕ → ℕ) where
+-- the columns that count nodes are within what is usable
+module _ (inside : ℕ → List ℕ) (usable : ℕ → Leaf → ℕ) (x : ℕ → ℕ) where
+  abbrev IsUsable : Tally → Type 0
+  IsUsable c = x c.column ≤ usable c.part c.leaf
+
+  leaf_usable : (job : ℕ) (l : Leaf) (ps : List ℕ) (n : ℕ) → Within x n (map (λ p. min l.k (usable p l)) ps) → Each IsUsable (leaf_tallies job l ps n)
+  leaf_usable job l [] n h = tt
+  leaf_usable job l (p ∷ ps) n h = (omega (arith, h.0), leaf_usable job l ps (n + 1) h.1)
+
+  mutual
+    tree_usable : (job : ℕ) (t : Tree) (n : ℕ) → Within x n (uppers inside usable t) → Each IsUsable (tallies inside usable job t n)
+    tree_usable job (one l) n h = leaf_usable job l (inside l.set) n h
+    tree_usable job (join op ts) n h =
+        trees_usable job ts (n + length (own_uppers inside usable op ts)) (Within-split x n (own_uppers inside usable op ts) (uppers_of inside usable ts) h).1
+    tree_usable job (scale t s) n h = tree_usable job t n h
+    tree_usable job (barrier t v) n h = tree_usable job t n h
+
+    trees_usable : (job : ℕ) (ts : Trees) (n : ℕ) → Within x n (uppers_of inside usable ts) → Each IsUsable (tallies_of inside usable job ts n)
+    trees_usable job none n h = tt
+    trees_usable job (more t ts) n h =
+        let both = Within-split x n (uppers inside usable t) (uppers_of inside usable ts) h in
+        Each-append IsUsable (tallies inside usable job t n) (tallies_of inside usable job ts (n + width inside usable t)) (tree_usable job t n both.0) (trees_usable job ts (n + width inside usable t) both.1)
+
+  bids_usable : (bs : List Bid) (n : ℕ) → Within x n (bid_uppers inside usable bs) → Each IsUsable (bid_tallies inside usable bs n)
+  bids_usable [] n h = tt
+  bids_usable (b ∷ bs) n h =
+      let both = Within-split x (n + 1) (uppers inside usable b.expr) (bid_uppers inside usable bs) h.1 in
+      Each-append IsUsable (tallies inside usable b.job b.expr (n + 1)) (bid_tallies inside usable bs (n + 1 + width inside usable b.expr)) (tree_usable b.job b.expr (n + 1) both.0)
+      (bids_usable bs (n + 1 + width inside usable b.expr) both.1)
+
+module _ (i : Space) (os : List Bid) (asks marks : List (List ℕ)) (x : ℕ → ℕ) where
   abbrev pub parts : List (List ℕ)
-  parts = groups sets (nodes_of i)
+  parts = groups asks marks (nodes_of i)
 
   abbrev pub inside : ℕ → List ℕ
   inside = parts_in i parts
@@ -90,10 +119,10 @@ module _ (i : Space) (os : List Bid) (sets : List (List ℕ)) (x : ℕ → ℕ) 
     made_pieces = pieces i parts x [] ordered
 
     abbrev pub part_ascends : (p : ℕ) → Ascends (part_at parts p)
-    part_ascends = parts_sorted i sets
+    part_ascends = parts_sorted i asks marks
 
     abbrev pub parts_differ : (p q n : ℕ) → has (part_at parts p) n ≡ true → has (part_at parts q) n ≡ true → p ≡ q
-    parts_differ = parts_apart i sets
+    parts_differ = parts_apart i asks marks
 
     pub zeros_vanish : (h : Tally → ℕ) → ((c : Tally) → x c.column ≡ 0 → h c ≡ 0) → sum_of h ordered ≡ sum_of h cs
     zeros_vanish h zero_at =
@@ -113,6 +142,24 @@ module _ (i : Space) (os : List Bid) (sets : List (List ℕ)) (x : ℕ → ℕ) 
 
     pub ordered_placed : Each IsPlaced ordered
     ordered_placed = Each-in_order turn_before IsPlaced above_zero (Each-filter IsPlaced (λ c. nat_lt 0 (x c.column)) cs all_placed)
+
+    -- the partition of a count above 0 is closed in no slot of its leaf
+    abbrev pub IsOpen : Tally → Type 0
+    IsOpen c = is_shut i parts c.part c.leaf ≡ false
+
+    pub ordered_open : Each IsOpen ordered
+    ordered_open =
+        Each-in_order turn_before IsOpen above_zero
+        (Each-both (IsUsable inside usable x) (λ c. nat_lt 0 (x c.column) ≡ true) IsOpen (λ c le e. opened (is_shut i parts c.part c.leaf) (x c.column) (available i parts c.part c.leaf.start) e le) above_zero
+        (Each-filter (IsUsable inside usable x) (λ c. nat_lt 0 (x c.column)) cs (bids_usable inside usable x os 0 meets.box))
+        (Each-passed (λ c. nat_lt 0 (x c.column) ≡ true) (λ c. nat_lt 0 (x c.column)) (λ c e. e) cs))
+      where
+        opened : (b : Bool) (m n : ℕ) → nat_lt 0 m ≡ true → m ≤ cond b 0 n → b ≡ false
+        opened false m n e le = refl
+        opened true m n e le = absurd (not_zero m e (omega (arith, le)))
+          where
+            not_zero : (k : ℕ) → nat_lt 0 k ≡ true → k ≡ 0 → ⊥
+            not_zero k f z = true≢false (sym f ∙ ap (nat_lt 0) z)
 
     pub rows_met : AreMet x (bid_rows inside usable os 0) × AreMet x (supply room cs slots (range_with_len 0 (length parts)))
     rows_met = AreMet-split x (bid_rows inside usable os 0) (supply room cs slots (range_with_len 0 (length parts))) meets.met
@@ -141,12 +188,19 @@ module _ (i : Space) (os : List Bid) (sets : List (List ℕ)) (x : ℕ → ℕ) 
           supplied = Each-map IsPlaced (λ c. sum_of (use_at i parts x part_ascends parts_differ c) ordered + 0 ≤ room c.part c.leaf.start) within_supply ordered ordered_placed;
         })
 
-    pub ps_placed : Each (λ q. IsPlaced q.tally) made_pieces
-    ps_placed = Each-pieces IsPlaced [] ordered tt ordered_placed
+    -- what holds of each count holds of each piece's
+    each_piece : (P : Tally → Type 0) → Each P ordered → Each (λ q. P q.tally) made_pieces
+    each_piece P h = by_counts [] ordered tt h
       where
-        Each-pieces : (P : Tally → Type 0) (qs : List Piece) (ds : List Tally) → Each (λ q. P q.tally) qs → Each P ds → Each (λ q. P q.tally) (pieces i parts x qs ds)
-        Each-pieces P qs [] h k = h
-        Each-pieces P qs (d ∷ ds) h k = Each-pieces P (piece i parts x qs d ∷ qs) ds (k.0, h) k.1
+        by_counts : (qs : List Piece) (ds : List Tally) → Each (λ q. P q.tally) qs → Each P ds → Each (λ q. P q.tally) (pieces i parts x qs ds)
+        by_counts qs [] k j = k
+        by_counts qs (d ∷ ds) k j = by_counts (piece i parts x qs d ∷ qs) ds (j.0, k) j.1
+
+    pub ps_placed : Each (λ q. IsPlaced q.tally) made_pieces
+    ps_placed = each_piece IsPlaced ordered_placed
+
+    pub ps_open : Each (λ q. IsOpen q.tally) made_pieces
+    ps_open = each_piece IsOpen ordered_open
 
     -- a count's leaf is the one of its job and number
     pub leaf_is : (c : Tally) → IsPlaced c → leaf_in i.bids c.job c.leaf.num ≡ Some c.leaf

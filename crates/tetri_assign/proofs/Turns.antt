@@ -1,5 +1,5 @@
 -- Partitions share no node; counts in order; the supply rows read as sums.
-use Rattle.std.proofs.Common.{◌≡◌, ℕ, zero, suc, ◌<◌, ◌≤◌, ◌&&◌, not, true, false, cond, List, [], ◌∷◌, length, get_or, map, refl, sym, ap, ◌∙◌, subst, arith, true≢false, inl, inr, ⊎_elim}
+use Rattle.std.proofs.Common.{◌≡◌, ℕ, zero, suc, ◌<◌, ◌≤◌, ◌&&◌, not, true, false, cond, List, [], ◌∷◌, ◌++◌, length, get_or, map, refl, sym, ap, ◌∙◌, subst, arith, true≢false, inl, inr, ⊎_elim}
 use Rattle.std.specs.Prelude.{nat_lt}
 use Rattle.std.specs.List.{list_any, filter}
 use Rattle.std.proofs.lemmas.Bool.{cases_order, cases_lt, and_parts, and_from}
@@ -11,7 +11,7 @@ use Rattle.tetri_base.proofs.ListLaws.{sum_of-filter, Each-all, Each-filter, Eac
 use Rattle.tetri_compile.specs.declared.outline.Tally.{Tally}
 use Rattle.tetri_compile.specs.Draft.{is_held, tally_form, supply_row, part_supply, supply}
 use Rattle.tetri_compile.specs.Forms.{at_point, AreMet}
-use Rattle.tetri_compile.proofs.FormLemmas.{AreMet-split}
+use Rattle.tetri_compile.proofs.ProgramLaws.{AreMet-split}
 use Rattle.tetri_space.proofs.PartitionLemmas.{alike_trans, alike_sym}
 use Rattle.tetri_assign.specs.Assigned.{turn_before}
 use Rattle.tetri_base.specs.Order.{in_order}
@@ -42,16 +42,19 @@ get_or-past [] k d le = refl
 get_or-past (x ∷ xs) zero d le = absurd (omega arith)
 get_or-past (x ∷ xs) (suc k) d le = get_or-past xs k d (omega arith)
 
-module _ (i : Space) (sets : List (List ℕ)) where
+module _ (i : Space) (asks marks : List (List ℕ)) where
+  abbrev sets : List (List ℕ)
+  sets = asks ++ marks
+
   abbrev gs : List (List ℕ)
-  gs = groups sets (nodes_of i)
+  gs = groups asks marks (nodes_of i)
 
   abbrev ShareNoNode : List ℕ → List ℕ → Type 0
   ShareNoNode s t = (n : ℕ) → has s n ≡ true → has t n ≡ true → ⊥
 
   pub parts_sorted : (p : ℕ) → Ascends (part_at gs p)
   parts_sorted p =
-      ⊎_elim (λ lt. Each-get Ascends gs p [] (Each-mapped Ascends (λ n. filter (alike sets n) (nodes_of i)) (λ n. filter-ascends (alike sets n) (nodes_of i) (range-ascends 0 i.nodes)) (filter (leads sets (nodes_of i)) (nodes_of i))) lt)
+      ⊎_elim (λ lt. Each-get Ascends gs p [] (Each-mapped Ascends (λ n. filter (alike sets n) (nodes_of i)) (λ n. filter-ascends (alike sets n) (nodes_of i) (range-ascends 0 i.nodes)) (filter (leads asks marks (nodes_of i)) (nodes_of i))) lt)
       (λ ge. subst Ascends (sym (get_or-past gs p [] ge)) tt)
       (cases_lt p (length gs))
 
@@ -59,11 +62,11 @@ module _ (i : Space) (sets : List (List ℕ)) where
   part_inside p n e = ⊎_elim (λ lt. lt) (λ ge. absurd (true≢false (sym e ∙ ap (λ s. has s n) (get_or-past gs p [] ge)))) (cases_lt p (length gs))
 
   -- a lesser node in the same sets keeps the other one from leading
-  lead_once : (j k : ℕ) → j < i.nodes → j < k → leads sets (nodes_of i) k ≡ true → ShareNoNode (filter (alike sets j) (nodes_of i)) (filter (alike sets k) (nodes_of i))
+  lead_once : (j k : ℕ) → j < i.nodes → j < k → leads asks marks (nodes_of i) k ≡ true → ShareNoNode (filter (alike sets j) (nodes_of i)) (filter (alike sets k) (nodes_of i))
   lead_once j k small lt lead n p q =
       let a = and_parts (has (nodes_of i) n) (alike sets j n) (sym (has-filter (alike sets j) (nodes_of i) n) ∙ p) in
       let b = and_parts (has (nodes_of i) n) (alike sets k n) (sym (has-filter (alike sets k) (nodes_of i) n) ∙ q) in
-      let first = and_parts (list_any (λ t. has t k) sets) (not (list_any (λ m. nat_lt m k && alike sets m k) (nodes_of i))) lead in
+      let first = and_parts (list_any (λ t. has t k) asks) (not (list_any (λ m. nat_lt m k && alike sets m k) (nodes_of i))) lead in
       let like = alike_trans sets j n k a.1 (alike_sym sets k n b.1) in
       let found = any_from (λ m. nat_lt m k && alike sets m k) (nodes_of i) j (range_contains 0 i.nodes j (omega arith) (omega arith)) (and_from (nat_lt j k) (alike sets j k) (lt_test j k lt) like) in
       true≢false (sym first.1 ∙ ap not found)
@@ -74,14 +77,14 @@ module _ (i : Space) (sets : List (List ℕ)) where
   groups_apart : EachPair ShareNoNode gs
   groups_apart =
       EachPair-map (λ j k. ShareNoNode (filter (alike sets j) (nodes_of i)) (filter (alike sets k) (nodes_of i))) ShareNoNode (λ n. filter (alike sets n) (nodes_of i)) (λ j k h. h)
-      (filter (leads sets (nodes_of i)) (nodes_of i))
-      (EachPair-with (λ n. (n < i.nodes) × (leads sets (nodes_of i) n ≡ true)) (λ j k. j < k)
+      (filter (leads asks marks (nodes_of i)) (nodes_of i))
+      (EachPair-with (λ n. (n < i.nodes) × (leads asks marks (nodes_of i) n ≡ true)) (λ j k. j < k)
       (λ j k. ShareNoNode (filter (alike sets j) (nodes_of i)) (filter (alike sets k) (nodes_of i))) (λ j k p q lt. lead_once j k p.0 lt q.1)
-      (filter (leads sets (nodes_of i)) (nodes_of i))
-      (Each-both (λ n. n < i.nodes) (λ n. leads sets (nodes_of i) n ≡ true) (λ n. (n < i.nodes) × (leads sets (nodes_of i) n ≡ true)) (λ n a b. (a, b)) _
-      (Each-filter (λ n. n < i.nodes) (leads sets (nodes_of i)) (nodes_of i) (range_from (λ n. n < i.nodes) 0 i.nodes (λ k low high. omega arith)))
-      (Each-passed (λ n. leads sets (nodes_of i) n ≡ true) (leads sets (nodes_of i)) (λ n e. e) (nodes_of i)))
-      (filter-ascends (leads sets (nodes_of i)) (nodes_of i) (range-ascends 0 i.nodes)))
+      (filter (leads asks marks (nodes_of i)) (nodes_of i))
+      (Each-both (λ n. n < i.nodes) (λ n. leads asks marks (nodes_of i) n ≡ true) (λ n. (n < i.nodes) × (leads asks marks (nodes_of i) n ≡ true)) (λ n a b. (a, b)) _
+      (Each-filter (λ n. n < i.nodes) (leads asks marks (nodes_of i)) (nodes_of i) (range_from (λ n. n < i.nodes) 0 i.nodes (λ k low high. omega arith)))
+      (Each-passed (λ n. leads asks marks (nodes_of i) n ≡ true) (leads asks marks (nodes_of i)) (λ n e. e) (nodes_of i)))
+      (filter-ascends (leads asks marks (nodes_of i)) (nodes_of i) (range-ascends 0 i.nodes)))
 
   pub parts_apart : (p q n : ℕ) → has (part_at gs p) n ≡ true → has (part_at gs q) n ≡ true → p ≡ q
   parts_apart p q n a b =

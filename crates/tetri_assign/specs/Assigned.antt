@@ -5,7 +5,8 @@ use lib.IntN.{ℤ}
 use Rattle.tetri_strl.specs.declared.grants.Grant.{Grant}
 use Rattle.tetri_ip.specs.Points.{number_at}
 use Rattle.tetri_base.specs.Lists.{has}
-use Rattle.tetri_space.specs.Partitions.{is_free, part_at, partitions}
+use Rattle.tetri_space.specs.Free.{is_free}
+use Rattle.tetri_space.specs.Partitions.{part_at, partitions}
 use Rattle.tetri_space.specs.Space.{Space}
 use Rattle.tetri_compile.specs.declared.outline.Tally.{Tally}
 use Rattle.tetri_compile.specs.Draft.{draft}

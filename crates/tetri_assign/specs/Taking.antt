@@ -1,4 +1,4 @@
--- How nodes are taken, by the slot from which each may be used again.
+-- How nodes are taken, by the slot from which each may be used again. A count above 0 is of a partition that is closed in no slot of its leaf.
 use Rattle.std.specs.Prelude.{◌≡◌, ℕ, ◌+◌, ◌-◌, ◌^◌, ◌<◌, ◌≤◌, All, nat_le, if◌then◌else◌, Bool, true, List, [], ◌∷◌, ◌++◌, length, map, take, slice_index_or, slice_set}
 use Rattle.std.specs.List.{filter, filter_map, range_with_len}
 use Rattle.std.specs.Option.{option_map}

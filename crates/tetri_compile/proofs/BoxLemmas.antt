@@ -1,5 +1,5 @@
 -- The marks and counts of fair grants lie in the program's box.
-use Rattle.std.proofs.Common.{ℕ, ◌≤◌, min, Bool, true, false, cond, List, [], ◌∷◌, ◌++◌, length, map, Contains, refl, arith}
+use Rattle.std.proofs.Common.{ℕ, ◌+◌, ◌<◌, ◌≤◌, min, Bool, true, false, cond, List, [], ◌∷◌, ◌++◌, length, map, Contains, refl, arith, le_trans, ◌≡◌}
 use Rattle.tetri_strl.specs.declared.expr.Leaf.{Leaf}
 use Rattle.tetri_strl.specs.declared.grants.Grant.{Grant}
 use Rattle.tetri_strl.specs.Aligned.{EachLeaf, EachLeafOf}
@@ -8,15 +8,17 @@ use Rattle.tetri_strl.specs.WellMade.{IsGoodLeaf}
 use Rattle.tetri_strl.specs.Worth.{worth_of, worth_by, worths_by}
 use Rattle.tetri_strl.proofs.WorthLemmas.{AreBelow, EachLeaf-from, EachLeaf-both, each_good}
 use Rattle.tetri_base.specs.Lists.{count, has, Each}
-use Rattle.tetri_space.specs.Partitions.{part_at}
+use Rattle.tetri_space.specs.Partitions.{available, is_closed_part, part_at}
 use Rattle.tetri_space.specs.Space.{Bid, Space}
 use Rattle.tetri_base.proofs.ListLaws.{sum_of-le, bit-le, Each-from, Each-all}
 use Rattle.tetri_compile.specs.Allotted.{suits, granted_in, values_of_bids}
 use Rattle.tetri_compile.specs.declared.outline.Tally.{Tally}
 use Rattle.tetri_compile.specs.Draft.{bid_uppers}
 use Rattle.tetri_compile.specs.Marks.{mark, own_values, values, values_of}
+use Rattle.tetri_compile.specs.Usable.{is_shut}
 use Rattle.tetri_compile.specs.Walk.{ones, own_uppers, uppers, uppers_of}
-use Rattle.tetri_compile.proofs.FairLemmas.{inside, usable, IsFair, kept, taken, value, held, all_right, granted_le, granted_few, granted_total, kept-le, supply_le, good}
+use Rattle.tetri_compile.proofs.FairLemmas.{inside, room, usable, IsFair, kept, taken, value, held, all_right, granted_le, granted_few, granted_total, kept-le, supply_le, good}
+use Rattle.tetri_compile.proofs.SlotLemmas.{any_in_range}
 use Rattle.tetri_compile.proofs.WalkLemmas.{IsRight, mark-le, worth_le_best}
 
 count_le_length : {X : Type 0} (p : X → Bool) (xs : List X) → count p xs ≤ length xs
@@ -73,20 +75,30 @@ module _ (i : Space) (os : List Bid) (parts : List (List ℕ)) (a : List Grant) 
         by_test true g = count_le_length (has (part_at parts p)) g.nodes
         by_test false g = omega arith
 
-    free_given : (l : Leaf) (p : ℕ) → Contains (leaves b.expr) l → IsGoodLeaf l → Contains (inside i os parts a keep l.set) p → gives l p ≤ usable i os parts a keep p l
-    free_given l p below leaf_good within =
+    -- what the leaf has of the partition is free in each of its slots
+    free_at : (l : Leaf) (p t : ℕ) → Contains (leaves b.expr) l → Contains (inside i os parts a keep l.set) p → l.start ≤ t → t < l.start + l.dur → gives l p ≤ room i os parts a keep p t
+    free_at l p t below within early late =
         let whole = granted_in a b.job l.num (part_at parts p) in
         let c : Tally = record { column = 0; job = b.job; leaf = l; part = p } in
-        let row = supply_le i os parts a keep fair (λ j. whole) p l.start (c ∷ []) (
+        let row = supply_le i os parts a keep fair (λ j. whole) p t (c ∷ []) (
           record {
             told = record { bid = b; among = among; of_bid = record { job = refl; leaf = below; part = within }; reads = omega arith };
             part = refl;
-            early = omega arith;
-            late = omega (arith, leaf_good.some_slots);
+            early = early;
+            late = late;
           },
           tt,
         ) (tt, tt) in
         omega (arith, row, kept-le i os parts a keep fair b among (λ g. cond (suits b.job l.num g) (count (has (part_at parts p)) g.nodes) 0))
+
+    usable_given : (l : Leaf) (p : ℕ) → Contains (leaves b.expr) l → IsGoodLeaf l → Contains (inside i os parts a keep l.set) p → gives l p ≤ usable i os parts a keep p l
+    usable_given l p below leaf_good within = by_shut (is_shut i parts p l) refl
+      where
+        by_shut : (c : Bool) → is_shut i parts p l ≡ c → gives l p ≤ cond c 0 (available i parts p l.start)
+        by_shut false e = free_at l p l.start below within (omega arith) (omega (arith, leaf_good.some_slots))
+        by_shut true e =
+            let at = any_in_range (is_closed_part i parts p) l.start l.dur e in
+            omega (arith, free_at l p at.slot below within at.low at.high, fair.closed_none p at.slot (le_trans (fair.early b l among below) at.low) at.passes)
 
     bid_below : AreBelow (values (inside i os parts a keep) (value i os parts a keep fair b among) gives b.expr) (uppers (inside i os parts a keep) (usable i os parts a keep) b.expr)
     bid_below =
@@ -95,7 +107,7 @@ module _ (i : Space) (os : List Bid) (parts : List (List ℕ)) (a : List Grant) 
         (λ l. Each (λ p. gives l p ≤ min l.k (usable i os parts a keep p l)) (inside i os parts a keep l.set)) (λ l f g. f g) b.expr
         (EachLeaf-from (λ l. IsGoodLeaf l → Each (λ p. gives l p ≤ min l.k (usable i os parts a keep p l)) (inside i os parts a keep l.set)) b.expr
         (λ l below leaf_good. Each-from (λ p. gives l p ≤ min l.k (usable i os parts a keep p l)) (inside i os parts a keep l.set)
-        (λ p within. omega (arith, few_given l p below, free_given l p below leaf_good within))))
+        (λ p within. omega (arith, few_given l p below, usable_given l p below leaf_good within))))
         (each_good b.expr (good i os parts a keep fair b among).0))
 
   bids_below : (bs : List Bid) → Each (Contains os) bs → AreBelow (values_of_bids (inside i os parts a keep) parts keep bs) (bid_uppers (inside i os parts a keep) (usable i os parts a keep) bs)

@@ -94,8 +94,8 @@ module _ (s : Space) (sound : IsSoundSpace s) (p : Parts) (are : ArePartitionsOf
 
   -- ---- the program of this draft
   module _ (few : column_count s ≤ 2000) (few_rows : row_count s ≤ 2000) (q : Program) (is : plain q ≡ program_of s) where
-    pub fit : IsFit q
-    fit =
+    pub compiled_is_fit : IsFit q
+    compiled_is_fit =
         let small = draft_small few in
         program_fit (draft s) (column_count s) few refl few_rows (bid_uppers_small (inside s) (usable s) (live_bids s) sound_bids) small.0 small.1 q is
 
@@ -105,8 +105,8 @@ module _ (s : Space) (sound : IsSoundSpace s) (p : Parts) (are : ArePartitionsOf
     pub gain_bounded : most_gain q < 2 ^ 64
     gain_bounded = gain_small (inside s) (usable s) (live_bids s) sound_bids (draft s) few refl refl q is
 
-    pub numbers : HasSmallNumbers q
-    numbers =
+    pub program_numbers : HasSmallNumbers q
+    program_numbers =
         numbers_small (draft s) (bid_uppers_small (inside s) (usable s) (live_bids s) sound_bids) (objective_times (inside s) (usable s) (live_bids s) 0 sound_bids) (draft_modest few)
         (Each-map (IsSmallLimit (column_count s)) (λ r. r.plus ≤ PEAK) (λ r h. h.plus) (draft s).rows (draft_small few).1) q is
 

@@ -4,6 +4,7 @@ use lib.IntN.{pos, negsuc}
 use Rattle.tetri_strl.specs.declared.expr.Leaf.{Leaf}
 use Rattle.tetri_strl.specs.Tree.{greatest, one, join, none, more}
 use Rattle.tetri_ip.specs.declared.programs.Term.{Term}
+use Rattle.tetri_space.specs.declared.closure.Closure.{Closure}
 use Rattle.tetri_space.specs.Partitions.{partitions}
 use Rattle.tetri_space.specs.Space.{Space}
 use Rattle.tetri_compile.specs.Flat.{FlatRow, program_of, column_count, row_count}
@@ -22,6 +23,7 @@ usual = record {
   sets = (0 ∷ 1 ∷ []) ∷ (0 ∷ 1 ∷ 2 ∷ 3 ∷ []) ∷ [];
   busy_until = 0 ∷ 0 ∷ 0 ∷ 0 ∷ [];
   drained = false ∷ false ∷ false ∷ false ∷ [];
+  closures = [];
   bids = record { job = 0; expr = join greatest (more (one tagged) (more (one any_two) none)) } ∷ [];
 }
 
@@ -66,3 +68,65 @@ whole_program : program_of usual ≡ record {
       ∷ [];
 }
 whole_program = refl
+
+-- ---- Two nodes with closures: a job wants any one of them for four slots, from slot 1 on.
+abbrev any_one : Leaf
+any_one = record { num = 0; set = 0; k = 1; start = 1; dur = 4; v = 5; linear = false }
+
+abbrev closing : ℕ → ℕ → ℕ → Closure
+closing n a b = record { node = n; from = a; to = b }
+
+abbrev two_nodes : ℕ → List Closure → Space
+two_nodes now closures = record {
+  now = now;
+  window = 4;
+  nodes = 2;
+  sets = (0 ∷ 1 ∷ []) ∷ [];
+  busy_until = 0 ∷ 0 ∷ [];
+  drained = false ∷ false ∷ [];
+  closures = closures;
+  bids = record { job = 0; expr = one any_one } ∷ [];
+}
+
+-- each slot has a free node, and no node is free throughout: neither count may be above 0
+no_node_throughout : program_of (two_nodes 0 (closing 0 2 2 ∷ closing 1 4 4 ∷ [])) ≡ record {
+  costs = pos 5 ∷ pos 0 ∷ pos 0 ∷ [];
+  lower = pos 0 ∷ pos 0 ∷ pos 0 ∷ [];
+  upper = pos 1 ∷ pos 0 ∷ pos 0 ∷ [];
+  rows =
+      at_most (minus 0 0 ∷ plus 1 ∷ plus 2 ∷ []) 0
+      ∷ at_most (plus 0 ∷ minus 1 0 ∷ minus 2 0 ∷ []) 0
+      ∷ at_most (plus 1 ∷ []) 1
+      ∷ at_most (plus 1 ∷ []) 0
+      ∷ at_most (plus 1 ∷ []) 1
+      ∷ at_most (plus 2 ∷ []) 1
+      ∷ at_most (plus 2 ∷ []) 1
+      ∷ at_most (plus 2 ∷ []) 1
+      ∷ [];
+}
+no_node_throughout = refl
+
+-- without the second closure the second node may be had
+one_node_throughout : program_of (two_nodes 0 (closing 0 2 2 ∷ [])) ≡ record {
+  costs = pos 5 ∷ pos 0 ∷ pos 0 ∷ [];
+  lower = pos 0 ∷ pos 0 ∷ pos 0 ∷ [];
+  upper = pos 1 ∷ pos 0 ∷ pos 1 ∷ [];
+  rows =
+      at_most (minus 0 0 ∷ plus 1 ∷ plus 2 ∷ []) 0
+      ∷ at_most (plus 0 ∷ minus 1 0 ∷ minus 2 0 ∷ []) 0
+      ∷ at_most (plus 1 ∷ []) 1
+      ∷ at_most (plus 1 ∷ []) 0
+      ∷ at_most (plus 1 ∷ []) 1
+      ∷ at_most (plus 2 ∷ []) 1
+      ∷ at_most (plus 2 ∷ []) 1
+      ∷ at_most (plus 2 ∷ []) 1
+      ∷ [];
+}
+one_node_throughout = refl
+
+-- a closure behind every leaf tells the nodes apart, and one that is over before now does not
+split_behind : partitions (two_nodes 0 (closing 0 9 9 ∷ [])) ≡ (0 ∷ []) ∷ (1 ∷ []) ∷ []
+split_behind = refl
+
+together_after : partitions (two_nodes 1 (closing 0 0 0 ∷ [])) ≡ (0 ∷ 1 ∷ []) ∷ []
+together_after = refl

@@ -15,7 +15,8 @@ use Rattle.tetri_strl.proofs.PartsApart.{AreApart}
 use Rattle.tetri_strl.proofs.TrimThrift.{ungranted}
 use Rattle.tetri_strl.proofs.WorthLemmas.{EachLeaf-from, EachLeaf-both, each_good}
 use Rattle.tetri_base.specs.Lists.{sum_of, count, has, Each, EachPair, Ascends}
-use Rattle.tetri_space.specs.Partitions.{set_at, part_at, parts_in, is_free, available}
+use Rattle.tetri_space.specs.Free.{is_idle, is_closed, is_free}
+use Rattle.tetri_space.specs.Partitions.{set_at, part_at, parts_in, is_closed_part, available}
 use Rattle.tetri_space.specs.Space.{Bid, Space}
 use Rattle.tetri_base.proofs.ListLaws.{eq_from_test, Each-at, Each-from, Each-map, Each-all, Each-append, Each-filter, Each-passed, Each-across, Each-both, EachPair-append, EachPair-filter, EachPair-with, sum_of-le, sum_of-filter-le, filter-ascends, range-ascends}
 use Rattle.tetri_compile.specs.Allotted.{suits, granted_in, values_of_bids}
@@ -45,7 +46,8 @@ le_from_test m n e = grind (arith, nat_tests)
 
 pub free_below : (i : Space) (n t : ℕ) → is_free i n t ≡ true → n < i.nodes
 free_below i n t e =
-    let parts = and_parts (nat_lt n i.nodes && not (slice_index_or i.drained n true)) (nat_le (slice_index_or i.busy_until n 0) t) e in
+    let idle = and_parts (is_idle i n t) (not (is_closed i n t)) e in
+    let parts = and_parts (nat_lt n i.nodes && not (slice_index_or i.drained n true)) (nat_le (slice_index_or i.busy_until n 0) t) idle.0 in
     lt_from_test n i.nodes (and_parts (nat_lt n i.nodes) (not (slice_index_or i.drained n true)) parts.0).0
 
 -- the nodes of a grant are right for the leaf
@@ -83,7 +85,7 @@ module _ (i : Space) (os : List Bid) (parts : List (List ℕ)) (a : List Grant) 
     pub thrifty : IsThriftyFor (keep b.job) b.job b.expr
     pub worth : worth_of a b.job b.expr ≤ worth_of (keep b.job) b.job b.expr
 
-  -- the bids are right, the grants are right for their leaves, and the partitions cover their sets
+  -- the bids are right, the grants are right for their leaves, and the partitions cover their sets and are closed as a whole
   pub record IsFair : Type 0 where
     pub sound : Each (λ b. IsSound b.expr × AreApart b.expr) os
     pub jobs : EachPair (λ b c. b.job ≡ c.job → ⊥) os
@@ -93,6 +95,8 @@ module _ (i : Space) (os : List Bid) (parts : List (List ℕ)) (a : List Grant) 
     pub apart : EachPair HoldsApart a
     pub covers : (b : Bid) (l : Leaf) → Contains os b → Contains (leaves b.expr) l → (m : ℕ) → has (set_at i l.set) m ≡ true → m < i.nodes →
         count (λ p. has (part_at parts p) m) (inside l.set) ≡ 1
+    pub early : (b : Bid) (l : Leaf) → Contains os b → Contains (leaves b.expr) l → i.now ≤ l.start
+    pub closed_none : (p t : ℕ) → i.now ≤ t → is_closed_part i parts p t ≡ true → room p t ≡ 0
 
   module _ (fair : IsFair) where
     single_for : (job leaf : ℕ) → EachPair (λ g h. suits job leaf g ≡ true → suits job leaf h ≡ true → ⊥) a

@@ -20,14 +20,15 @@ use Rattle.tetri_strl.proofs.PruneLemmas.{each_nothing, pruned_keeps_worth}
 use Rattle.tetri_strl.proofs.TrimThrift.{trimmed_thrifty}
 use Rattle.tetri_strl.proofs.TrimWorth.{trimmed_worth}
 use Rattle.tetri_strl.proofs.WorthLemmas.{EachLeaf-from}
-use Rattle.tetri_space.specs.Free.{IsFree}
+use Rattle.tetri_space.specs.Free.{IsFree, is_free, is_idle}
 use Rattle.tetri_space.specs.Lawful.{HasRightNodes, MayBeGranted, IsLawfulGrant, IsLawful}
 use Rattle.tetri_space.specs.Lawful.{AreApart as GrantsApart}
-use Rattle.tetri_base.specs.Lists.{has, Each, EachPair, Ascends}
-use Rattle.tetri_space.specs.Partitions.{with_left, bids_left, live_bids, asked, partitions, set_at, is_free}
+use Rattle.tetri_base.specs.Lists.{count, has, Each, EachPair, Ascends}
+use Rattle.tetri_space.specs.Partitions.{with_left, bids_left, live_bids, asked, closed_sets, partitions, part_at, set_at}
 use Rattle.tetri_space.specs.Sound.{IsSoundBid, IsSound}
 use Rattle.tetri_space.specs.Space.{Bid, Space, leaf_in, Covers}
 use Rattle.tetri_space.specs.Total.{bid_worth, total_in}
+use Rattle.tetri_space.proofs.ClosedLaws.{available_is}
 use Rattle.tetri_space.proofs.FreeLemmas.{free_decides}
 use Rattle.tetri_space.proofs.LawLemmas.{dead_granted}
 use Rattle.tetri_space.proofs.LeafLemmas.{find-by_key, leaf_in-found}
@@ -67,6 +68,9 @@ right_for s l nodes h = record {
 
 starts : (from to : ℕ) (l : Leaf) → from ≤ l.start → l.start < to → starts_in from to l ≡ true
 starts from to l p q = grind (arith, nat_tests)
+
+starts_after : (from to : ℕ) (l : Leaf) → starts_in from to l ≡ true → from ≤ l.start
+starts_after from to l e = grind (arith, nat_tests)
 
 module _ (s : Space) (sound : IsSound s) where
   abbrev to : ℕ
@@ -180,7 +184,9 @@ module _ (s : Space) (sound : IsSound s) where
           apart.other_slots n (contains_from g.nodes n p) (contains_from h.nodes n q) l (names b l g bt lt t) m (names c m h ct mt r) slot
           (record { begun = e; not_over = f }) (record { begun = e2; not_over = f2 }))
           a (Each-all (λ g. Unit {0}) (λ g. tt) a) (EachPair-from (GrantsApart s) a lawful.apart);
-      covers = λ b l at below m there small. covered s (asked s (live_bids s)) l.set m (asked_has s (live_bids s) b l at below) small there;
+      covers = λ b l at below m there small. covered s (asked s (live_bids s)) (closed_sets s) l.set m (asked_has s (live_bids s) b l at below) small there;
+      early = λ b l at below. starts_after s.now to l (leaf_below b (left_of b at) l below).1;
+      closed_none = λ p t not_past shut. available_is s p t not_past ∙ ap (λ c. cond c 0 (count (λ n. is_idle s n t) (part_at (partitions s) p))) shut;
     }
 
     -- what is left is worth as much as the whole

@@ -18,9 +18,11 @@ pub mod LawLemmas
 pub mod LawfulLemmas
 pub mod NumberLemmas
 pub mod OutlineLemmas
+pub mod ProgramLaws
 pub mod ProgramLemmas
 pub mod RoomLemmas
 pub mod SizeLemmas
+pub mod SlotLemmas
 pub mod SmallLemmas
 pub mod TallyLemmas
 pub mod ThriftOfLeft

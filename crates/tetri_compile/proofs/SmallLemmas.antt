@@ -1,5 +1,5 @@
 -- The forms and limits of a program have few and small numbers.
-use Rattle.std.proofs.Common.{◌≡◌, ℕ, zero, suc, ◌+◌, ◌/◌, ◌<◌, ◌≤◌, ◌==◌, min, Bool, List, [], ◌∷◌, length, get_or, map, refl, ap, arith, le_trans}
+use Rattle.std.proofs.Common.{◌≡◌, ℕ, zero, suc, ◌+◌, ◌/◌, ◌<◌, ◌≤◌, ◌==◌, min, Bool, List, [], ◌∷◌, ◌++◌, length, get_or, map, refl, ap, arith, le_trans}
 use Rattle.std.specs.List.{filter, range_with_len}
 use Rattle.std.proofs.lemmas.Bool.{cond_both}
 use Rattle.std.proofs.lemmas.List.{length-append, length-map}
@@ -8,7 +8,8 @@ use Rattle.tetri_strl.specs.declared.expr.Leaf.{Leaf}
 use Rattle.tetri_strl.specs.Tree.{greatest, least, added, Tree, one, join, scale, barrier, Trees, none, more}
 use Rattle.tetri_strl.specs.WellMade.{peak, PEAK, IsSound, AreSound}
 use Rattle.tetri_base.specs.Lists.{Each, count}
-use Rattle.tetri_space.specs.Partitions.{alike, asked, available, is_free, leads, live_bids, part_at, partitions}
+use Rattle.tetri_space.specs.Free.{is_free}
+use Rattle.tetri_space.specs.Partitions.{alike, asked, available, closed_sets, leads, live_bids, part_at, partitions}
 use Rattle.tetri_space.specs.Sound.{IsSound as IsSoundSpace}
 use Rattle.tetri_space.specs.Space.{Bid, Space}
 use Rattle.tetri_base.proofs.ListLaws.{Each-append, Each-filter, Each-map, bit-le}
@@ -262,11 +263,12 @@ at_few m [] p h = omega arith
 at_few m (g ∷ gs) zero h = h.0
 at_few m (g ∷ gs) (suc p) h = at_few m gs p h.1
 
-groups_few : (s : Space) (ns : List ℕ) → Each (λ g. length g ≤ s.nodes) (map (λ n. filter (alike (asked s (live_bids s)) n) (range_with_len 0 s.nodes)) ns)
-groups_few s [] = tt
-groups_few s (n ∷ ns) = (omega (arith, filter_shorter (alike (asked s (live_bids s)) n) (range_with_len 0 s.nodes), length-range_with_len 0 s.nodes), groups_few s ns)
+groups_few : (s : Space) (sets : List (List ℕ)) (ns : List ℕ) → Each (λ g. length g ≤ s.nodes) (map (λ n. filter (alike sets n) (range_with_len 0 s.nodes)) ns)
+groups_few s sets [] = tt
+groups_few s sets (n ∷ ns) = (omega (arith, filter_shorter (alike sets n) (range_with_len 0 s.nodes), length-range_with_len 0 s.nodes), groups_few s sets ns)
 
 pub free_few : (s : Space) → IsSoundSpace s → (p t : ℕ) → available s (partitions s) p t ≤ PEAK
 free_few s sound p t =
-    let few = at_few s.nodes (partitions s) p (groups_few s (filter (leads (asked s (live_bids s)) (range_with_len 0 s.nodes)) (range_with_len 0 s.nodes))) in
+    let few = at_few s.nodes (partitions s) p
+    (groups_few s (asked s (live_bids s) ++ closed_sets s) (filter (leads (asked s (live_bids s)) (closed_sets s) (range_with_len 0 s.nodes)) (range_with_len 0 s.nodes))) in
     omega (arith, count_few (λ n. is_free s n t) (part_at (partitions s) p), few, sound.few_nodes)

@@ -17,7 +17,7 @@ use Rattle.tetri_strl.specs.WellMade.{IsSound, AreSound, IsGoodLeaf, HasChild, d
 use Rattle.tetri_strl.proofs.PartsApart.{the_one}
 use Rattle.tetri_strl.proofs.WorthLemmas.{EachLeaf-from, each_good}
 use Rattle.tetri_base.specs.Lists.{bit, count, has, sum_of, Each}
-use Rattle.tetri_space.specs.Partitions.{Parts, ArePartitionsOf, parts_found, parts_in, partitions, live_bids, part_at, set_at, available, asked, alike, leads}
+use Rattle.tetri_space.specs.Partitions.{Parts, ArePartitionsOf, parts_found, parts_in, partitions, live_bids, part_at, set_at, available, asked, alike, closed_sets, leads}
 use Rattle.tetri_space.specs.Sound.{IsSound as IsSoundSpace, IsSoundBid}
 use Rattle.tetri_space.specs.Space.{Bid, Space, IsLive}
 use Rattle.tetri_base.proofs.ListLaws.{Each-get, Each-at, Each-from, Each-all, Each-filter, sum_of-eq, sum_of-swap, range_from}
@@ -272,9 +272,15 @@ sum_most f m (x ∷ xs) h = omega (arith, h.0, sum_most f m xs h.1)
 
 partitions_few : (s : Space) → length (partitions s) ≤ s.nodes
 partitions_few s =
-    let sets = asked s (live_bids s) in
+    let asks = asked s (live_bids s) in
+    let marks = closed_sets s in
     let nodes = range_with_len 0 s.nodes in
-    omega (arith, length-map (filter (leads sets nodes) nodes) (λ n. filter (alike sets n) nodes), filter_shorter (leads sets nodes) nodes, length-range_with_len 0 s.nodes)
+    omega (
+      arith,
+      length-map (filter (leads asks marks nodes) nodes) (λ n. filter (alike (asks ++ marks) n) nodes),
+      filter_shorter (leads asks marks nodes) nodes,
+      length-range_with_len 0 s.nodes,
+    )
 
 small_product : (l d : ℕ) → l ≤ 128 → d ≤ 64 → l * (4096 + d) ≤ 532480
 small_product l d p q = let h = mul-le-mul_left l q in omega (arith, h, p)

@@ -114,11 +114,11 @@ fn write_down(alloc: Global, inst: &Instance, parts: &Partitions) -> Result<Writ
 }
 
 /// The program of an instance, and its columns that count nodes. Every lawful allotment has a point of
-/// the program at which the program earns no less than the allotment's total. The program is fit, its
-/// lower bounds are 0, each number is at most 10^12 in size, and its columns can earn at most 2^64 - 1
-/// together. Linear in the program and in
-/// the nodes of the partitions for each slot of the window and each level of an expression, but for the
-/// sorting of each row's terms and of each partition's nodes.
+/// the program at which the program earns no less than the allotment's total. A count is 0 where its
+/// partition is closed in a slot of its leaf. The program is fit, its lower bounds are 0, each number is
+/// at most 10^12 in size, and its columns can earn at most 2^64 - 1 together. Linear in the program and
+/// in the forms at each level of an expression, but for the sorting of each row's terms and of each
+/// partition's nodes, and a binary search for each count and each row of supply.
 pub fn compile(alloc: Global, inst: &Instance, parts: &Partitions) -> Result<Compiled, AllocError>
     requires sound { IsSoundSpace (space inst.now) }
     requires partitions { ArePartitionsOf (space inst.now) (parts_of parts.now) }

@@ -1,5 +1,5 @@
 // The rows that keep each partition within what is free of it.
-ghost use Rattle.std.specs.Prelude.{◌≡◌, ◌<◌, ◌==◌, ℕ, [], List, length, map, replicate, IfOk, OnOk};
+ghost use Rattle.std.specs.Prelude.{◌≡◌, ◌<◌, ◌≤◌, ◌==◌, ℕ, [], List, length, map, replicate, IfOk, OnOk};
 ghost use Rattle.std.specs.List.{filter, range_with_len};
 ghost use Rattle.tetri_space.specs.Partitions.{ArePartitionsOf, parts_of, partitions};
 ghost use Rattle.tetri_space.specs.Sound.{IsSound};
@@ -60,14 +60,18 @@ fn held_form(alloc: Global, tallies: &[Tally], slot: u32) -> Result<Vec<Share>, 
 fn add_slot(
     alloc: Global,
     inst: &Instance,
+    parts: &Partitions,
     rooms: &Rooms,
     part: u32,
     slot: u32,
     tallies: &[Tally],
     out: &mut Outline,
 ) -> Result<(), AllocError>
+    requires sound { IsSound (space inst.now) }
+    requires partitions { ArePartitionsOf (space inst.now) (parts_of parts.now) }
     requires rooms { AreRooms (space inst.now) rooms.now }
     requires there { part < length (partitions (space inst.now)) }
+    requires not_past { inst.now.now ≤ slot }
     ensures { OnOk result ((cs : List TallyRow) → tallies.now ≡ filter (λ c. c.part == part) cs →
         Grows out.old out.new [] (supply_row (filter (is_held part slot) cs) (room (space inst.entry.now) part slot)) []) }
 {
@@ -78,7 +82,7 @@ fn add_slot(
     out.rows.push(Inequality {
         most: form,
         under: Vec::new(alloc),
-        plus: room_at(inst, rooms, part, slot),
+        plus: room_at(inst, parts, rooms, part, slot),
     })?;
     Ok(())
 }
@@ -87,12 +91,14 @@ fn add_slot(
 fn add_part(
     alloc: Global,
     inst: &Instance,
+    parts: &Partitions,
     rooms: &Rooms,
     part: u32,
     tallies: &[Tally],
     out: &mut Outline,
 ) -> Result<(), AllocError>
     requires sound { IsSound (space inst.now) }
+    requires partitions { ArePartitionsOf (space inst.now) (parts_of parts.now) }
     requires rooms { AreRooms (space inst.now) rooms.now }
     requires there { part < length (partitions (space inst.now)) }
     ensures { OnOk result ((cs : List TallyRow) → tallies.now ≡ filter (λ c. c.part == part) cs →
@@ -100,7 +106,7 @@ fn add_part(
         (range_with_len inst.entry.now.now inst.entry.now.window)) []) }
 {
     for slot in inst.now..inst.now + inst.window {
-        add_slot(alloc, inst, rooms, part, slot, tallies, out)?;
+        add_slot(alloc, inst, parts, rooms, part, slot, tallies, out)?;
     }
     Ok(())
 }
@@ -124,7 +130,7 @@ pub fn add_supply(
     let lists = by_part(alloc, parts.count(), &out.tallies)?;
     for part in 0..parts.count() {
         let mine = lists[part as usize].as_slice();
-        add_part(alloc, inst, rooms, part, mine, out)?;
+        add_part(alloc, inst, parts, rooms, part, mine, out)?;
     }
     Ok(())
 }

@@ -14,7 +14,7 @@ ghost use Rattle.tetri_compile.specs.Walk.{forms, leaf_form, leaf_rows, ones, ro
 ghost use Rattle.tetri_compile.specs.Walked.{AreWalked, Grows, IsReady, IsWalked, inside, next_column, usable};
 
 use crate::outline::{Inequality, Outline, Share, Tally};
-use crate::rooms::{Rooms, room_at};
+use crate::rooms::{Rooms, usable_by};
 use std::alloc::{AllocError, Global};
 use tetri_space::{Instance, Partitions};
 use tetri_strl::{Expr, Leaf, top_in};
@@ -73,8 +73,8 @@ fn add_counts(
 {
     for part in parts.parts_in(leaf.set) {
         let column = out.uppers.len() as u32;
-        let free = room_at(inst, rooms, *part, leaf.start);
-        out.uppers.push(u64::from(leaf.k).min(free))?;
+        let usable = usable_by(inst, parts, rooms, *part, leaf);
+        out.uppers.push(u64::from(leaf.k).min(usable))?;
         out.tallies.push(Tally {
             column,
             job,

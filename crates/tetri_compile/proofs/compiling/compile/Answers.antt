@@ -8,7 +8,7 @@ use Rattle.tetri_compile.specs.Draft.{Draft, outline_draft}
 use Rattle.tetri_compile.specs.Flat.{FlatProgram, count_of, flat, plain, program_of}
 use Rattle.tetri_compile.specs.Forms.{Form}
 use Rattle.tetri_compile.specs.Small.{IsSmallForm, IsSmallLimit}
-use Rattle.tetri_compile.proofs.CompileLemmas.{counts_of_program, draft_small, fit, gain_bounded, numbers, zeros_all}
+use Rattle.tetri_compile.proofs.CompileLemmas.{counts_of_program, draft_small, gain_bounded, compiled_is_fit, program_numbers, zeros_all}
 use Rattle.tetri_compile.proofs.LawLemmas.{allotment_has_point}
 use Rattle.tetri_compile.proofs.compiling.compile.Goals as goal
 
@@ -39,7 +39,7 @@ returns-clause-fit c =
     let s = space c.args.inst.now in
     let program : plain c.in_ok-program.program ≡ program_of s =
     c.in_ok-program.ensures ∙ ap (λ (f : Form). flat (outline_draft c.in_ok-written.written.outline f)) c.deref.ensures.value ∙ ap flat c.in_ok-written.ensures in
-    fit s c.requires.sound (parts_of c.args.parts.now) c.requires.partitions c.requires.columns c.requires.rows c.in_ok-program.program program
+    compiled_is_fit s c.requires.sound (parts_of c.args.parts.now) c.requires.partitions c.requires.columns c.requires.rows c.in_ok-program.program program
 
 pub returns-clause-counts : goal.returns-clause-counts
 returns-clause-counts c =
@@ -61,4 +61,4 @@ returns-clause-small c =
     let s = space c.args.inst.now in
     let program : plain c.in_ok-program.program ≡ program_of s =
     c.in_ok-program.ensures ∙ ap (λ (f : Form). flat (outline_draft c.in_ok-written.written.outline f)) c.deref.ensures.value ∙ ap flat c.in_ok-written.ensures in
-    numbers s c.requires.sound (parts_of c.args.parts.now) c.requires.partitions c.requires.columns c.requires.rows c.in_ok-program.program program
+    program_numbers s c.requires.sound (parts_of c.args.parts.now) c.requires.partitions c.requires.columns c.requires.rows c.in_ok-program.program program

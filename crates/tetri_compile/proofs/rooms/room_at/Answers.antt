@@ -1,25 +1,20 @@
-use Rattle.std.proofs.Common.{◌≡◌, ◌<◌, ℕ, List, length, ap, sym, ◌∙◌, subst, rules, arith}
-use Rattle.std.specs.Prelude.{nat_le}
-use Rattle.std.specs.List.Sorted.{IsNonDecreasing}
-use Rattle.std.proofs.lemmas.List.Sorted.{IsPartitionPoint-from_clause, IsPartitionedBy-leb}
-use Rattle.tetri_space.specs.Finding.{list_at}
-use Rattle.tetri_base.specs.Lists.{count}
+use Rattle.std.proofs.Common.{◌<◌, ℕ, List, Bool, cond, length, sym, ap, ◌∙◌, subst}
+use Rattle.tetri_space.specs.Partitions.{partitions}
 use Rattle.tetri_space.specs.Space.{space}
-use Rattle.tetri_space.proofs.FindingLemmas.{list_is}
-use Rattle.tetri_compile.proofs.RoomLemmas.{count_point}
+use Rattle.tetri_space.proofs.ClosedLaws.{available_is}
+use Rattle.tetri_compile.specs.Room.{idle_count}
 use Rattle.tetri_compile.proofs.rooms.room_at.Goals as goal
+
+pub closed-requires-clause-there : goal.closed-requires-clause-there
+closed-requires-clause-there c = subst (λ (gs : List (List ℕ)). c.args.part < length gs) (sym c.requires.partitions.groups) c.requires.there
+
+pub returns-then-closed : goal.returns-then-closed
+returns-then-closed c =
+    let s = space c.args.inst.now in
+    sym (available_is s c.args.part c.args.slot c.requires.not_past ∙ ap (λ (b : Bool). cond b 0 (idle_count s c.args.part c.args.slot)) (sym c.closed.ensures ∙ c.if-closed.true))
 
 pub returns : goal.returns
 returns c =
     let s = space c.args.inst.now in
-    let rooms = c.requires.rooms in
-    let p = c.args.part in
-    let slot = c.args.slot in
-    let lists = c.args.rooms.now.since.items in
-    let xs = c.as_slice-since.result.now in
-    let within : p < length lists = omega (arith, c.requires.there, rooms.many) in
-    let same : xs ≡ list_at lists p = c.as_slice-since.ensures.value ∙ sym (list_is lists p c.index.result.now within c.index.ensures) in
-    let parted = IsPartitionedBy-leb (λ (x : ℕ). x) xs slot (subst IsNonDecreasing (sym same) (rooms.ascending p c.requires.there)) in
-    let point = IsPartitionPoint-from_clause (λ (b : ℕ). nat_le b slot) xs c.partition_point.result c.partition_point.ensures.partitioned parted (λ a r q k. search rules) in
-    sym (count_point (λ (b : ℕ). nat_le b slot) xs c.partition_point.result c.partition_point.ensures.bound (λ j d lt. point.0 j d (omega arith) lt) (λ j d low high. point.1 j d low high))
-    ∙ ap (λ (ys : List ℕ). count (λ (b : ℕ). nat_le b slot) ys) same ∙ rooms.free p slot c.requires.there
+    c.idle_at.ensures
+    ∙ sym (available_is s c.args.part c.args.slot c.requires.not_past ∙ ap (λ (b : Bool). cond b 0 (idle_count s c.args.part c.args.slot)) (sym c.closed.ensures ∙ c.if-closed.false))

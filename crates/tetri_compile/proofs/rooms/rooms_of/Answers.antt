@@ -3,8 +3,10 @@ use Rattle.std.specs.Prelude.{nat_le}
 use Rattle.std.specs.List.Sorted.{IsNonDecreasing}
 use Rattle.std.proofs.lemmas.List.{length-append}
 use Rattle.tetri_base.specs.Lists.{count}
-use Rattle.tetri_space.specs.Partitions.{available, is_free, part_at, partitions}
+use Rattle.tetri_space.specs.Free.{is_idle}
+use Rattle.tetri_space.specs.Partitions.{part_at}
 use Rattle.tetri_space.specs.Space.{space}
+use Rattle.tetri_compile.specs.Room.{idle_count}
 use Rattle.tetri_compile.proofs.RoomLemmas.{each_list}
 use Rattle.tetri_compile.proofs.rooms.rooms_of.Goals as goal
 
@@ -20,6 +22,6 @@ loop-part-preserved c =
     record {
       many = ap length grown ∙ length-append vs (c.in_ok-slots.slots ∷ []) ∙ ap (λ k. k + 1) h.many;
       ascending = each_list (λ p xs. IsNonDecreasing xs) vs new c.in_ok-slots.slots n h.many grown h.ascending c.in_ok-slots.ensures.ascending;
-      free = λ p t. each_list (λ q xs. count (λ b. nat_le b t) xs ≡ available s (partitions s) q t) vs new c.in_ok-slots.slots n h.many grown (λ q lt. h.free q t lt)
-          (c.in_ok-slots.ensures.free t ∙ ap (λ (ns : List ℕ). count (λ m. is_free s m t) ns) nodes) p;
+      idle = λ p t. each_list (λ q xs. count (λ b. nat_le b t) xs ≡ idle_count s q t) vs new c.in_ok-slots.slots n h.many grown (λ q lt. h.idle q t lt)
+          (c.in_ok-slots.ensures.idle t ∙ ap (λ (ns : List ℕ). count (λ m. is_idle s m t) ns) nodes) p;
     }

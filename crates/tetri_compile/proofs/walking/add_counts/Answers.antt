@@ -4,8 +4,8 @@ use Rattle.tetri_space.specs.Space.{space}
 use Rattle.tetri_compile.proofs.OutlineLemmas.{inside_below}
 use Rattle.tetri_compile.proofs.walking.add_counts.Goals as goal
 
-pub room_at-free-requires-clause-there : goal.room_at-free-requires-clause-there
-room_at-free-requires-clause-there c =
+pub usable_by-usable-requires-clause-there : goal.usable_by-usable-requires-clause-there
+usable_by-usable-requires-clause-there c =
     let s = space c.args.inst.now in
     let k = c.loop-part.part-index in
     let same = c.parts_in-part-items.ensures ∙ c.requires.ready.parts in

@@ -1,0 +1,13 @@
+-- Of programs, their walks and their points: what crates above may cite.
+pub use Rattle.tetri_compile.proofs.CompileLemmas.{draft_small, compiled_is_fit, sound_bids}
+pub use Rattle.tetri_compile.proofs.CountLemmas.{counts_are}
+pub use Rattle.tetri_compile.proofs.FairLemmas.{Each-has, granted_total, le_from_test, lt_from_test, worth_of_bids}
+pub use Rattle.tetri_compile.proofs.FitLemmas.{program_fit}
+pub use Rattle.tetri_compile.proofs.FlatLemmas.{RowsMet, at_column, flat_met, flat_objective, meets_to}
+pub use Rattle.tetri_compile.proofs.FormLemmas.{AreMet-split, Within-split, at_point-append, at_point-run, at_point-times}
+pub use Rattle.tetri_compile.proofs.GainLemmas.{bid_uppers_small}
+pub use Rattle.tetri_compile.proofs.LawLemmas.{allotment_has_point}
+pub use Rattle.tetri_compile.proofs.LawfulLemmas.{goods, live_total, other_jobs}
+pub use Rattle.tetri_compile.proofs.SlotLemmas.{none_in_range, none_of}
+pub use Rattle.tetri_compile.proofs.TallyLemmas.{IsOf, number_of, number_of_all, tallies_leaf, tallies_leaf_of, tallies_other}
+pub use Rattle.tetri_compile.proofs.WalkLemmas.{IsBelowEach}
