@@ -1,7 +1,9 @@
 -- Which jobs arrive in a slot.
-use Rattle.std.proofs.Common.{◌≡◌, ℕ, ◌+◌, ◌<◌, ◌≤◌, ◌==◌, true, List, [], ◌∷◌, length, get_or, map, refl, sym, ap, ◌∙◌, subst, arith, suc}
+use Rattle.std.proofs.Common.{◌≡◌, ℕ, ◌+◌, ◌<◌, ◌==◌, true, List, [], ◌∷◌, length, get_or, map, sym, ap, ◌∙◌, subst, arith, suc}
 use Rattle.std.specs.List.{filter_map, range_with_len, zip}
 use Rattle.std.proofs.lemmas.Bool.Decides.{nat_tests}
+use Rattle.tetri_base.specs.Lists.{Each}
+use Rattle.tetri_base.proofs.ListLaws.{Each-map}
 use Rattle.tetri_trace.specs.declared.trace.Event.{Event}
 use Rattle.tetri_trace.specs.declared.trace.Happening.{Happening}
 use Rattle.tetri_trace.specs.declared.trace.Happening.TheVariants.{Arrive, Cancel, Drain, Undrain, Fail}
@@ -11,7 +13,6 @@ use Rattle.tetri_state.specs.Begin.{events_at}
 use Rattle.tetri_state.specs.Snapshot.{nothing_submitted, submission_of}
 use Rattle.tetri_state.proofs.Ascending.{each_passing}
 use Rattle.tetri_state.proofs.SoundLemmas.{OfArrival, arrival_weaker}
-use Rattle.tetri_state.proofs.ToldLemmas.{Each, each_weaker}
 
 module _ (t : Scenario) where
   -- a job that arrives in this slot
@@ -61,6 +62,6 @@ module _ (t : Scenario) where
   -- those that arrive in a slot arrived before the next
   pub arrivals_before : IsSound t → (now : ℕ) → Each (λ e. OfArrival (ArrivedBefore (now + 1)) e.what) (events_at t now)
   arrivals_before sound now =
-      each_weaker (λ (e : Event). OfArrival (ArrivesAt now) e.what) (λ e. OfArrival (ArrivedBefore (now + 1)) e.what)
+      Each-map (λ (e : Event). OfArrival (ArrivesAt now) e.what) (λ e. OfArrival (ArrivedBefore (now + 1)) e.what)
       (λ e here. arrival_weaker (ArrivesAt now) (ArrivedBefore (now + 1)) (λ job known. (known.0, omega (arith, known.1))) e.what here)
       (events_at t now) (arrive_now sound now)

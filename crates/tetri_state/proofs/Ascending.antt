@@ -1,38 +1,37 @@
 -- Numbers that ascend.
-use Rattle.std.proofs.Common.{◌≡◌, ℕ, ◌<◌, ◌≤◌, ◌==◌, ◌||◌, Bool, true, false, cond, List, [], ◌∷◌, ◌++◌, length, get_or, refl, sym, ap, ◌∙◌, arith, not, nat_lt, filter, suc, zero, AllPairs, add-one}
+use Rattle.std.proofs.Common.{All, ◌≡◌, ℕ, ◌<◌, ◌≤◌, ◌==◌, ◌||◌, Bool, true, false, cond, List, [], ◌∷◌, length, get_or, refl, sym, ap, ◌∙◌, arith, not, nat_lt, filter, suc, zero, AllPairs, add-one}
 use Rattle.std.specs.List.{insert, remove}
 use Rattle.std.specs.List.Sorted.{IsStrictlyIncreasing}
 use Rattle.std.proofs.lemmas.Bool.Decides.{nat_tests}
 use Rattle.std.proofs.lemmas.List.Kept.{AllPairs-from_increasing}
-use Rattle.tetri_base.specs.Lists.{has}
+use Rattle.tetri_base.specs.Lists.{Ascends, Each, has}
+use Rattle.tetri_base.proofs.ListLaws.{Each-get, Each-map}
 use Rattle.tetri_state.specs.Begin.{put_number, without}
-use Rattle.tetri_state.proofs.ToldLemmas.{Each, each_at, each_weaker}
 
--- each number is below all that stand behind it
-abbrev pub Ascend : List ℕ → Type 0
-Ascend [] = Unit {0}
-Ascend (n ∷ ns) = Each (λ m. n < m) ns × Ascend ns
+-- a fact of each element, by its place
+pub all_each : {X : Type 0} (P : X → Type 0) (xs : List X) → Each P xs → All P xs
+all_each P xs each = λ k d lt. Each-get P xs k d each lt
 
 pub each_from : {X : Type 0} (P : X → Type 0) (xs : List X) → ((k : ℕ) (d : X) → k < length xs → P (get_or xs k d)) → Each P xs
 each_from P [] all = tt
 each_from P (x ∷ xs) all = (all 0 x (omega arith), each_from P xs (λ k d lt. all (suc k) d (omega arith)))
 
-ascend_pairs : (ns : List ℕ) → AllPairs (λ m n. m < n) ns → Ascend ns
+ascend_pairs : (ns : List ℕ) → AllPairs (λ m n. m < n) ns → Ascends ns
 ascend_pairs [] pairs = tt
 ascend_pairs (n ∷ ns) pairs = (
   each_from (λ m. n < m) ns (λ k d lt. pairs 0 (suc k) d (omega arith) (omega arith)),
   ascend_pairs ns (λ i j d before lt. pairs (suc i) (suc j) d (omega arith) (omega arith)),
 )
 
-pub ascend_from : (ns : List ℕ) → IsStrictlyIncreasing ns → Ascend ns
+pub ascend_from : (ns : List ℕ) → IsStrictlyIncreasing ns → Ascends ns
 ascend_from ns rises = ascend_pairs ns (AllPairs-from_increasing ns rises)
 
-next_above : (ns : List ℕ) (k : ℕ) → Ascend ns → suc k < length ns → get_or ns k 0 < get_or ns (suc k) 0
+next_above : (ns : List ℕ) (k : ℕ) → Ascends ns → suc k < length ns → get_or ns k 0 < get_or ns (suc k) 0
 next_above [] k up lt = absurd (omega arith)
-next_above (n ∷ ns) zero up lt = each_at (λ m. n < m) ns 0 0 (omega arith) up.0
+next_above (n ∷ ns) zero up lt = Each-get (λ m. n < m) ns 0 0 up.0 (omega arith)
 next_above (n ∷ ns) (suc k) up lt = next_above ns k up.1 (omega arith)
 
-pub ascend_to : (ns : List ℕ) → Ascend ns → IsStrictlyIncreasing ns
+pub ascend_to : (ns : List ℕ) → Ascends ns → IsStrictlyIncreasing ns
 ascend_to ns up k lt = rw add-one (next_above ns k up (omega arith))
 
 other_kept : (m n : ℕ) (ms : List ℕ) → n < m → cond (not (m == n)) (m ∷ ms) ms ≡ m ∷ ms
@@ -61,12 +60,12 @@ itself_dropped n ms = by_test (n == n) refl
     by_test false differ = let no_way : ⊥ = grind (arith, nat_tests) in absurd no_way
 
 -- to remove the number at a place is to leave it out
-pub remove_is : (ns : List ℕ) (i : ℕ) (d : ℕ) → Ascend ns → i < length ns → remove ns i ≡ without (get_or ns i d) ns
+pub remove_is : (ns : List ℕ) (i : ℕ) (d : ℕ) → Ascends ns → i < length ns → remove ns i ≡ without (get_or ns i d) ns
 remove_is [] i d up lt = absurd (omega arith)
 remove_is (n ∷ ns) zero d up lt = sym (itself_dropped n (without n ns) ∙ without_above n ns up.0)
 remove_is (n ∷ ns) (suc i) d up lt =
     ap (λ ms. n ∷ ms) (remove_is ns i d up.1 (omega arith))
-    ∙ sym (lesser_kept n (get_or ns i d) (without (get_or ns i d) ns) (each_at (λ m. n < m) ns i d (omega arith) up.0))
+    ∙ sym (lesser_kept n (get_or ns i d) (without (get_or ns i d) ns) (Each-get (λ m. n < m) ns i d up.0 (omega arith)))
 
 -- what is not there cannot be left out
 pub without_absent : (n : ℕ) (ns : List ℕ) → has ns n ≡ false → without n ns ≡ ns
@@ -76,48 +75,6 @@ without_absent n (m ∷ ns) absent = by_test (m == n) absent (without_absent n n
     by_test : (t : Bool) → (t || has ns n) ≡ false → (has ns n ≡ false → without n ns ≡ ns) → cond (not t) (m ∷ without n ns) (without n ns) ≡ m ∷ ns
     by_test true none rest = absurd cc
     by_test false none rest = ap (λ ms. m ∷ ms) (rest none)
-
--- a part of numbers that ascend
-pub each_filtered : {X : Type 0} (P : X → Type 0) (test : X → Bool) (xs : List X) → Each P xs → Each P (filter test xs)
-each_filtered P test [] each = tt
-each_filtered P test (x ∷ xs) each = by_test (test x) (each_filtered P test xs each.1)
-  where
-    by_test : (t : Bool) → Each P (filter test xs) → Each P (cond t (x ∷ filter test xs) (filter test xs))
-    by_test true rest = (each.0, rest)
-    by_test false rest = rest
-
-pub each_parts : {X : Type 0} (P : X → Type 0) (xs ys : List X) → Each P xs → Each P ys → Each P (xs ++ ys)
-each_parts P [] ys front back = back
-each_parts P (x ∷ xs) ys front back = (front.0, each_parts P xs ys front.1 back)
-
-pub each_front : {X : Type 0} (P : X → Type 0) (xs ys : List X) → Each P (xs ++ ys) → Each P xs
-each_front P [] ys each = tt
-each_front P (x ∷ xs) ys each = (each.0, each_front P xs ys each.1)
-
-pub each_back : {X : Type 0} (P : X → Type 0) (xs ys : List X) → Each P (xs ++ ys) → Each P ys
-each_back P [] ys each = each
-each_back P (x ∷ xs) ys each = each_back P xs ys each.1
-
-pub ascend_filtered : (test : ℕ → Bool) (ns ms : List ℕ) → Ascend (ns ++ ms) → Ascend (filter test ns ++ ms)
-ascend_filtered test [] ms up = up
-ascend_filtered test (n ∷ ns) ms up = by_test (test n) (ascend_filtered test ns ms up.1)
-  where
-    by_test : (t : Bool) → Ascend (filter test ns ++ ms) → Ascend (cond t (n ∷ filter test ns) (filter test ns) ++ ms)
-    by_test true rest =
-        (each_parts (λ m. n < m) (filter test ns) ms (each_filtered (λ m. n < m) test ns (each_front (λ m. n < m) ns ms up.0)) (each_back (λ m. n < m) ns ms up.0), rest)
-    by_test false rest = rest
-
-pub ascend_front : (ns ms : List ℕ) → Ascend (ns ++ ms) → Ascend ns
-ascend_front [] ms up = tt
-ascend_front (n ∷ ns) ms up = (each_front (λ m. n < m) ns ms up.0, ascend_front ns ms up.1)
-
-pub ascend_filter : (test : ℕ → Bool) (ns : List ℕ) → Ascend ns → Ascend (filter test ns)
-ascend_filter test [] up = tt
-ascend_filter test (n ∷ ns) up = by_test (test n) (ascend_filter test ns up.1)
-  where
-    by_test : (t : Bool) → Ascend (filter test ns) → Ascend (cond t (n ∷ filter test ns) (filter test ns))
-    by_test true rest = (each_filtered (λ m. n < m) test ns up.0, rest)
-    by_test false rest = rest
 
 -- to put a number among those that ascend
 module _ (n : ℕ) where
@@ -141,11 +98,11 @@ module _ (n : ℕ) where
       ∙ sym (behind_less m (m ∷ put_number n ms) (m ∷ ms) (n ∷ m ∷ ms) (below 0 (omega arith)))
 
   -- where it is there, nothing changes
-  pub put_there : (ns : List ℕ) (i : ℕ) → Ascend ns → i < length ns → get_or ns i 0 ≡ n → put_number n ns ≡ ns
+  pub put_there : (ns : List ℕ) (i : ℕ) → Ascends ns → i < length ns → get_or ns i 0 ≡ n → put_number n ns ≡ ns
   put_there [] i up lt same = absurd (omega arith)
   put_there (m ∷ ms) zero up lt same = at_same m (m ∷ put_number n ms) (m ∷ ms) (n ∷ m ∷ ms) same
   put_there (m ∷ ms) (suc i) up lt same =
-      behind_less m (m ∷ put_number n ms) (m ∷ ms) (n ∷ m ∷ ms) (omega (arith, each_at (λ k. m < k) ms i 0 (omega arith) up.0, same))
+      behind_less m (m ∷ put_number n ms) (m ∷ ms) (n ∷ m ∷ ms) (omega (arith, Each-get (λ k. m < k) ms i 0 up.0 (omega arith), same))
       ∙ ap (λ ks. m ∷ ks) (put_there ms i up.1 (omega arith) same)
 
   pub put_each : (P : ℕ → Type 0) (ns : List ℕ) → P n → Each P ns → Each P (put_number n ns)
@@ -157,14 +114,14 @@ module _ (n : ℕ) where
       by_tests false true rest = each
       by_tests false false rest = (here, each)
 
-  pub put-ascend : (ns : List ℕ) → Ascend ns → Ascend (put_number n ns)
+  pub put-ascend : (ns : List ℕ) → Ascends ns → Ascends (put_number n ns)
   put-ascend [] up = (tt, tt)
   put-ascend (m ∷ ms) up = by_tests (nat_lt m n) (m == n) refl refl (put-ascend ms up.1)
     where
-      by_tests : (s t : Bool) → nat_lt m n ≡ s → (m == n) ≡ t → Ascend (put_number n ms) → Ascend (cond s (m ∷ put_number n ms) (cond t (m ∷ ms) (n ∷ m ∷ ms)))
+      by_tests : (s t : Bool) → nat_lt m n ≡ s → (m == n) ≡ t → Ascends (put_number n ms) → Ascends (cond s (m ∷ put_number n ms) (cond t (m ∷ ms) (n ∷ m ∷ ms)))
       by_tests true t less same rest = let lt : m < n = grind (arith, nat_tests) in (put_each (λ k. m < k) ms lt up.0, rest)
       by_tests false true less same rest = up
-      by_tests false false less same rest = let lt : n < m = grind (arith, nat_tests) in ((lt, each_weaker (λ k. m < k) (λ k. n < k) (λ k more. omega arith) ms up.0), up)
+      by_tests false false less same rest = let lt : n < m = grind (arith, nat_tests) in ((lt, Each-map (λ k. m < k) (λ k. n < k) (λ k more. omega arith) ms up.0), up)
 
 -- of elements that pass a test
 pub each_passing : {X : Type 0} (test : X → Bool) (P Q : X → Type 0) → ((x : X) → P x → test x ≡ true → Q x) → (xs : List X) → Each P xs → Each Q (filter test xs)

@@ -4,7 +4,8 @@ use Rattle.std.specs.List.{find}
 use Rattle.std.proofs.lemmas.Bool.Decides.{nat_tests}
 use Rattle.std.proofs.lemmas.List.{get_or-map, length-map}
 use Rattle.std.proofs.lemmas.List.Elements.{All-nil, Contains-get_or}
-use Rattle.tetri_base.specs.Lists.{has}
+use Rattle.tetri_base.specs.Lists.{Each, has}
+use Rattle.tetri_base.proofs.ListLaws.{Each-get}
 use Rattle.tetri_strl.specs.declared.expr.Leaf.{Leaf}
 use Rattle.tetri_strl.specs.declared.grants.Grant.{Grant}
 use Rattle.tetri_strl.specs.Aligned.{EachLeaf}
@@ -25,7 +26,6 @@ use Rattle.tetri_state.proofs.ArrivalLemmas.{ArrivedBefore}
 use Rattle.tetri_state.proofs.Ascending.{each_from, each_passing}
 use Rattle.tetri_state.proofs.LaunchLemmas.{bid_known, held_grant, leaf_pending, same_from_test, thrifty_without}
 use Rattle.tetri_state.proofs.StandLemmas.{NamesLeaf, Stands}
-use Rattle.tetri_state.proofs.ToldLemmas.{Each, each_at}
 
 -- where all grants of a job are kept
 module _ (keeps : Grant → Bool) (job : ℕ) where
@@ -80,7 +80,7 @@ module _ (t : Scenario) (s : Snapshot) (sound : IsSound t) (stands : Stands t (s
   job_there b at =
       let lt : at.0 < length s.pending = omega (arith, at.1, length-map s.pending (bid_of t)) in
       let is : b ≡ bid_of t (get_or s.pending at.0 0) = sym at.2 ∙ get_or-map (bid_of t) s.pending at.0 0 b lt in
-      subst (λ (c : Bid). c.job < length t.submissions) (sym is) (each_at (ArrivedBefore t (s.now + 1)) s.pending at.0 0 lt stands.arrived).0
+      subst (λ (c : Bid). c.job < length t.submissions) (sym is) (Each-get (ArrivedBefore t (s.now + 1)) s.pending at.0 0 stands.arrived lt).0
 
   -- all grants of a pending job start in one slot, so that all are kept or none is
   module _ (job : ℕ) (known : job < length t.submissions) (waits : has s.pending job ≡ true) where
@@ -108,7 +108,7 @@ module _ (t : Scenario) (s : Snapshot) (sound : IsSound t) (stands : Stands t (s
     all_alike : Each (λ g. g.job ≡ job → keeps g ≡ stays) s.plan
     all_alike =
         each_from (λ g. g.job ≡ job → keeps g ≡ stays) s.plan
-        (λ k d lt same. kept_alike (get_or s.plan k d) (Contains-get_or s.plan k d lt) (each_at (NamesLeaf t) s.plan k d lt stands.planned) same)
+        (λ k d lt same. kept_alike (get_or s.plan k d) (Contains-get_or s.plan k d lt) (Each-get (NamesLeaf t) s.plan k d stands.planned lt) same)
 
     kept_thrifty : IsThriftyFor (still_pending i s.plan) job (demanded t job)
     kept_thrifty = by_test stays all_alike
@@ -122,7 +122,7 @@ module _ (t : Scenario) (s : Snapshot) (sound : IsSound t) (stands : Stands t (s
             each_passing keeps (λ g. g.job ≡ job → keeps g ≡ false) (λ g. g.job ≡ job → ⊥)
             (λ g dropped passes same. let e : true ≡ false = sym passes ∙ dropped same in absurd cc) s.plan alike in
             thrifty_without (filter keeps s.plan) job (demanded t job) (sound.jobs job nothing_submitted known).well_made.sound
-            (λ k d lt. each_at (λ (g : Grant). g.job ≡ job → ⊥) (filter keeps s.plan) k d lt none)
+            (λ k d lt. Each-get (λ (g : Grant). g.job ≡ job → ⊥) (filter keeps s.plan) k d none lt)
 
   pub still_thrifty : AreThrifty i (still_pending i s.plan)
   still_thrifty k d lt =

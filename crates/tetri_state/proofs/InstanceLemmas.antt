@@ -6,6 +6,9 @@ use Rattle.std.proofs.lemmas.List.Elements.{All-map}
 use Rattle.std.proofs.lemmas.List.FromFn.{get_or-map-range_with_len, length-map-range_with_len}
 use Rattle.std.proofs.lemmas.List.Folds.{list_any_at}
 use Rattle.std.proofs.lemmas.Bool.Decides.{nat_tests}
+use Rattle.tetri_base.specs.Lists.{Ascends, Each, has}
+use Rattle.tetri_base.proofs.ListLaws.{Each-get, Each-map}
+use Rattle.tetri_state.proofs.Ascending.{all_each}
 use Rattle.tetri_strl.specs.declared.expr.Leaf.{Leaf}
 use Rattle.tetri_strl.specs.Tree.{leaves}
 use Rattle.tetri_space.specs.Free.{IsFree}
@@ -14,22 +17,16 @@ use Rattle.tetri_space.specs.Sound.{HasKnownSet, IsSoundBid, IsSound as IsSoundS
 use Rattle.tetri_trace.specs.Scenario.{Scenario}
 use Rattle.tetri_trace.specs.Sound.{IsSound, IsSoundSubmission}
 use Rattle.tetri_state.specs.declared.pieces.Piece.{Piece}
-use Rattle.tetri_base.specs.Lists.{has}
 use Rattle.tetri_state.specs.Planning.{IsNumbered, bid_of, busy_until, expected_or, instance_of}
 use Rattle.tetri_state.specs.Snapshot.{Snapshot, demanded, nothing_submitted, submission_of}
 use Rattle.tetri_state.proofs.ArrivalLemmas.{ArrivedBefore}
-use Rattle.tetri_state.proofs.Ascending.{Ascend}
 use Rattle.tetri_state.proofs.StandLemmas.{IsWithin, Stands}
-use Rattle.tetri_state.proofs.ToldLemmas.{Each, each_at, each_weaker}
-
-all_each : {X : Type 0} (P : X → Type 0) (xs : List X) → Each P xs → All P xs
-all_each P xs each = λ k d lt. each_at P xs k d lt each
 
 -- numbers that ascend within a range are no more than it has
-ascend_length : (ns : List ℕ) (low high : ℕ) → low ≤ high → Ascend ns → Each (λ n. low ≤ n) ns → Each (λ n. n < high) ns → length ns + low ≤ high
+ascend_length : (ns : List ℕ) (low high : ℕ) → low ≤ high → Ascends ns → Each (λ n. low ≤ n) ns → Each (λ n. n < high) ns → length ns + low ≤ high
 ascend_length [] low high le up above below = omega arith
 ascend_length (n ∷ ns) low high le up above below =
-    let rest = ascend_length ns (n + 1) high (omega (arith, below.0)) up.1 (each_weaker (λ m. n < m) (λ m. n + 1 ≤ m) (λ m lt. omega arith) ns up.0) below.1 in
+    let rest = ascend_length ns (n + 1) high (omega (arith, below.0)) up.1 (Each-map (λ m. n < m) (λ m. n + 1 ≤ m) (λ m lt. omega arith) ns up.0) below.1 in
     omega (arith, rest, above.0)
 
 any_low : (ns : List ℕ) → Each (λ n. 0 ≤ n) ns
@@ -44,12 +41,12 @@ expected_within now (p ∷ ps) node early within = by_test (has p.nodes node) (e
     by_test true rest = within.0
     by_test false rest = rest
 
-bids_ascend : (t : Scenario) (ns : List ℕ) → Ascend ns → AllPairs (λ (a b : Bid). a.job < b.job) (map (bid_of t) ns)
+bids_ascend : (t : Scenario) (ns : List ℕ) → Ascends ns → AllPairs (λ (a b : Bid). a.job < b.job) (map (bid_of t) ns)
 bids_ascend t [] up i j d before within = absurd (omega arith)
 bids_ascend t (n ∷ ns) up i zero d before within = absurd (omega arith)
 bids_ascend t (n ∷ ns) up zero (suc j) d before within =
     let lt : j < length ns = omega (arith, length-map ns (bid_of t)) in
-    subst (λ (b : Bid). n < b.job) (sym (get_or-map (bid_of t) ns j 0 d lt)) (each_at (λ m. n < m) ns j 0 lt up.0)
+    subst (λ (b : Bid). n < b.job) (sym (get_or-map (bid_of t) ns j 0 d lt)) (Each-get (λ m. n < m) ns j 0 up.0 lt)
 bids_ascend t (n ∷ ns) up (suc i) (suc j) d before within = bids_ascend t ns up.1 i j d (omega arith) (omega arith)
 
 module _ (t : Scenario) (s : Snapshot) (sound : IsSound t) (stands : Stands t (s.now + 1) s) (early : s.now < 10000) where
@@ -62,7 +59,7 @@ module _ (t : Scenario) (s : Snapshot) (sound : IsSound t) (stands : Stands t (s
 
   pub pending_good : Each IsGood s.pending
   pending_good =
-      each_weaker (ArrivedBefore t (s.now + 1)) IsGood (λ job known. sound.jobs job nothing_submitted known.0) s.pending stands.arrived
+      Each-map (ArrivedBefore t (s.now + 1)) IsGood (λ job known. sound.jobs job nothing_submitted known.0) s.pending stands.arrived
 
   sets_known : (l : Leaf) → l.set < length t.sets → HasKnownSet i l
   sets_known l known = record { known = known; there = sound.known_nodes l.set [] known }
@@ -85,33 +82,34 @@ module _ (t : Scenario) (s : Snapshot) (sound : IsSound t) (stands : Stands t (s
     busy_within = λ k d lt.
         let within : k < length t.nodes = omega (arith, length-map-range_with_len (busy_until s.now s.pieces) 0 (length t.nodes)) in
         subst (λ n. n ≤ 30000) (sym (get_or-map-range_with_len (busy_until s.now s.pieces) 0 (length t.nodes) k k d within (omega arith)))
-        (expected_within s.now s.pieces k (omega arith) (each_weaker (IsWithin t) (λ p. p.expected ≤ 30000) (λ p known. known.expected) s.pieces stands.pieces));
+        (expected_within s.now s.pieces k (omega arith) (Each-map (IsWithin t) (λ p. p.expected ≤ 30000) (λ p known. known.expected) s.pieces stands.pieces));
+    sound_closures = sound.closures;
     few_jobs =
         omega (
           arith,
           length-map s.pending (bid_of t),
           sound.few_jobs,
           ascend_length s.pending 0 (length t.submissions) (omega arith) stands.ascending (any_low s.pending)
-              (each_weaker (ArrivedBefore t (s.now + 1)) (λ n. n < length t.submissions) (λ n known. known.0) s.pending stands.arrived),
+              (Each-map (ArrivedBefore t (s.now + 1)) (λ n. n < length t.submissions) (λ n known. known.0) s.pending stands.arrived),
         );
     ascending = bids_ascend t s.pending stands.ascending;
-    sound_bids = All-map (IsSoundBid i) (bid_of t) s.pending (all_each (λ job. IsSoundBid i (bid_of t job)) s.pending (each_weaker IsGood (λ job. IsSoundBid i (bid_of t job)) good_bid s.pending pending_good));
+    sound_bids = All-map (IsSoundBid i) (bid_of t) s.pending (all_each (λ job. IsSoundBid i (bid_of t job)) s.pending (Each-map IsGood (λ job. IsSoundBid i (bid_of t job)) good_bid s.pending pending_good));
   }
 
   pub instance_numbered : All IsNumbered i.bids
   instance_numbered =
       All-map IsNumbered (bid_of t) s.pending
-      (all_each (λ job. IsNumbered (bid_of t job)) s.pending (each_weaker IsGood (λ job. IsNumbered (bid_of t job)) (λ job good. good.numbered) s.pending pending_good))
+      (all_each (λ job. IsNumbered (bid_of t job)) s.pending (Each-map IsGood (λ job. IsNumbered (bid_of t job)) (λ job good. good.numbered) s.pending pending_good))
 
   pub jobs_known : All (λ j. j < length t.submissions) s.pending
   jobs_known =
       all_each (λ j. j < length t.submissions) s.pending
-      (each_weaker (ArrivedBefore t (s.now + 1)) (λ n. n < length t.submissions) (λ n known. known.0) s.pending stands.arrived)
+      (Each-map (ArrivedBefore t (s.now + 1)) (λ n. n < length t.submissions) (λ n known. known.0) s.pending stands.arrived)
 
   pub nodes_there : All (λ p. All (λ n. n < length t.nodes) p.nodes) s.pieces
   nodes_there =
       all_each (λ p. All (λ n. n < length t.nodes) p.nodes) s.pieces
-      (each_weaker (IsWithin t) (λ p. All (λ n. n < length t.nodes) p.nodes) (λ p known. known.nodes) s.pieces stands.pieces)
+      (Each-map (IsWithin t) (λ p. All (λ n. n < length t.nodes) p.nodes) (λ p known. known.nodes) s.pieces stands.pieces)
 
 has_it : (ns : List ℕ) (n : ℕ) → Contains ns n → has ns n ≡ true
 has_it ns n at = list_any_at (λ m. m == n) ns at.0 n at.1 (same _ at.2)

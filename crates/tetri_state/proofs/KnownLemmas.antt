@@ -1,12 +1,11 @@
 -- Jobs that run, wait or are told of are the trace's.
-use Rattle.std.proofs.Common.{◌≡◌, ℕ, ◌+◌, ◌<◌, List, [], ◌∷◌, ◌++◌, length, map, cond, Bool, true, false, All, not, set, refl, sym, ap, subst, arith}
-use Rattle.std.specs.Prelude.{Option, Some, None, filter, option_map, ◌||◌, ◌==◌}
-use Rattle.std.specs.List.{filter_map, cons_option}
-use Rattle.std.proofs.lemmas.List.Elements.{All-contains, All-head, All-tail}
-use Rattle.tetri_strl.specs.declared.expr.Leaf.{Leaf}
-use Rattle.tetri_strl.specs.declared.grants.Grant.{Grant}
-use Rattle.tetri_space.specs.Space.{Bid, Space, leaf_in}
-use Rattle.tetri_space.proofs.LeafLemmas.{leaf_in-within}
+use Rattle.std.proofs.Common.{◌≡◌, ℕ, ◌+◌, ◌<◌, List, [], ◌∷◌, ◌++◌, length, map, cond, Bool, true, false, All, not, set, refl}
+use Rattle.std.specs.Prelude.{Option, Some, None, filter, ◌||◌, ◌==◌}
+use Rattle.tetri_base.specs.Lists.{Each, has}
+use Rattle.tetri_base.proofs.ListLaws.{Each-append, Each-filter, Each-map}
+use Rattle.tetri_base.proofs.OrderLaws.{Each-in_order}
+use Rattle.tetri_state.proofs.Ascending.{all_each, each_from}
+use Rattle.tetri_space.specs.Space.{Bid}
 use Rattle.tetri_trace.specs.declared.trace.Event.{Event}
 use Rattle.tetri_trace.specs.declared.trace.Happening.{Happening}
 use Rattle.tetri_trace.specs.declared.trace.Happening.TheVariants.{Arrive, Cancel, Drain, Undrain, Fail}
@@ -14,28 +13,16 @@ use Rattle.tetri_trace.specs.Scenario.{Scenario}
 use Rattle.tetri_trace.specs.Sound.{IsSound, NamesKnown}
 use Rattle.tetri_state.specs.declared.happened.PieceId.{PieceId}
 use Rattle.tetri_state.specs.declared.pieces.Piece.{Piece}
-use Rattle.tetri_state.specs.After.{after, new_pieces, piece_of}
-use Rattle.tetri_base.specs.Lists.{has}
-use Rattle.tetri_state.specs.Begin.{Turn, begin, but_of, cancel, comes_before, ending, events_at, fail, fail_on, happen, happen_all, has_ended, has_expired, holder_in, in_order, is_over, named, occurring, put, put_number, running_on, runs, staying, told, turn, unturned, without}
+use Rattle.tetri_state.specs.Begin.{Turn, but_of, cancel, comes_before, ending, events_at, fail, fail_on, happen, happen_all, has_ended, has_expired, holder_in, is_over, named, occurring, put_number, running_on, runs, staying, told, turn, unturned, without}
 use Rattle.tetri_state.specs.Known.{AreOfJobs}
-use Rattle.tetri_state.specs.Launch.{starts_now}
 use Rattle.tetri_state.specs.Planning.{bid_of, instance_of}
-use Rattle.tetri_state.specs.Reached.{ArePlans, IsReached, between, begun, state_after}
+use Rattle.tetri_state.specs.Reached.{IsReached, between, begun}
 use Rattle.tetri_state.specs.Snapshot.{Snapshot}
 use Rattle.tetri_state.proofs.ArrivalLemmas.{ArrivedBefore}
-use Rattle.tetri_state.proofs.Ascending.{each_filtered, each_parts}
 use Rattle.tetri_state.proofs.PieceLemmas.{each_mapped}
 use Rattle.tetri_state.proofs.ReachedLemmas.{stands_begun, stands_between}
 use Rattle.tetri_state.proofs.SoundLemmas.{held_of}
 use Rattle.tetri_state.proofs.StandLemmas.{Stands, turn_arrived}
-use Rattle.tetri_state.proofs.ToldLemmas.{Each, each_at, each_weaker}
-
-all_of : {X : Type 0} (P : X → Type 0) (xs : List X) → Each P xs → All P xs
-all_of P xs each = λ k d lt. each_at P xs k d lt each
-
-each_from : {X : Type 0} (P : X → Type 0) (xs : List X) → All P xs → Each P xs
-each_from P [] all = tt
-each_from P (x ∷ xs) all = (All-head P x xs all, each_from P xs (All-tail P x xs all))
 
 module _ (t : Scenario) where
   abbrev IsJob : ℕ → Type 0
@@ -47,32 +34,20 @@ module _ (t : Scenario) where
   abbrev IsToldOfJob : PieceId → Type 0
   IsToldOfJob a = a.job < length t.submissions
 
-  put_known : (a : PieceId) (bs : List PieceId) → IsToldOfJob a → Each IsToldOfJob bs → Each IsToldOfJob (put a bs)
-  put_known a [] here each = (here, tt)
-  put_known a (b ∷ bs) here each = by_test (comes_before b a) (put_known a bs here each.1)
-    where
-      by_test : (x : Bool) → Each IsToldOfJob (put a bs) → Each IsToldOfJob (cond x (b ∷ put a bs) (a ∷ b ∷ bs))
-      by_test true rest = (each.0, rest)
-      by_test false rest = (here, each)
-
-  in_order_known : (ids : List PieceId) → Each IsToldOfJob ids → Each IsToldOfJob (in_order ids)
-  in_order_known [] each = tt
-  in_order_known (a ∷ ids) each = put_known a (in_order ids) each.0 (in_order_known ids each.1)
-
   told_known : (ps : List Piece) → Each IsOfJob ps → Each IsToldOfJob (told ps)
-  told_known ps each = in_order_known (map named ps) (each_mapped IsOfJob IsToldOfJob named (λ p h. h) ps each)
+  told_known ps each = Each-in_order comes_before IsToldOfJob (map named ps) (each_mapped IsOfJob IsToldOfJob named (λ p h. h) ps each)
 
   running_known : (s : Snapshot) → Each IsOfJob s.pieces → Each IsOfJob (running_on s)
-  running_known s each = each_filtered IsOfJob (λ p. not (has_ended s.now p)) s.pieces each
+  running_known s each = Each-filter IsOfJob (λ p. not (has_ended s.now p)) s.pieces each
 
   staying_known : (s : Snapshot) → Each IsOfJob s.pieces → Each IsOfJob (staying t s)
-  staying_known s each = each_filtered IsOfJob (λ p. runs (turn t s).running p.job) (running_on s) (running_known s each)
+  staying_known s each = Each-filter IsOfJob (λ p. runs (turn t s).running p.job) (running_on s) (running_known s each)
 
   bids_known : (s : Snapshot) → Each IsJob s.pending → All (λ b. b.job < length t.submissions) (instance_of t s).bids
-  bids_known s each = all_of (λ (b : Bid). b.job < length t.submissions) (map (bid_of t) s.pending) (each_mapped IsJob (λ (b : Bid). b.job < length t.submissions) (bid_of t) (λ j h. h) s.pending each)
+  bids_known s each = all_each (λ (b : Bid). b.job < length t.submissions) (map (bid_of t) s.pending) (each_mapped IsJob (λ (b : Bid). b.job < length t.submissions) (bid_of t) (λ j h. h) s.pending each)
 
   pending_known : (slot : ℕ) (s : Snapshot) → Stands t slot s → Each IsJob s.pending
-  pending_known slot s stands = each_weaker (ArrivedBefore t slot) IsJob (λ j h. h.0) s.pending stands.arrived
+  pending_known slot s stands = Each-map (ArrivedBefore t slot) IsJob (λ j h. h.0) s.pending stands.arrived
 
   -- once the slot has begun
   module _ (sound : IsSound t) where
@@ -88,14 +63,14 @@ module _ (t : Scenario) where
     cancel_known job v here known = by_test (has v.pending job || runs v.running job)
       where
         by_test : (x : Bool) → TurnIsKnown (cond x (record v { pending = without job v.pending; running = but_of job v.running; cancelled = v.cancelled ++ job ∷ [] }) v)
-        by_test true = record { cancelled = each_parts IsJob v.cancelled (job ∷ []) known.cancelled (here, tt); failed = known.failed }
+        by_test true = record { cancelled = Each-append IsJob v.cancelled (job ∷ []) known.cancelled (here, tt); failed = known.failed }
         by_test false = known
 
     fail_known : (job : ℕ) (v : Turn) → IsJob job → TurnIsKnown v → TurnIsKnown (fail job v)
     fail_known job v here known = by_test (runs v.running job)
       where
         by_test : (x : Bool) → TurnIsKnown (cond x (record v { pending = put_number job v.pending; running = but_of job v.running; failed = v.failed ++ job ∷ [] }) v)
-        by_test true = record { cancelled = known.cancelled; failed = each_parts IsJob v.failed (job ∷ []) known.failed (here, tt) }
+        by_test true = record { cancelled = known.cancelled; failed = Each-append IsJob v.failed (job ∷ []) known.failed (here, tt) }
         by_test false = known
 
     fail_on_known : (o : Option ℕ) (v : Turn) → ((job : ℕ) → o ≡ Some job → IsJob job) → TurnIsKnown v → TurnIsKnown (fail_on o v)
@@ -118,14 +93,14 @@ module _ (t : Scenario) where
     pub occurring_known : (s : Snapshot) → IsReached t between s → AreOfJobs t (occurring t s)
     occurring_known s reached =
         let stands = stands_between t s sound reached in
-        let pieces : Each IsOfJob s.pieces = each_weaker (λ (p : Piece). ArrivedBefore t s.now p.job) IsOfJob (λ p h. h.0) s.pieces stands.ran in
-        let names : Each (λ e. NamesKnown t e.what) (events_at t s.now) = each_filtered (λ (e : Event). NamesKnown t e.what) (λ e. e.at == s.now) t.events (each_from (λ (e : Event). NamesKnown t e.what) t.events sound.known) in
+        let pieces : Each IsOfJob s.pieces = Each-map (λ (p : Piece). ArrivedBefore t s.now p.job) IsOfJob (λ p h. h.0) s.pieces stands.ran in
+        let names : Each (λ e. NamesKnown t e.what) (events_at t s.now) = Each-filter (λ (e : Event). NamesKnown t e.what) (λ e. e.at == s.now) t.events (each_from (λ (e : Event). NamesKnown t e.what) t.events sound.known) in
         let turned = happen_all_known (holder_in (running_on s)) (held_of IsJob (running_on s) (running_known s pieces)) (events_at t s.now) (unturned s) names (record { cancelled = tt; failed = tt }) in
-        let pending = each_weaker (ArrivedBefore t (s.now + 1)) IsJob (λ j h. h.0) (turn t s).pending (turn_arrived t s sound stands) in
+        let pending = Each-map (ArrivedBefore t (s.now + 1)) IsJob (λ j h. h.0) (turn t s).pending (turn_arrived t s sound stands) in
         record {
-          ended = all_of IsToldOfJob (told (ending s)) (told_known (ending s) (each_filtered IsOfJob (has_ended s.now) s.pieces pieces));
-          cancelled = all_of IsJob (turn t s).cancelled turned.cancelled;
-          failed = all_of IsJob (turn t s).failed turned.failed;
-          over = all_of IsToldOfJob (told (filter (is_over s.now) (staying t s))) (told_known (filter (is_over s.now) (staying t s)) (each_filtered IsOfJob (is_over s.now) (staying t s) (staying_known s pieces)));
-          expired = all_of IsJob (filter (has_expired t s.now) (turn t s).pending) (each_filtered IsJob (has_expired t s.now) (turn t s).pending pending);
+          ended = all_each IsToldOfJob (told (ending s)) (told_known (ending s) (Each-filter IsOfJob (has_ended s.now) s.pieces pieces));
+          cancelled = all_each IsJob (turn t s).cancelled turned.cancelled;
+          failed = all_each IsJob (turn t s).failed turned.failed;
+          over = all_each IsToldOfJob (told (filter (is_over s.now) (staying t s))) (told_known (filter (is_over s.now) (staying t s)) (Each-filter IsOfJob (is_over s.now) (staying t s) (staying_known s pieces)));
+          expired = all_each IsJob (filter (has_expired t s.now) (turn t s).pending) (Each-filter IsJob (has_expired t s.now) (turn t s).pending pending);
         }

@@ -1,11 +1,13 @@
 -- What a plan launches.
-use Rattle.std.proofs.Common.{◌≡◌, ℕ, ◌+◌, ◌<◌, ◌==◌, ◌&&◌, ◌||◌, Bool, true, false, cond, List, [], ◌∷◌, length, get_or, map, filter, not, All, AllPairs, Contains, Option, Some, None, refl, sym, ap, ◌∙◌, subst, arith, zero, suc}
+use Rattle.std.proofs.Common.{◌≡◌, ℕ, ◌+◌, ◌<◌, ◌==◌, ◌&&◌, ◌||◌, Bool, true, false, cond, List, [], ◌∷◌, length, get_or, map, filter, not, All, Contains, Option, Some, None, refl, sym, ap, ◌∙◌, subst, arith, zero, suc}
 use Rattle.std.specs.List.{cons_option, filter_map, find, list_any, position_from}
 use Rattle.std.specs.Option.{IsSomeAnd, option_and_then, option_map}
 use Rattle.std.proofs.lemmas.Bool.Decides.{nat_tests}
 use Rattle.std.proofs.lemmas.List.{length-map, get_or-map}
 use Rattle.std.proofs.lemmas.List.Elements.{All-contains, All-contains_itself, All-head, All-tail, Contains-get_or}
 use Rattle.std.proofs.lemmas.List.Folds.{Any-from_list_any, list_any_at}
+use Rattle.tetri_base.specs.Lists.{Each, EachPair, has}
+use Rattle.tetri_base.proofs.ListLaws.{Each-append, Each-filter, Each-map, EachPair-append, EachPair-from, filter-ascends}
 use Rattle.tetri_strl.specs.declared.expr.Leaf.{Leaf}
 use Rattle.tetri_strl.specs.declared.grants.Grant.{Grant}
 use Rattle.tetri_strl.specs.Thrifty.{IsThriftyFor, held_leaves}
@@ -25,35 +27,21 @@ use Rattle.tetri_trace.specs.Scenario.{Scenario}
 use Rattle.tetri_trace.specs.Sound.{IsSound}
 use Rattle.tetri_state.specs.declared.pieces.Piece.{Piece}
 use Rattle.tetri_state.specs.After.{after, new_pieces, piece_of}
-use Rattle.tetri_base.specs.Lists.{has}
 use Rattle.tetri_state.specs.Launch.{start_of, start_or_0, starts_now}
 use Rattle.tetri_state.specs.Pieces.{ShareNoNode}
 use Rattle.tetri_state.specs.Planning.{bid_of, instance_of}
 use Rattle.tetri_state.specs.Reached.{IsPlan}
 use Rattle.tetri_state.specs.Snapshot.{Snapshot, demanded, nothing_submitted}
 use Rattle.tetri_state.proofs.ArrivalLemmas.{ArrivedBefore}
-use Rattle.tetri_state.proofs.Ascending.{ascend_filter, each_filtered, each_from, each_parts, each_passing}
+use Rattle.tetri_state.proofs.Ascending.{each_from, each_passing}
 use Rattle.tetri_state.proofs.InstanceLemmas.{instance_sound, not_free}
-use Rattle.tetri_state.proofs.PieceLemmas.{NoneShare, share_append}
+use Rattle.tetri_state.proofs.PieceLemmas.{NoneShare}
 use Rattle.tetri_state.proofs.StandLemmas.{IsWithin, NamesLeaf, Stands}
-use Rattle.tetri_state.proofs.ToldLemmas.{Each, each_weaker}
-
--- a fact of each two elements
-abbrev PairsOf : {X : Type 0} → (X → X → Type 0) → List X → Type 0
-PairsOf R [] = Unit {0}
-PairsOf R (x ∷ xs) = Each (R x) xs × PairsOf R xs
-
-pairs_from : {X : Type 0} (R : X → X → Type 0) (xs : List X) → AllPairs R xs → PairsOf R xs
-pairs_from R [] pairs = tt
-pairs_from R (x ∷ xs) pairs = (
-  each_from (R x) xs (λ k d lt. pairs 0 (suc k) d (omega arith) (omega arith)),
-  pairs_from R xs (λ i j d before lt. pairs (suc i) (suc j) d (omega arith) (omega arith)),
-)
 
 -- of the elements that pass a test
 module _ {X : Type 0} (test : X → Bool) where
   pairs_passing : (P : X → Type 0) (R Q : X → X → Type 0) → ((x y : X) → P x → P y → R x y → test x ≡ true → test y ≡ true → Q x y) →
-      (xs : List X) → Each P xs → PairsOf R xs → PairsOf Q (filter test xs)
+      (xs : List X) → Each P xs → EachPair R xs → EachPair Q (filter test xs)
   pairs_passing P R Q step [] each pairs = tt
   pairs_passing P R Q step (x ∷ xs) each pairs = by_test (test x) refl (pairs_passing P R Q step xs each.1 pairs.1)
     where
@@ -61,7 +49,7 @@ module _ {X : Type 0} (test : X → Bool) where
       both [] p r = tt
       both (y ∷ ys) p r = ((p.0, r.0), both ys p.1 r.1)
 
-      by_test : (b : Bool) → test x ≡ b → PairsOf Q (filter test xs) → PairsOf Q (cond b (x ∷ filter test xs) (filter test xs))
+      by_test : (b : Bool) → test x ≡ b → EachPair Q (filter test xs) → EachPair Q (cond b (x ∷ filter test xs) (filter test xs))
       by_test true passes rest =
           (each_passing test (λ y. P y × R x y) (Q x) (λ y known goes. step x y each.0 known.0 known.1 passes goes) xs (both xs each.1 pairs.0), rest)
       by_test false fails rest = rest
@@ -79,7 +67,7 @@ module _ {X Y : Type 0} (f : X → Option Y) where
 abbrev made : Scenario → Space → Grant → Option Piece
 made t i g = option_map (piece_of t g) (leaf_in i.bids g.job g.leaf)
 
-share_given : (t : Scenario) (i : Space) (gs : List Grant) → PairsOf (λ g h. (p q : Piece) → made t i g ≡ Some p → made t i h ≡ Some q → ShareNoNode p q) gs →
+share_given : (t : Scenario) (i : Space) (gs : List Grant) → EachPair (λ g h. (p q : Piece) → made t i g ≡ Some p → made t i h ≡ Some q → ShareNoNode p q) gs →
     NoneShare (filter_map (made t i) gs)
 share_given t i [] pairs = tt
 share_given t i (g ∷ gs) pairs = by_value (made t i g) refl (share_given t i gs pairs.1)
@@ -88,7 +76,7 @@ share_given t i (g ∷ gs) pairs = by_value (made t i g) refl (share_given t i g
     by_value None is rest = rest
     by_value (Some p) is rest = (
       each_given (made t i) (ShareNoNode p) gs
-          (each_weaker (λ h. (p q : Piece) → made t i g ≡ Some p → made t i h ≡ Some q → ShareNoNode p q) (λ h. (q : Piece) → made t i h ≡ Some q → ShareNoNode p q)
+          (Each-map (λ h. (p q : Piece) → made t i g ≡ Some p → made t i h ≡ Some q → ShareNoNode p q) (λ h. (q : Piece) → made t i h ≡ Some q → ShareNoNode p q)
           (λ h apart q here. apart p q is here) gs pairs.0),
       rest,
     )
@@ -297,7 +285,7 @@ module _ (t : Scenario) (s : Snapshot) (sound : IsSound t) (stands : Stands t (s
   new_apart =
       share_given t i (filter goes a)
       (pairs_passing goes (Contains a) (AreApart i) (λ g h. (p q : Piece) → made t i g ≡ Some p → made t i h ≡ Some q → ShareNoNode p q) step a contained
-      (pairs_from (AreApart i) a plan.lawful.apart))
+      (EachPair-from (AreApart i) a plan.lawful.apart))
     where
       step : (g h : Grant) → Contains a g → Contains a h → AreApart i g h → goes g ≡ true → goes h ≡ true →
           (p q : Piece) → made t i g ≡ Some p → made t i h ≡ Some q → ShareNoNode p q
@@ -309,7 +297,7 @@ module _ (t : Scenario) (s : Snapshot) (sound : IsSound t) (stands : Stands t (s
 
   old_apart : Each (λ p. s.now < p.expected) s.pieces → Each (λ p. Each (ShareNoNode p) (new_pieces t i a)) s.pieces
   old_apart ahead =
-      each_weaker (Contains s.pieces) (λ p. Each (ShareNoNode p) (new_pieces t i a))
+      Each-map (Contains s.pieces) (λ p. Each (ShareNoNode p) (new_pieces t i a))
       (λ p running.
       each_given (made t i) (ShareNoNode p) (filter goes a)
       (each_passing goes (Contains a) (λ g. (q : Piece) → made t i g ≡ Some q → ShareNoNode p q)
@@ -337,13 +325,13 @@ module _ (t : Scenario) (s : Snapshot) (sound : IsSound t) (stands : Stands t (s
   -- after the cycle
   pub after_stands : Each (λ p. s.now < p.expected) s.pieces → Stands t (s.now + 1) (after t s a)
   after_stands ahead = record {
-    ascending = ascend_filter (λ j. not (starts_now i a j)) s.pending stands.ascending;
-    arrived = each_filtered (ArrivedBefore t (s.now + 1)) (λ j. not (starts_now i a j)) s.pending stands.arrived;
-    ran = each_parts (λ p. ArrivedBefore t (s.now + 1) p.job) s.pieces (new_pieces t i a) stands.ran new_ran;
+    ascending = filter-ascends (λ j. not (starts_now i a j)) s.pending stands.ascending;
+    arrived = Each-filter (ArrivedBefore t (s.now + 1)) (λ j. not (starts_now i a j)) s.pending stands.arrived;
+    ran = Each-append (λ p. ArrivedBefore t (s.now + 1) p.job) s.pieces (new_pieces t i a) stands.ran new_ran;
     drained = stands.drained;
-    pieces = each_parts (IsWithin t) s.pieces (new_pieces t i a) stands.pieces new_within;
-    apart = share_append s.pieces (new_pieces t i a) stands.apart new_apart (old_apart ahead);
-    planned = each_weaker (Contains a) (NamesLeaf t) grant_named a contained;
+    pieces = Each-append (IsWithin t) s.pieces (new_pieces t i a) stands.pieces new_within;
+    apart = EachPair-append ShareNoNode s.pieces (new_pieces t i a) stands.apart new_apart (old_apart ahead);
+    planned = Each-map (Contains a) (NamesLeaf t) grant_named a contained;
     thrifty = after_thrifty;
   }
 

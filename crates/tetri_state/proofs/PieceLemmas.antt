@@ -1,23 +1,14 @@
 -- No two pieces share a node.
-use Rattle.std.proofs.Common.{◌≡◌, ℕ, ◌+◌, ◌<◌, ◌≤◌, Bool, true, false, cond, List, [], ◌∷◌, ◌++◌, map, filter, AllPairs, Contains, refl, subst, arith, nat_le, suc, zero}
+use Rattle.std.proofs.Common.{◌≡◌, ℕ, ◌+◌, ◌<◌, ◌≤◌, Bool, true, false, cond, List, [], ◌∷◌, map, AllPairs, Contains, refl, subst, arith, nat_le, suc, zero}
 use Rattle.std.proofs.lemmas.Bool.Decides.{nat_tests}
+use Rattle.tetri_base.specs.Lists.{Each, EachPair}
+use Rattle.tetri_base.proofs.ListLaws.{Each-get}
 use Rattle.tetri_state.specs.declared.pieces.Piece.{Piece}
 use Rattle.tetri_state.specs.Begin.{is_over, prolonged}
 use Rattle.tetri_state.specs.Pieces.{ShareNoNode}
-use Rattle.tetri_state.proofs.Ascending.{each_filtered, each_parts}
-use Rattle.tetri_state.proofs.ToldLemmas.{Each, each_at}
 
 abbrev pub NoneShare : List Piece → Type 0
-NoneShare [] = Unit {0}
-NoneShare (p ∷ ps) = Each (ShareNoNode p) ps × NoneShare ps
-
-pub share_filter : (test : Piece → Bool) (ps : List Piece) → NoneShare ps → NoneShare (filter test ps)
-share_filter test [] apart = tt
-share_filter test (p ∷ ps) apart = by_test (test p) (share_filter test ps apart.1)
-  where
-    by_test : (b : Bool) → NoneShare (filter test ps) → NoneShare (cond b (p ∷ filter test ps) (filter test ps))
-    by_test true rest = (each_filtered (ShareNoNode p) test ps apart.0, rest)
-    by_test false rest = rest
+NoneShare ps = EachPair ShareNoNode ps
 
 -- the nodes stay
 pub prolonged-nodes : (now : ℕ) (p : Piece) → (prolonged now p).nodes ≡ p.nodes
@@ -62,21 +53,12 @@ pub share_prolonged : (now : ℕ) (ps : List Piece) → NoneShare ps → NoneSha
 share_prolonged now [] apart = tt
 share_prolonged now (p ∷ ps) apart = (apart_prolonged now p ps apart.0, share_prolonged now ps apart.1)
 
-pub share_append : (ps qs : List Piece) → NoneShare ps → NoneShare qs → Each (λ p. Each (ShareNoNode p) qs) ps → NoneShare (ps ++ qs)
-share_append [] qs front back between = back
-share_append (p ∷ ps) qs front back between =
-    (each_parts (ShareNoNode p) ps qs front.0 between.0, share_append ps qs front.1 back between.1)
-
 pub share_pairs : (ps : List Piece) → NoneShare ps → AllPairs ShareNoNode ps
 share_pairs [] apart i j d before within = absurd (omega arith)
 share_pairs (p ∷ ps) apart i zero d before within = absurd (omega arith)
-share_pairs (p ∷ ps) apart zero (suc j) d before within = each_at (ShareNoNode p) ps j d (omega arith) apart.0
+share_pairs (p ∷ ps) apart zero (suc j) d before within = Each-get (ShareNoNode p) ps j d apart.0 (omega arith)
 share_pairs (p ∷ ps) apart (suc i) (suc j) d before within = share_pairs ps apart.1 i j d (omega arith) (omega arith)
 
 pub each_mapped : {X Y : Type 0} (P : X → Type 0) (Q : Y → Type 0) (f : X → Y) → ((x : X) → P x → Q (f x)) → (xs : List X) → Each P xs → Each Q (map f xs)
 each_mapped P Q f step [] each = tt
 each_mapped P Q f step (x ∷ xs) each = (step x each.0, each_mapped P Q f step xs each.1)
-
-pub each_of : {X : Type 0} (P : X → Type 0) → ((x : X) → P x) → (xs : List X) → Each P xs
-each_of P all [] = tt
-each_of P all (x ∷ xs) = (all x, each_of P all xs)

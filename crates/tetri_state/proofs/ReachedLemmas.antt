@@ -2,6 +2,7 @@
 use Rattle.std.proofs.Common.{◌≡◌, ◌+◌, ◌<◌, List, [], ◌∷◌, length, refl, sym, ap, subst, arith, Result, Ok, Err, IfOk}
 use Rattle.std.proofs.lemmas.List.{length-replicate}
 use Rattle.std.proofs.lemmas.List.Elements.{All-nil}
+use Rattle.tetri_base.specs.Lists.{Each}
 use Rattle.tetri_strl.specs.declared.grants.Grant.{Grant}
 use Rattle.tetri_trace.specs.Scenario.{Scenario}
 use Rattle.tetri_trace.specs.Sound.{IsSound}
@@ -13,7 +14,6 @@ use Rattle.tetri_state.specs.Snapshot.{Snapshot, demanded, nothing_submitted, op
 use Rattle.tetri_state.proofs.LaunchLemmas.{after_stands, thrifty_without}
 use Rattle.tetri_state.proofs.PieceLemmas.{NoneShare}
 use Rattle.tetri_state.proofs.StandLemmas.{Stands, begin_ahead, begin_stands}
-use Rattle.tetri_state.proofs.ToldLemmas.{Each}
 
 opening_stands : (t : Scenario) → IsSound t → Stands t 0 (opening_state t)
 opening_stands t sound = record {

@@ -3,13 +3,15 @@ use Rattle.std.proofs.Common.{◌≡◌, ℕ, ◌+◌, ◌<◌, ◌==◌, ◌&&�
 use Rattle.std.specs.List.{cons_option, filter_map, list_any}
 use Rattle.std.proofs.lemmas.Bool.Decides.{nat_tests}
 use Rattle.std.proofs.lemmas.List.{get_or-map, length-map}
+use Rattle.tetri_base.specs.Lists.{Each, has}
+use Rattle.tetri_base.proofs.ListLaws.{Each-filter, Each-from, Each-get, Each-map, any_from, has-filter, test_from_eq}
 use Rattle.tetri_trace.specs.declared.trace.Job.{Job}
 use Rattle.tetri_trace.specs.declared.trace.Trace.{Trace}
 use Rattle.tetri_trace.specs.Scenario.{Scenario, scenario, submission}
 use Rattle.tetri_trace.specs.Sound.{IsSound, IsSoundSubmission}
 use Rattle.std.specs.Option.{option_map}
 use Rattle.std.proofs.lemmas.List.Elements.{All-contains_itself, Contains-get_or}
-use Rattle.std.proofs.lemmas.List.Folds.{list_any_at, list_any_none}
+use Rattle.std.proofs.lemmas.List.Folds.{list_any_at}
 use Rattle.tetri_strl.specs.declared.expr.Leaf.{Leaf}
 use Rattle.tetri_strl.specs.declared.grants.Grant.{Grant}
 use Rattle.tetri_space.specs.Lawful.{IsLawful, MayBeGranted}
@@ -17,18 +19,16 @@ use Rattle.tetri_space.specs.Space.{Bid, Space, leaf_in}
 use Rattle.tetri_space.proofs.LeafLemmas.{leaf_in-within}
 use Rattle.tetri_state.specs.declared.pieces.Piece.{Piece}
 use Rattle.tetri_state.specs.After.{after, new_pieces, piece_of}
-use Rattle.tetri_base.specs.Lists.{has}
 use Rattle.tetri_state.specs.Launch.{launched_in, start_of, start_or_0, starts_now}
 use Rattle.tetri_state.specs.Planning.{AreThrifty, bid_of, instance_of}
 use Rattle.tetri_state.specs.Reached.{IsPlan}
 use Rattle.tetri_state.specs.Readied.{IsLaunchOf, Readied, launched_from}
 use Rattle.tetri_state.specs.Snapshot.{Snapshot}
 use Rattle.tetri_state.proofs.ArrivalLemmas.{ArrivedBefore}
-use Rattle.tetri_state.proofs.Ascending.{each_filtered, each_from}
+use Rattle.tetri_state.proofs.Ascending.{each_from}
 use Rattle.tetri_state.proofs.BeginLemmas.{same_state}
 use Rattle.tetri_state.proofs.LaunchLemmas.{grant_leaf, starts_here}
 use Rattle.tetri_state.proofs.StandLemmas.{Stands}
-use Rattle.tetri_state.proofs.ToldLemmas.{Each, each_at, each_weaker}
 
 -- a job of one of the pieces
 pub any_job : (ps : List Piece) (job : ℕ) → has (map (λ (p : Piece). p.job) ps) job ≡ list_any (λ p. p.job == job) ps
@@ -67,31 +67,10 @@ module _ {X : Type 0} (p q : X → Bool) where
           kept (q x) (list_any q (filter p xs)) ∙ ap (λ b. q x && true || b) rest ∙ ap (λ b. q x && b || list_any (λ y. q y && p y) xs) (sym is)
       by_test false is rest = rest ∙ dropped (q x) (list_any (λ y. q y && p y) xs) ∙ ap (λ b. q x && b || list_any (λ y. q y && p y) xs) (sym is)
 
--- of those that pass a test
-has_filtered : (f : ℕ → Bool) (ns : List ℕ) (n : ℕ) → has (filter f ns) n ≡ list_any (λ m. m == n && f m) ns
-has_filtered f ns n = any_filtered f (λ m. m == n) ns
-
 each_itself : (f : ℕ → Bool) (ns : List ℕ) → Each (λ n. has (filter f ns) n ≡ f n) ns
-each_itself f ns = each_from (λ n. has (filter f ns) n ≡ f n) ns (λ k d lt. has_filtered f ns (get_or ns k d) ∙ among ns (get_or ns k d) (Contains-get_or ns k d lt))
-  where
-    test_true : (m n : ℕ) → m ≡ n → (m == n) ≡ true
-    test_true m n e = grind (arith, nat_tests)
-
-    same_or_false : (ms : List ℕ) (n : ℕ) → f n ≡ false → list_any (λ m. m == n && f m) ms ≡ false
-    same_or_false ms n fails = list_any_none (λ m. m == n && f m) ms (λ k d lt. by_test (get_or ms k d) (get_or ms k d == n) refl)
-      where
-        by_test : (m : ℕ) (b : Bool) → (m == n) ≡ b → (b && f m) ≡ false
-        by_test m true same = let at : m ≡ n = grind (arith, nat_tests) in ap f at ∙ fails
-        by_test m false differ = refl
-
-    among : (ms : List ℕ) (n : ℕ) → Contains ms n → list_any (λ m. m == n && f m) ms ≡ f n
-    among ms n at = by_value (f n) refl
-      where
-        by_value : (b : Bool) → f n ≡ b → list_any (λ m. m == n && f m) ms ≡ b
-        by_value true is =
-            let here : get_or ms at.0 n ≡ n = at.2 in
-            list_any_at (λ m. m == n && f m) ms at.0 n at.1 (ap (λ b. b && f (get_or ms at.0 n)) (test_true (get_or ms at.0 n) n here) ∙ ap f here ∙ is)
-        by_value false is = same_or_false ms n is
+each_itself f ns =
+    Each-from (λ n. has (filter f ns) n ≡ f n) ns
+    (λ n at. has-filter f ns n ∙ ap (λ b. b && f n) (any_from (λ m. m == n) ns n at (test_from_eq n n refl)))
 
 -- a part of a list is what it has of the list
 pub part_is : (f : ℕ → Bool) (ns : List ℕ) → filter f ns ≡ filter (has (filter f ns)) ns
@@ -100,7 +79,7 @@ part_is f ns = sym (filter_on (has (filter f ns)) f ns (each_itself f ns))
 pub rest_is : (f : ℕ → Bool) (ns : List ℕ) → filter (λ n. not (has (filter f ns) n)) ns ≡ filter (λ n. not (f n)) ns
 rest_is f ns =
     filter_on (λ n. not (has (filter f ns) n)) (λ n. not (f n)) ns
-    (each_weaker (λ n. has (filter f ns) n ≡ f n) (λ n. not (has (filter f ns) n) ≡ not (f n)) (λ n same. ap not same) ns (each_itself f ns))
+    (Each-map (λ n. has (filter f ns) n ≡ f n) (λ n. not (has (filter f ns) n) ≡ not (f n)) (λ n same. ap not same) ns (each_itself f ns))
 
 -- the launched jobs are the pending ones that have a grant which starts now
 pub launched_is : (t : Scenario) (s : Snapshot) (a : List Grant) → launched_in (instance_of t s) a ≡ filter (starts_now (instance_of t s) a) s.pending
@@ -185,7 +164,7 @@ module _ (t : Scenario) (s : Snapshot) (sound : IsSound t) (stands : Stands t (s
   pub pieces_tell : (job : ℕ) → list_any (λ p. p.job == job) (new_pieces t i a) ≡ starts_now i a job
   pieces_tell job =
       any_made job (filter (λ g. starts_now i a g.job) a)
-      (each_filtered (Contains a) (λ g. starts_now i a g.job) a (each_from (Contains a) a (All-contains_itself a)))
+      (Each-filter (Contains a) (λ g. starts_now i a g.job) a (each_from (Contains a) a (All-contains_itself a)))
       ∙ ap (list_any (λ (g : Grant). g.job == job)) (sym pieces_alike)
       ∙ any_filtered (λ g. start_of i g == i.now) (λ (g : Grant). g.job == job) a
 
@@ -198,7 +177,7 @@ module _ (t : Scenario) (s : Snapshot) (sound : IsSound t) (stands : Stands t (s
       let m : b.1.pending.0 < length s.pending = omega (arith, b.1.pending.1, length-map s.pending (bid_of t)) in
       let is : b.0 ≡ bid_of t (get_or s.pending b.1.pending.0 0) = sym b.1.pending.2 ∙ get_or-map (bid_of t) s.pending b.1.pending.0 0 b.0 m in
       let job : get_or s.pending b.1.pending.0 0 ≡ g.job = sym (ap (λ (c : Bid). c.job) is) ∙ b.1.of_job in
-      omega (arith, job, (each_at (ArrivedBefore t (s.now + 1)) s.pending b.1.pending.0 0 m stands.arrived).0)
+      omega (arith, job, (Each-get (ArrivedBefore t (s.now + 1)) s.pending b.1.pending.0 0 stands.arrived m).0)
 
 pub plan_of : (t : Scenario) (s : Snapshot) (a : List Grant) (i : Space) → i ≡ instance_of t s → IsLawful i a → AreThrifty i a → IsPlan t s a
 plan_of t s a i is lawful thrifty = record {

@@ -3,14 +3,15 @@ use Rattle.std.proofs.Common.{◌≡◌, ℕ, ◌+◌, ◌<◌, ◌==◌, ◌||�
 use Rattle.std.proofs.lemmas.Bool.Decides.{nat_tests}
 use Rattle.std.proofs.lemmas.List.Elements.{Contains-append_left, Contains-push}
 use Rattle.std.proofs.lemmas.List.Folds.{list_any_at}
+use Rattle.tetri_base.specs.Lists.{has}
+use Rattle.tetri_base.specs.Order.{in_order, put}
 use Rattle.tetri_trace.specs.declared.trace.Event.{Event}
 use Rattle.tetri_trace.specs.declared.trace.Happening.{Happening}
 use Rattle.tetri_trace.specs.declared.trace.Happening.TheVariants.{Arrive, Cancel, Drain, Undrain, Fail}
 use Rattle.tetri_trace.specs.Scenario.{Scenario}
 use Rattle.tetri_state.specs.declared.happened.PieceId.{PieceId}
 use Rattle.tetri_state.specs.declared.pieces.Piece.{Piece}
-use Rattle.tetri_base.specs.Lists.{has}
-use Rattle.tetri_state.specs.Begin.{Turn, but_of, cancel, comes_before, events_at, fail, fail_on, happen, happen_all, has_ended, holder_in, in_order, is_over, named, prolonged, put, put_number, running_on, runs, staying, told, turn, unturned, without}
+use Rattle.tetri_state.specs.Begin.{Turn, but_of, cancel, comes_before, events_at, fail, fail_on, happen, happen_all, has_ended, holder_in, is_over, named, prolonged, put_number, running_on, runs, staying, told, turn, unturned, without}
 use Rattle.tetri_state.specs.Pieces.{IsSameRun, RunsOnUnlessTold}
 use Rattle.tetri_state.specs.Snapshot.{Snapshot}
 
@@ -46,26 +47,27 @@ mapped f [] x at = absurd (omega (arith, at.1))
 mapped f (y ∷ ys) x at =
     head_or_tail (λ z. Contains (f y ∷ map f ys) (f z)) y ys x at (here (f y) (map f ys)) (λ later. there (f y) (map f ys) (f x) (mapped f ys x later))
 
-put_here : (a : PieceId) (bs : List PieceId) → Contains (put a bs) a
+put_here : (a : PieceId) (bs : List PieceId) → Contains (put comes_before a bs) a
 put_here a [] = here a []
 put_here a (b ∷ bs) = by_test (comes_before b a) (put_here a bs)
   where
-    by_test : (t : Bool) → Contains (put a bs) a → Contains (cond t (b ∷ put a bs) (a ∷ b ∷ bs)) a
-    by_test true rest = there b (put a bs) a rest
+    by_test : (t : Bool) → Contains (put comes_before a bs) a → Contains (cond t (b ∷ put comes_before a bs) (a ∷ b ∷ bs)) a
+    by_test true rest = there b (put comes_before a bs) a rest
     by_test false rest = here a (b ∷ bs)
 
-put_there : (a : PieceId) (bs : List PieceId) (x : PieceId) → Contains bs x → Contains (put a bs) x
+put_there : (a : PieceId) (bs : List PieceId) (x : PieceId) → Contains bs x → Contains (put comes_before a bs) x
 put_there a [] x at = absurd (omega (arith, at.1))
 put_there a (b ∷ bs) x at = by_test (comes_before b a) (put_there a bs x)
   where
-    by_test : (t : Bool) → (Contains bs x → Contains (put a bs) x) → Contains (cond t (b ∷ put a bs) (a ∷ b ∷ bs)) x
-    by_test true rest = head_or_tail (λ z. Contains (b ∷ put a bs) z) b bs x at (here b (put a bs)) (λ later. there b (put a bs) x (rest later))
+    by_test : (t : Bool) → (Contains bs x → Contains (put comes_before a bs) x) → Contains (cond t (b ∷ put comes_before a bs) (a ∷ b ∷ bs)) x
+    by_test true rest = head_or_tail (λ z. Contains (b ∷ put comes_before a bs) z) b bs x at (here b (put comes_before a bs)) (λ later. there b (put comes_before a bs) x (rest later))
     by_test false rest = there a (b ∷ bs) x at
 
-ordered : (ids : List PieceId) (x : PieceId) → Contains ids x → Contains (in_order ids) x
+ordered : (ids : List PieceId) (x : PieceId) → Contains ids x → Contains (in_order comes_before ids) x
 ordered [] x at = absurd (omega (arith, at.1))
 ordered (a ∷ ids) x at =
-    head_or_tail (λ z. Contains (put a (in_order ids)) z) a ids x at (put_here a (in_order ids)) (λ later. put_there a (in_order ids) x (ordered ids x later))
+    head_or_tail (λ z. Contains (put comes_before a (in_order comes_before ids)) z) a ids x at (put_here a (in_order comes_before ids))
+    (λ later. put_there a (in_order comes_before ids) x (ordered ids x later))
 
 -- what pieces are told by has each of them
 pub told_has : (ps : List Piece) (p : Piece) → Contains ps p → Contains (told ps) (named p)

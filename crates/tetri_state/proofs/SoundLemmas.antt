@@ -5,16 +5,16 @@ use Rattle.std.specs.List.Sorted.{IsNonDecreasingBy}
 use Rattle.std.specs.Option.{option_map}
 use Rattle.std.proofs.lemmas.Bool.{cases_lt}
 use Rattle.std.proofs.lemmas.List.Elements.{All-filter, All-weaker}
+use Rattle.tetri_base.specs.Lists.{Each, has}
+use Rattle.tetri_base.proofs.ListLaws.{Each-filter}
 use Rattle.tetri_trace.specs.declared.trace.Event.{Event}
 use Rattle.tetri_trace.specs.declared.trace.Happening.{Happening}
 use Rattle.tetri_trace.specs.declared.trace.Happening.TheVariants.{Arrive, Cancel, Drain, Undrain, Fail}
 use Rattle.tetri_trace.specs.Scenario.{Scenario}
 use Rattle.tetri_trace.specs.Sound.{IsSound, NamesKnown}
-use Rattle.tetri_base.specs.Lists.{has}
 use Rattle.tetri_state.specs.declared.pieces.Piece.{Piece}
 use Rattle.tetri_state.specs.Begin.{IsOfNodeBelow, Turn, but_of, cancel, events_at, fail, fail_on, happen, happen_all, holder_in, put_number, runs, without}
-use Rattle.tetri_state.proofs.Ascending.{each_filtered, put_each}
-use Rattle.tetri_state.proofs.ToldLemmas.{Each}
+use Rattle.tetri_state.proofs.Ascending.{put_each}
 
 of_node : (t : Scenario) (what : Happening) → NamesKnown t what → IsOfNodeBelow (length t.nodes) what
 of_node t (Arrive job) known = tt
@@ -56,7 +56,7 @@ module _ (P : ℕ → Type 0) (holder : ℕ → Option ℕ) (held : (node job : 
   cancel_pending job v each = by_test (has v.pending job || runs v.running job)
     where
       by_test : (b : Bool) → Each P (cond b (record v { pending = without job v.pending; running = but_of job v.running; cancelled = v.cancelled ++ job ∷ [] }) v).pending
-      by_test true = each_filtered P (λ m. not (m == job)) v.pending each
+      by_test true = Each-filter P (λ m. not (m == job)) v.pending each
       by_test false = each
 
   fail_pending : (job : ℕ) (v : Turn) → P job → Each P v.pending → Each P (fail job v).pending

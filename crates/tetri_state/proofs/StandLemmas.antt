@@ -2,6 +2,9 @@
 use Rattle.std.proofs.Common.{◌≡◌, ℕ, ◌+◌, ◌<◌, ◌≤◌, ◌==◌, Some, length, map, not, All, sym, subst, arith}
 use Rattle.std.specs.List.{find}
 use Rattle.std.specs.List.Sorted.{IsStrictlyIncreasing}
+use Rattle.tetri_base.specs.Lists.{Ascends, Each}
+use Rattle.tetri_base.proofs.ListLaws.{Each-all, Each-filter, Each-map, EachPair-filter, filter-ascends}
+use Rattle.tetri_state.specs.Pieces.{ShareNoNode}
 use Rattle.tetri_strl.specs.declared.expr.Leaf.{Leaf}
 use Rattle.tetri_strl.specs.declared.grants.Grant.{Grant}
 use Rattle.tetri_strl.specs.Tree.{leaves}
@@ -12,10 +15,10 @@ use Rattle.tetri_state.specs.declared.pieces.Piece.{Piece}
 use Rattle.tetri_state.specs.Begin.{begin, events_at, has_ended, has_expired, holder_in, named, occurring, prolonged, running_on, runs, staying, turn, unturned}
 use Rattle.tetri_state.specs.Snapshot.{Snapshot, demanded}
 use Rattle.tetri_state.proofs.ArrivalLemmas.{ArrivedBefore, arrivals_before, arrived_later}
-use Rattle.tetri_state.proofs.Ascending.{Ascend, ascend_filter, ascend_to, each_filtered}
-use Rattle.tetri_state.proofs.PieceLemmas.{NoneShare, each_mapped, each_of, prolonged-ahead, prolonged-job, prolonged-nodes, prolonged-within, share_filter, share_prolonged}
+use Rattle.tetri_state.proofs.Ascending.{ascend_to}
+use Rattle.tetri_state.proofs.PieceLemmas.{NoneShare, each_mapped, prolonged-ahead, prolonged-job, prolonged-nodes, prolonged-within, share_prolonged}
 use Rattle.tetri_state.proofs.SoundLemmas.{happen_all-pending, held_of}
-use Rattle.tetri_state.proofs.ToldLemmas.{Each, each_weaker, in_order-rises}
+use Rattle.tetri_state.proofs.ToldLemmas.{in_order-rises}
 use Rattle.tetri_state.proofs.TurnLemmas.{Keeps, happen_all_keeps}
 
 -- the piece runs on nodes that are there, and is expected to end in time
@@ -29,7 +32,7 @@ NamesLeaf t g = (l : Leaf) × (find (λ l. l.num == g.leaf) (leaves (demanded t 
 
 -- what holds of a state in which all jobs that arrived before this slot have been taken
 pub record Stands (t : Scenario) (slot : ℕ) (s : Snapshot) : Type 0 where
-  pub ascending : Ascend s.pending
+  pub ascending : Ascends s.pending
   pub arrived : Each (ArrivedBefore t slot) s.pending
   pub ran : Each (λ p. ArrivedBefore t slot p.job) s.pieces
   pub drained : length s.drained ≡ length t.nodes
@@ -46,27 +49,27 @@ module _ (t : Scenario) (s : Snapshot) (sound : IsSound t) (stands : Stands t s.
 
   ran_later : Each (λ p. ArrivedBefore t (s.now + 1) p.job) (running_on s)
   ran_later =
-      each_filtered (λ p. ArrivedBefore t (s.now + 1) p.job) (λ p. not (has_ended s.now p)) s.pieces
-      (each_weaker (λ (p : Piece). ArrivedBefore t s.now p.job) (λ p. ArrivedBefore t (s.now + 1) p.job) (λ p known. arrived_later t s.now p.job known) s.pieces stands.ran)
+      Each-filter (λ p. ArrivedBefore t (s.now + 1) p.job) (λ p. not (has_ended s.now p)) s.pieces
+      (Each-map (λ (p : Piece). ArrivedBefore t s.now p.job) (λ p. ArrivedBefore t (s.now + 1) p.job) (λ p known. arrived_later t s.now p.job known) s.pieces stands.ran)
 
   pub turn_arrived : Each (ArrivedBefore t (s.now + 1)) (turn t s).pending
   turn_arrived =
       happen_all-pending (ArrivedBefore t (s.now + 1)) (holder_in (running_on s)) (held_of (ArrivedBefore t (s.now + 1)) (running_on s) ran_later)
       (events_at t s.now) (unturned s) (arrivals_before t sound s.now)
-      (each_weaker (ArrivedBefore t s.now) (ArrivedBefore t (s.now + 1)) (arrived_later t s.now) s.pending stands.arrived)
+      (Each-map (ArrivedBefore t s.now) (ArrivedBefore t (s.now + 1)) (arrived_later t s.now) s.pending stands.arrived)
 
   pub expired_ascends : IsStrictlyIncreasing (occurring t s).expired
-  expired_ascends = ascend_to (occurring t s).expired (ascend_filter (has_expired t s.now) (turn t s).pending turn_keeps.pending)
+  expired_ascends = ascend_to (occurring t s).expired (filter-ascends (has_expired t s.now) (turn t s).pending turn_keeps.pending)
 
   -- once its slot has begun
   pub begin_stands : s.now < 10000 → Stands t (s.now + 1) (begin t s)
   begin_stands early = record {
-    ascending = ascend_filter (λ j. not (has_expired t s.now j)) (turn t s).pending turn_keeps.pending;
-    arrived = each_filtered (ArrivedBefore t (s.now + 1)) (λ j. not (has_expired t s.now j)) (turn t s).pending turn_arrived;
+    ascending = filter-ascends (λ j. not (has_expired t s.now j)) (turn t s).pending turn_keeps.pending;
+    arrived = Each-filter (ArrivedBefore t (s.now + 1)) (λ j. not (has_expired t s.now j)) (turn t s).pending turn_arrived;
     ran =
         each_mapped (λ p. ArrivedBefore t (s.now + 1) p.job) (λ p. ArrivedBefore t (s.now + 1) p.job) (prolonged s.now)
         (λ p known. subst (ArrivedBefore t (s.now + 1)) (sym (prolonged-job s.now p)) known) (staying t s)
-        (each_filtered (λ p. ArrivedBefore t (s.now + 1) p.job) (λ p. runs (turn t s).running p.job) (running_on s) ran_later);
+        (Each-filter (λ p. ArrivedBefore t (s.now + 1) p.job) (λ p. runs (turn t s).running p.job) (running_on s) ran_later);
     drained = turn_keeps.drained;
     pieces =
         each_mapped (IsWithin t) (IsWithin t) (prolonged s.now)
@@ -74,11 +77,11 @@ module _ (t : Scenario) (s : Snapshot) (sound : IsSound t) (stands : Stands t s.
           nodes = subst (All (λ n. n < length t.nodes)) (sym (prolonged-nodes s.now p)) within.nodes;
           expected = prolonged-within s.now p (omega arith) within.expected;
         }) (staying t s)
-        (each_filtered (IsWithin t) (λ p. runs (turn t s).running p.job) (running_on s)
-        (each_filtered (IsWithin t) (λ p. not (has_ended s.now p)) s.pieces stands.pieces));
+        (Each-filter (IsWithin t) (λ p. runs (turn t s).running p.job) (running_on s)
+        (Each-filter (IsWithin t) (λ p. not (has_ended s.now p)) s.pieces stands.pieces));
     apart =
         share_prolonged s.now (staying t s)
-        (share_filter (λ p. runs (turn t s).running p.job) (running_on s) (share_filter (λ p. not (has_ended s.now p)) s.pieces stands.apart));
+        (EachPair-filter ShareNoNode (λ p. runs (turn t s).running p.job) (running_on s) (EachPair-filter ShareNoNode (λ p. not (has_ended s.now p)) s.pieces stands.apart));
     planned = stands.planned;
     thrifty = stands.thrifty;
   }
@@ -86,4 +89,4 @@ module _ (t : Scenario) (s : Snapshot) (sound : IsSound t) (stands : Stands t s.
 -- each piece is expected to end later than now
 pub begin_ahead : (t : Scenario) (s : Snapshot) → Each (λ p. s.now < p.expected) (begin t s).pieces
 begin_ahead t s =
-    each_mapped (λ p. Unit {0}) (λ p. s.now < p.expected) (prolonged s.now) (λ p u. prolonged-ahead s.now p) (staying t s) (each_of (λ p. Unit {0}) (λ p. tt) (staying t s))
+    each_mapped (λ p. Unit {0}) (λ p. s.now < p.expected) (prolonged s.now) (λ p u. prolonged-ahead s.now p) (staying t s) (Each-all (λ p. Unit {0}) (λ p. tt) (staying t s))

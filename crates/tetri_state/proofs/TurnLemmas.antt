@@ -2,13 +2,14 @@
 use Rattle.std.proofs.Common.{◌≡◌, ℕ, ◌==◌, ◌||◌, Bool, true, false, cond, List, [], ◌∷◌, ◌++◌, Option, Some, None, length, refl, ap, ◌∙◌, not, set, length-set}
 use Rattle.std.specs.List.Sorted.{IsNonDecreasingBy}
 use Rattle.std.proofs.lemmas.List.Kept.{IsNonDecreasingBy-filter}
+use Rattle.tetri_base.specs.Lists.{Ascends, has}
+use Rattle.tetri_base.proofs.ListLaws.{filter-ascends}
 use Rattle.tetri_trace.specs.declared.trace.Event.{Event}
 use Rattle.tetri_trace.specs.declared.trace.Happening.{Happening}
 use Rattle.tetri_trace.specs.declared.trace.Happening.TheVariants.{Arrive, Cancel, Drain, Undrain, Fail}
 use Rattle.tetri_state.specs.declared.happened.PieceId.{PieceId}
-use Rattle.tetri_base.specs.Lists.{has}
 use Rattle.tetri_state.specs.Begin.{Turn, but_of, cancel, fail, fail_on, happen, happen_all, put_number, runs, without}
-use Rattle.tetri_state.proofs.Ascending.{Ascend, ascend_filter, put-ascend}
+use Rattle.tetri_state.proofs.Ascending.{put-ascend}
 
 -- a job that is neither pending nor runs
 pub cancel_passed : (job : ℕ) (v : Turn) → has v.pending job ≡ false → runs v.running job ≡ false → cancel job v ≡ v
@@ -47,7 +48,7 @@ fail_done job v runs_on = by_test (runs v.running job) runs_on
 
 -- what holds as events are taken
 pub record Keeps (nodes : ℕ) (v : Turn) : Type 0 where
-  pub pending : Ascend v.pending
+  pub pending : Ascends v.pending
   pub running : IsNonDecreasingBy (λ a. a.job) v.running
   pub drained : length v.drained ≡ nodes
 
@@ -57,7 +58,7 @@ module _ (nodes : ℕ) where
     where
       by_test : (t : Bool) → Keeps nodes (cond t (record v { pending = without job v.pending; running = but_of job v.running; cancelled = v.cancelled ++ job ∷ [] }) v)
       by_test true = record {
-        pending = ascend_filter (λ m. not (m == job)) v.pending keeps.pending;
+        pending = filter-ascends (λ m. not (m == job)) v.pending keeps.pending;
         running = IsNonDecreasingBy-filter (λ (a : PieceId). a.job) (λ a. not (a.job == job)) v.running keeps.running;
         drained = keeps.drained;
       }

@@ -2,6 +2,7 @@
 use Rattle.std.specs.Prelude.{ℕ, ◌+◌, ◌==◌, ◌&&◌, ◌||◌, Bool, true, false, not, nat_lt, nat_le, ◌<◌, if◌then◌else◌, List, [], ◌∷◌, ◌++◌, find, map, filter, slice_set, Option, Some, None, option_map}
 use Rattle.std.specs.List.{list_any}
 use Rattle.tetri_base.specs.Lists.{has}
+use Rattle.tetri_base.specs.Order.{in_order}
 use Rattle.tetri_strl.specs.Worth.{top_of}
 use Rattle.tetri_trace.specs.declared.trace.Event.{Event}
 use Rattle.tetri_trace.specs.declared.trace.Happening.{Happening}
@@ -27,21 +28,12 @@ runs ids job = list_any (λ a. a.job == job) ids
 abbrev pub comes_before : PieceId → PieceId → Bool
 comes_before a b = nat_lt a.job b.job || (a.job == b.job && nat_lt a.leaf b.leaf)
 
-abbrev pub put : PieceId → List PieceId → List PieceId
-put a [] = a ∷ []
-put a (b ∷ bs) = if comes_before b a then b ∷ put a bs else a ∷ b ∷ bs
-
--- by job and then leaf
-abbrev pub in_order : List PieceId → List PieceId
-in_order [] = []
-in_order (a ∷ rest) = put a (in_order rest)
-
 abbrev pub named : Piece → PieceId
 named p = record { job = p.job; leaf = p.leaf }
 
--- what pieces are told by, in order
+-- what pieces are told by, by job and then leaf
 abbrev pub told : List Piece → List PieceId
-told pieces = in_order (map named pieces)
+told pieces = in_order comes_before (map named pieces)
 
 -- First, pieces end.
 

@@ -38,6 +38,7 @@ instance_of t s = record {
   sets = t.sets;
   busy_until = map (busy_until s.now s.pieces) (range_with_len 0 (length t.nodes));
   drained = s.drained;
+  closures = t.closures;
   bids = map (bid_of t) s.pending;
 }
 

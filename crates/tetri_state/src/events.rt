@@ -67,7 +67,7 @@ impl Turn {
         ensures { OnOk result (self.new ≡ fail job self.old) }
     {
         if runs(&self.running, job) {
-            self.running.retain(|id| id.job != job);
+            self.running.retain(|piece| piece.job != job);
             put_number(&mut self.pending, job)?;
             self.failed.push(job)?;
         }

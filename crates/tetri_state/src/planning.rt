@@ -32,7 +32,8 @@ fn offers(alloc: Global, trace: &Trace, pending: &[u32]) -> Result<Vec<Offer>, A
 }
 
 impl State {
-    /// What the cycle plans for, once its slot has begun. The sets of nodes are the trace's. Its only error is want of memory.
+    /// What the cycle plans for, once its slot has begun. The sets of nodes and the closures are the trace's. Its only error
+    /// is want of memory.
     pub fn instance(&self, alloc: Global, trace: &Trace) -> Result<Instance, AllocError>
         requires sound { IsSound (scenario trace.now) }
         requires reached { IsReached (scenario trace.now) moment.begun self.now }
@@ -57,6 +58,7 @@ impl State {
             sets: Rc::clone(&trace.sets)?,
             busy_until: busy_row(alloc, nodes, self.now, &self.pieces)?,
             drained: Vec::from_slice(alloc, &self.drained)?,
+            closures: Rc::clone(&trace.closures)?,
             jobs: offers(alloc, trace, &self.pending)?,
         })
     }

@@ -1,7 +1,7 @@
 // A launch, made ready.
 ghost use Rattle.std.specs.Prelude.{◌≡◌, ◌<◌, ◌≤◌, ◌==◌, ℕ, ℤ, negsuc, pos, ◌≤ℤ◌, All, filter, length, map, not, option_map, IfOk};
 ghost use Rattle.std.specs.List.{filter_map, list_any};
-ghost use Rattle.std.specs.List.Sorted.{IsNonDecreasing};
+ghost use Rattle.std.specs.List.Sorted.{IsNonDecreasing, IsStrictlyIncreasing};
 ghost use Rattle.tetri_base.specs.Lists.{has};
 ghost use Rattle.tetri_space.specs.Sound.{IsSound as IsSoundSpace};
 ghost use Rattle.tetri_space.specs.Space.{leaf_in, space};
@@ -31,7 +31,7 @@ pub struct Prepared {
 
 impl Model for Prepared {
     ghost use Rattle.std.specs.Prelude.{◌≡◌, [], vec_capacity};
-    ghost use Rattle.std.specs.List.Sorted.{IsNonDecreasing};
+    ghost use Rattle.std.specs.List.Sorted.{IsStrictlyIncreasing};
     ghost use Rattle.tetri_state.specs.Readied.{Readied};
 
     ghost Value = { Readied };
@@ -43,13 +43,14 @@ impl Model for Prepared {
       room = vec_capacity p.room;
     } };
 
-    ghost invariant = { λ p. IsNonDecreasing p.jobs.items × (p.room.items ≡ []) };
+    ghost invariant = { λ p. IsStrictlyIncreasing p.jobs.items × (p.room.items ≡ []) };
 }
 
 impl Prepared {
     /// The jobs that are launched, ascending.
     pub fn launched(&self) -> &[u32]
-        ensures { result.now ≡ self.now.jobs }
+        ensures jobs { result.now ≡ self.now.jobs }
+        ensures ascending { IsStrictlyIncreasing result.now }
     {
         self.jobs.as_slice()
     }
@@ -137,10 +138,10 @@ pub fn is_among(jobs: &[u32], job: u32) -> bool
 
 // The jobs that are among the others.
 pub fn common_jobs(alloc: Global, jobs: &[u32], others: &[u32]) -> Result<Vec<u32>, AllocError>
-    requires rise { IsNonDecreasing jobs.now }
+    requires ascending { IsStrictlyIncreasing jobs.now }
     requires others_rise { IsNonDecreasing others.now }
     ensures common { IfOk result (λ v. v.items ≡ filter (has others.now) jobs.now) }
-    ensures rise { IfOk result (λ v. IsNonDecreasing v.items) }
+    ensures ascending { IfOk result (λ v. IsStrictlyIncreasing v.items) }
 {
     let mut common = Vec::new(alloc);
     for job in jobs {

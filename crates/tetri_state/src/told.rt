@@ -1,7 +1,8 @@
 // Pieces as they are told, by job and then leaf.
 ghost use Rattle.std.specs.Prelude.{◌≡◌, ◌<◌, ◌+◌, ◌&&◌, ◌||◌, drop, filter, length, not, slice_index_or, IfOk};
 ghost use Rattle.std.specs.List.Sorted.{IsNonDecreasingBy};
-ghost use Rattle.tetri_state.specs.Begin.{finished, has_ended, in_order, is_over, named, runs, told};
+ghost use Rattle.tetri_base.specs.Order.{in_order};
+ghost use Rattle.tetri_state.specs.Begin.{comes_before, finished, has_ended, is_over, named, runs, told};
 ghost use Rattle.tetri_state.specs.declared.happened.PieceId.{PieceId};
 
 use crate::happened::PieceId;
@@ -18,7 +19,7 @@ fn named(piece: &Piece) -> PieceId
 }
 
 fn sorted(ids: Vec<PieceId>) -> Result<Vec<PieceId>, AllocError>
-    ensures order { IfOk result (λ v. v.items ≡ in_order ids.items) }
+    ensures order { IfOk result (λ v. v.items ≡ in_order comes_before ids.items) }
     ensures rise { IfOk result (λ v. IsNonDecreasingBy (λ a. a.job) v.items) }
 {
     let mut ids = ids;

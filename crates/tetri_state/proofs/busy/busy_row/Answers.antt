@@ -36,7 +36,7 @@ loop-left-preserved c =
           c.mark.ensures
           ∙ ap (marked p.expected c.loop-left.row.items) c.as_slice.ensures
           ∙ row_marked nodes p.expected (busy_until c.args.now rest) (busy_until c.args.now (p ∷ rest)) c.loop-left.row.items p.nodes c.loop-left.invariant.row known
-              (first_busy c.args.now p rest)
+          (first_busy c.args.now p rest)
           ∙ ap (λ ps. map (busy_until c.args.now ps) (range_with_len 0 nodes))
           (sym (piece_before c.args.pieces.now c.loop-left.left p c.loop-left-test.true c.loop-left.invariant.within c.index-pieces-left.is));
     }

@@ -1,11 +1,11 @@
-use Rattle.std.proofs.Common.{◌≡◌, ◌<◌, ◌-◌, ◌∙◌, ◌∷◌, [], All, None, Some, Option, List, ℕ, refl, sym, ap, subst, arith, rules, drop, filter, length, map, not, replicate}
+use Rattle.std.proofs.Common.{◌≡◌, ◌<◌, ◌-◌, ◌∙◌, ◌∷◌, [], All, None, Some, List, refl, sym, ap, subst, arith, rules, drop, filter, length, map, not, replicate}
 use Rattle.std.specs.List.{range_with_len}
 use Rattle.std.proofs.lemmas.List.{drop_all}
 use Rattle.std.proofs.lemmas.List.FromFn.{length-map-range_with_len}
 use Rattle.tetri_state.specs.declared.pieces.Piece.{Piece}
 use Rattle.tetri_state.specs.Begin.{has_ended, holder_in}
 use Rattle.tetri_state.specs.Planning.{marked}
-use Rattle.tetri_state.proofs.BusyLemmas.{first_holder, known_nodes, piece_before, row_marked, row_of_same, run_out, still_running}
+use Rattle.tetri_state.proofs.BusyLemmas.{first_holder, known_nodes, piece_before, row_marked, row_of_same, still_running}
 use Rattle.tetri_state.proofs.busy.holder_row.Goals as goal
 
 pub loop-left-init : goal.loop-left-init

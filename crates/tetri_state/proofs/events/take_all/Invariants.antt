@@ -1,5 +1,5 @@
-use Rattle.std.proofs.Common.{◌≡◌, ◌<◌, ℕ, [], None, All, drop, get_or, length}
-use Rattle.tetri_state.specs.Begin.{IsOfNodeBelow, happen_all}
+use Rattle.std.proofs.Common.{◌≡◌, [], None, drop, get_or, length}
+use Rattle.tetri_state.specs.Begin.{happen_all}
 use Rattle.tetri_state.proofs.TurnLemmas.{Keeps}
 use Rattle.tetri_state.proofs.events.take_all.Given as goal
 

@@ -1,4 +1,4 @@
-use Rattle.std.proofs.Common.{◌≡◌, ◌+◌, ◌∙◌, Bool, map, All, drop, subst, sym, arith}
+use Rattle.std.proofs.Common.{◌∙◌, map, All, subst, sym, arith}
 use Rattle.tetri_space.specs.Sound.{IsSoundBid}
 use Rattle.tetri_space.specs.Space.{bid, space}
 use Rattle.tetri_space.proofs.BidLemmas.{bid_has}

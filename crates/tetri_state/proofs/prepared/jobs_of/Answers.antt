@@ -1,8 +1,8 @@
 use Rattle.std.proofs.Common.{ℕ, ◌≡◌, ◌==◌, ◌∙◌, sym, ap, map, append-nil, List, ◌++◌}
 use Rattle.std.proofs.lemmas.List.{drop_all}
 use Rattle.std.proofs.lemmas.List.Sorted.{IsNonDecreasingBy-from_sort, list_any-IsPermutation}
-use Rattle.tetri_state.specs.declared.pieces.Piece.{Piece}
 use Rattle.tetri_base.specs.Lists.{has}
+use Rattle.tetri_state.specs.declared.pieces.Piece.{Piece}
 use Rattle.tetri_state.proofs.ReadyLemmas.{any_job}
 use Rattle.tetri_state.proofs.prepared.jobs_of.Goals as goal
 

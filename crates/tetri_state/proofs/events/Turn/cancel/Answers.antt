@@ -1,7 +1,7 @@
 use Rattle.std.proofs.Common.{rules, ◌≡◌, ◌∙◌, ◌||◌, ◌==◌, ap, sym, true, false, filter, not}
 use Rattle.std.proofs.lemmas.Fn.{filter_same}
-use Rattle.tetri_state.specs.declared.happened.PieceId.{PieceId}
 use Rattle.tetri_base.specs.Lists.{has}
+use Rattle.tetri_state.specs.declared.happened.PieceId.{PieceId}
 use Rattle.tetri_state.specs.Begin.{Turn, runs}
 use Rattle.tetri_state.proofs.Ascending.{without_absent}
 use Rattle.tetri_state.proofs.TurnLemmas.{cancel_done, cancel_passed, either_left, either_right}

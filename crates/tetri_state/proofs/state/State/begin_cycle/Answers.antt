@@ -1,6 +1,7 @@
 use Rattle.std.proofs.Common.{◌≡◌, ◌+◌, ap, subst, sym}
 use Rattle.std.specs.List.Sorted.{IsStrictlyIncreasing}
 use Rattle.std.proofs.lemmas.Result.{on_ok_weaker}
+use Rattle.tetri_base.proofs.ListLaws.{Each-get}
 use Rattle.tetri_trace.specs.Scenario.{scenario}
 use Rattle.tetri_state.specs.declared.happened.Happened.{Happened}
 use Rattle.tetri_state.specs.Begin.{Occurrences, occurrences, occurring, turn}
@@ -9,7 +10,6 @@ use Rattle.tetri_state.proofs.ArrivalLemmas.{ArrivedBefore}
 use Rattle.tetri_state.proofs.Ascending.{ascend_to}
 use Rattle.tetri_state.proofs.ReachedLemmas.{begin_reached, if_ok, stands_between}
 use Rattle.tetri_state.proofs.StandLemmas.{IsWithin, expired_ascends, turn_arrived}
-use Rattle.tetri_state.proofs.ToldLemmas.{each_at}
 use Rattle.tetri_state.proofs.state.State.begin_cycle.Goals as goal
 
 pub begin-requires-clause-drained : goal.begin-requires-clause-drained
@@ -24,13 +24,13 @@ begin-requires-clause-known c =
     let t = scenario c.args.trace.now in
     let s = c.args.self.now in
     let all = turn_arrived t s c.requires.sound (stands_between t s c.requires.sound c.requires.reached) in
-    λ k d lt. (each_at (ArrivedBefore t (s.now + 1)) (turn t s).pending k d lt all).0
+    λ k d lt. (Each-get (ArrivedBefore t (s.now + 1)) (turn t s).pending k d all lt).0
 
 pub begin-requires-clause-nodes : goal.begin-requires-clause-nodes
 begin-requires-clause-nodes c =
     let t = scenario c.args.trace.now in
     let s = c.args.self.now in
-    λ k d lt. (each_at (IsWithin t) s.pieces k d lt (stands_between t s c.requires.sound c.requires.reached).pieces).nodes
+    λ k d lt. (Each-get (IsWithin t) s.pieces k d (stands_between t s c.requires.sound c.requires.reached).pieces lt).nodes
 
 pub returns-clause-reached : goal.returns-clause-reached
 returns-clause-reached c =

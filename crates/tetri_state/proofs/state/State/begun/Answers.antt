@@ -1,4 +1,4 @@
-use Rattle.std.proofs.Common.{◌≡◌, ◌<◌, ◌∙◌, ◌&&◌, ℕ, All, None, filter, get_or, length, not, sym, ap, subst}
+use Rattle.std.proofs.Common.{◌≡◌, ◌<◌, ◌∙◌, ◌&&◌, All, None, filter, get_or, length, not, sym, ap, subst}
 use Rattle.std.specs.List.Sorted.{IsNonDecreasingBy}
 use Rattle.tetri_trace.specs.Scenario.{Scenario, scenario}
 use Rattle.tetri_state.specs.declared.pieces.Piece.{Piece}

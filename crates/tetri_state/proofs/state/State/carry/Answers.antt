@@ -1,15 +1,12 @@
-use Rattle.std.proofs.Common.{◌≡◌, ◌∙◌, ℕ, sym, ap, subst, is_ok}
-use Rattle.std.specs.List.Sorted.{IsNonDecreasingBy}
+use Rattle.std.proofs.Common.{◌∙◌, sym, ap, subst, is_ok}
 use Rattle.tetri_space.specs.Sound.{IsSound as IsSoundSpace}
 use Rattle.tetri_space.specs.Space.{space}
 use Rattle.tetri_trace.specs.Scenario.{scenario}
 use Rattle.tetri_state.specs.Planning.{AreThrifty, instance_of}
 use Rattle.tetri_state.specs.Snapshot.{Snapshot}
-use Rattle.tetri_state.proofs.Ascending.{ascend_to}
 use Rattle.tetri_state.proofs.CarryLemmas.{carried, carried_none, carried_thrifty, nothing_thrifty}
 use Rattle.tetri_state.proofs.InstanceLemmas.{instance_sound}
 use Rattle.tetri_state.proofs.ReachedLemmas.{early_begun, stands_begun}
-use Rattle.tetri_state.proofs.SearchLemmas.{never_fall}
 use Rattle.tetri_state.proofs.state.State.carry.Goals as goal
 
 pub still_pending-requires : goal.still_pending-requires

@@ -1,11 +1,17 @@
-use Rattle.std.proofs.Common.{◌≡◌, ◌∙◌, ◌+◌, ◌≤◌, ◌++◌, [], filter, length, not, ap, arith, is_ok, true, cond, vec_len, vec_capacity}
+use Rattle.std.proofs.Common.{◌≡◌, ◌∙◌, ◌+◌, ◌≤◌, ◌++◌, ℕ, [], filter, length, not, ap, subst, sym, arith, is_ok, true, cond, vec_len, vec_capacity}
+use Rattle.std.specs.List.Sorted.{IsNonDecreasingBy}
 use Rattle.tetri_base.specs.Lists.{has}
 use Rattle.tetri_state.specs.Readied.{Readied}
 use Rattle.tetri_state.specs.Snapshot.{Snapshot}
 use Rattle.tetri_state.proofs.BeginLemmas.{appended, len_is, same_state}
 use Rattle.tetri_state.proofs.ReadyLemmas.{parts_count}
+use Rattle.tetri_state.proofs.SearchLemmas.{never_fall}
 use Rattle.tetri_state.proofs.state.State.launch.Goals as goal
 use Rattle.tetri_state.proofs.state.State.launch.Goals.{After-drop-jobs}
+
+pub leave-requires : goal.leave-requires
+leave-requires c =
+    subst (IsNonDecreasingBy (λ (n : ℕ). n)) (sym c.deref.ensures.value) (never_fall c.prepared.inside.jobs.items c.prepared.invariant.0)
 
 module _ (c : After-drop-jobs) where
   abbrev s : Snapshot

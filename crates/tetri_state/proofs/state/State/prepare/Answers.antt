@@ -1,15 +1,15 @@
-use Rattle.std.proofs.Common.{◌≡◌, ◌∙◌, ◌==◌, ◌<◌, ◌+◌, ℕ, List, All, filter, length, sym, ap, subst, arith}
+use Rattle.std.proofs.Common.{◌≡◌, ◌∙◌, ◌==◌, ◌<◌, ◌+◌, List, All, filter, length, sym, ap, subst, arith}
 use Rattle.std.specs.List.{filter_map, list_any}
-use Rattle.std.specs.List.Sorted.{IsNonDecreasingBy}
+use Rattle.std.specs.List.Sorted.{IsStrictlyIncreasing}
 use Rattle.std.specs.Option.{option_map}
 use Rattle.std.proofs.lemmas.List.Elements.{filter_agree}
+use Rattle.tetri_base.specs.Lists.{has}
 use Rattle.tetri_strl.specs.declared.grants.Grant.{Grant}
 use Rattle.tetri_space.specs.Sound.{IsSound as IsSoundSpace}
 use Rattle.tetri_space.specs.Space.{Space, leaf_in, space}
 use Rattle.tetri_trace.specs.Scenario.{Scenario, scenario}
 use Rattle.tetri_state.specs.declared.pieces.Piece.{Piece}
 use Rattle.tetri_state.specs.After.{new_pieces, piece_of}
-use Rattle.tetri_base.specs.Lists.{has}
 use Rattle.tetri_state.specs.Launch.{start_of, starts_now}
 use Rattle.tetri_state.specs.Planning.{instance_of}
 use Rattle.tetri_state.specs.Reached.{IsPlan}
@@ -18,7 +18,6 @@ use Rattle.tetri_state.proofs.Ascending.{ascend_to}
 use Rattle.tetri_state.proofs.InstanceLemmas.{instance_sound}
 use Rattle.tetri_state.proofs.ReachedLemmas.{early_begun, stands_begun}
 use Rattle.tetri_state.proofs.ReadyLemmas.{grants_known, launched_is, part_is, pieces_alike, pieces_tell, plan_of}
-use Rattle.tetri_state.proofs.SearchLemmas.{never_fall}
 use Rattle.tetri_state.proofs.StandLemmas.{Stands}
 use Rattle.tetri_state.proofs.state.State.prepare.Goals as goal
 use Rattle.tetri_state.proofs.state.State.prepare.Goals.{After-drop-starting-2}
@@ -39,12 +38,11 @@ new_pieces-requires-clause-known c =
     (grants_known t s c.requires.sound (stands_begun t s c.requires.sound c.requires.reached) (early_begun t s c.requires.sound c.requires.reached) a
     (plan_of t s a (space c.args.inst.now) c.requires.instance c.requires.lawful c.requires.thrifty))
 
-pub common_jobs-requires-clause-rise : goal.common_jobs-requires-clause-rise
-common_jobs-requires-clause-rise c =
+pub common_jobs-requires-clause-ascending : goal.common_jobs-requires-clause-ascending
+common_jobs-requires-clause-ascending c =
     let s : Snapshot = c.args.self.now in
     let pending : c.deref-2.result.now ≡ s.pending = c.deref-2.ensures.value ∙ ap (λ (r : Snapshot). r.pending) c.self.view_is in
-    subst (IsNonDecreasingBy (λ (n : ℕ). n)) (sym pending)
-    (never_fall s.pending (ascend_to s.pending (stands_begun (scenario c.args.trace.now) s c.requires.sound c.requires.reached).ascending))
+    subst IsStrictlyIncreasing (sym pending) (ascend_to s.pending (stands_begun (scenario c.args.trace.now) s c.requires.sound c.requires.reached).ascending)
 
 module _ (c : After-drop-starting-2) where
   abbrev t : Scenario
