@@ -8,12 +8,8 @@ use Rattle.std.proofs.lemmas.List.FromFn.{get_or-range_with_len, length-map-rang
 use Rattle.tetri_ip.specs.declared.programs.Program.{Program}
 use Rattle.tetri_ip.specs.Points.{IsFit}
 use Rattle.tetri_cert.proofs.ProperLemmas.{bounds_proper_trees}
-use Rattle.tetri_compile.specs.Draft.{draft}
-use Rattle.tetri_compile.specs.Flat.{column_count, plain, program_of}
-use Rattle.tetri_compile.specs.Walked.{inside, room}
-use Rattle.tetri_compile.proofs.CompileLemmas.{draft_small, sound_bids}
-use Rattle.tetri_compile.proofs.FitLemmas.{program_fit}
-use Rattle.tetri_compile.proofs.GainLemmas.{bid_uppers_small}
+use Rattle.tetri_compile.specs.Flat.{plain, program_of}
+use Rattle.tetri_compile.proofs.ProgramLaws.{compiled_is_fit}
 use Rattle.tetri_assign.specs.Assigned.{assigned}
 use Rattle.tetri_assign.proofs.Law.{assigned_lawful, assigned_worth}
 use Rattle.tetri_space.specs.Partitions.{ArePartitionsOf, Parts, live_bids, partitions, parts_in, sets_in}
@@ -51,10 +47,7 @@ module _ (s : Space) (sound : IsSound s) where
   }
 
   program_is_fit : MayHaveTree s → (p : Program) → plain p ≡ program_of s → IsFit p
-  program_is_fit may p is =
-      let bids = sound_bids s sound (found s) are_found in
-      let small = draft_small s sound (found s) are_found may.columns in
-      program_fit (draft s) (column_count s) may.columns refl may.rows (bid_uppers_small (inside s) (room s) (live_bids s) bids) small.0 small.1 p is
+  program_is_fit may p is = compiled_is_fit s sound (found s) are_found may.columns may.rows p is
 
 pub bounds_are_of_proper_trees : BoundsAreOfProperTrees
 bounds_are_of_proper_trees s marks bound sound may = (
