@@ -6,6 +6,8 @@ use Rattle.tetri_strl.specs.declared.grants.Grant.{Grant}
 use Rattle.tetri_strl.specs.Tree.{greatest, least, added, Tree, one, join, scale, barrier, Trees, none, more}
 use Rattle.tetri_strl.specs.Worth.{worth_of}
 use Rattle.tetri_space.specs.Free.{is_free_throughout}
+pub use Rattle.tetri_space.specs.Slots.{overlap}
+pub use Rattle.tetri_space.specs.Space.{is_live}
 use Rattle.tetri_space.specs.Space.{Space, set_of}
 
 -- a leaf with the nodes that it is to get
@@ -18,14 +20,6 @@ grant_of job p = record { job = job; leaf = p.leaf.num; nodes = p.nodes }
 
 abbrev pub grants_of : ℕ → List Placement → List Grant
 grants_of job ps = map (grant_of job) ps
-
--- the leaf starts in the window
-abbrev pub is_live : Space → Leaf → Bool
-is_live s l = nat_le s.now l.start && nat_lt l.start (s.now + s.window)
-
--- two leaves have a slot in common
-abbrev pub overlap : Leaf → Leaf → Bool
-overlap l m = nat_lt l.start (m.start + m.dur) && nat_lt m.start (l.start + l.dur)
 
 -- the placement holds the node in some slot of the leaf
 abbrev pub is_held_by : Leaf → ℕ → Placement → Bool

@@ -1,16 +1,12 @@
 -- What a plan says, and what makes it good.
-use Rattle.std.specs.Prelude.{◌≡◌, ◌≤◌, ◌↔◌, ℕ, List, All}
-use Rattle.tetri_strl.specs.Thrifty.{IsThriftyFor}
+use Rattle.std.specs.Prelude.{◌≡◌, ◌≤◌, ◌↔◌, ℕ, List}
 use Rattle.tetri_strl.specs.declared.grants.Grant.{Grant}
 use Rattle.tetri_cert.specs.declared.plan_mark.PlanMark.TheVariants.{Optimal}
 use Rattle.tetri_space.specs.Lawful.{IsLawful}
 use Rattle.tetri_space.specs.Space.{Space}
 use Rattle.tetri_space.specs.Total.{total_in}
+pub use Rattle.tetri_space.specs.Trimmed.{IsThriftyForAll}
 use Rattle.tetri_claims.specs.Planned.{Planned}
-
--- no grant of any job is wasted
-abbrev pub IsThriftyForAll : Space → List Grant → Type 0
-IsThriftyForAll s a = All (λ b. IsThriftyFor a b.job b.expr) s.bids
 
 -- no lawful allotment is worth more
 abbrev pub BoundsEveryLawful : Space → ℕ → Type 0

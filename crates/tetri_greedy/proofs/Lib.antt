@@ -1,5 +1,3 @@
 pub mod Marks
-pub mod Masks
-pub mod Overlaps
 pub mod Placing
 pub mod Steps

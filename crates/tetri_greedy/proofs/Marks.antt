@@ -1,70 +1,20 @@
 -- The marks tell what placements hold.
-use Rattle.std.proofs.Common.{◌≡◌, ◌≢◌, ℕ, ◌+◌, ◌<◌, ◌≤◌, ◌^◌, ◌==◌, ◌&&◌, ◌||◌, Bool, true, false, List, [], ◌∷◌, ◌++◌, length, get_or, set, All, refl, sym, ap, ◌∙◌, subst, arith, bit_or, inl, inr, replicate, append_assoc, nat_le, nat_lt, not}
+use Rattle.std.proofs.Common.{◌≡◌, ℕ, ◌+◌, ◌<◌, ◌≤◌, ◌&&◌, ◌||◌, Bool, true, false, List, [], ◌∷◌, ◌++◌, length, All, refl, sym, ap, ◌∙◌, subst, arith, replicate, append_assoc, nat_le, nat_lt}
 use Rattle.std.specs.List.{list_any}
-use Rattle.std.specs.Int.Bits.{and_zero_l}
-use Rattle.std.proofs.lemmas.Bool.{cases_eq}
 use Rattle.std.proofs.lemmas.Bool.Decides.{nat_tests}
-use Rattle.std.proofs.lemmas.List.{append-nil, get_or-replicate, get_or-set_other, get_or-set_same, length-set}
-use Rattle.std.proofs.lemmas.List.Elements.{All-head, All-tail}
+use Rattle.std.proofs.lemmas.List.{append-nil, get_or-replicate}
 use Rattle.std.proofs.lemmas.List.Folds.{list_any-append}
 use Rattle.tetri_strl.specs.declared.expr.Leaf.{Leaf}
+use Rattle.tetri_space.specs.Slots.{marked, meets, slots_of}
 use Rattle.tetri_space.specs.Space.{Space}
+use Rattle.tetri_space.proofs.SlotLaws.{IsInWindow, and_left, and_right, length-marked, marked_meets, meets_overlap, none_meets, slots_bound}
 use Rattle.tetri_advice.specs.Fit.{Placement, is_held, is_held_by, is_live}
-use Rattle.tetri_greedy.specs.Held.{AreHoldable, IsHoldable, TellsOf, all_marked, marked, slots_of}
-use Rattle.tetri_greedy.proofs.Overlaps.{IsInWindow, and_left, and_right, meets, meets_or, meets_overlap, slots_bound}
-
-pub length-marked : (slots : ℕ) (ns masks : List ℕ) → length (marked masks slots ns) ≡ length masks
-length-marked slots [] masks = refl
-length-marked slots (n ∷ ns) masks =
-    length-marked slots ns (set masks n (bit_or (get_or masks n 0) slots)) ∙ length-set masks n (bit_or (get_or masks n 0) slots)
+use Rattle.tetri_greedy.specs.Held.{AreHoldable, IsHoldable, TellsOf, all_marked}
 
 pub length-all_marked : (now : ℕ) (ps : List Placement) (masks : List ℕ) → length (all_marked now masks ps) ≡ length masks
 length-all_marked now [] masks = refl
 length-all_marked now (p ∷ ps) masks =
     length-all_marked now ps (marked masks (slots_of now p.leaf) p.nodes) ∙ length-marked (slots_of now p.leaf) p.nodes masks
-
-same_test : (m n : ℕ) → m ≡ n → (m == n) ≡ true
-same_test m n e = grind (arith, nat_tests)
-
-other_test : (m n : ℕ) → m ≢ n → (m == n) ≡ false
-other_test m n e = grind (arith, nat_tests)
-
--- a node that is marked twice, or at a later place
-again : (a b c : Bool) → ((a || c) || (b && c)) ≡ (a || (true && c))
-again true b c = refl
-again false true true = refl
-again false true false = refl
-again false false true = refl
-again false false false = refl
-
--- a node meets the slots where it did before, or where it is marked and the marks do
-pub marked_meets : (slots c n : ℕ) → c < 2 ^ 64 → (ns masks : List ℕ) → All (λ m. m < length masks) ns → n < length masks →
-    meets (get_or (marked masks slots ns) n 0) c ≡ (meets (get_or masks n 0) c || (list_any (λ m. m == n) ns && meets slots c))
-marked_meets slots c n bound [] masks known lt = sym (or_false (meets (get_or masks n 0) c))
-  where
-    or_false : (a : Bool) → (a || false) ≡ a
-    or_false true = refl
-    or_false false = refl
-marked_meets slots c n bound (m ∷ ms) masks known lt =
-    let longer = length-set masks m (bit_or (get_or masks m 0) slots) in
-    let rest =
-    marked_meets slots c n bound ms (set masks m (bit_or (get_or masks m 0) slots))
-    (λ k d at. omega (arith, longer, All-tail (λ j. j < length masks) m ms known k d at)) (omega (arith, longer, lt)) in
-    elim (cases_eq m n) [
-      | inl same ↦ rest
-          ∙ ap (λ b. meets b c || (list_any (λ j. j == n) ms && meets slots c)) (here same)
-          ∙ ap (λ b. b || (list_any (λ j. j == n) ms && meets slots c)) (meets_or (get_or masks n 0) slots c bound)
-          ∙ again (meets (get_or masks n 0) c) (list_any (λ j. j == n) ms) (meets slots c)
-          ∙ ap (λ t. meets (get_or masks n 0) c || ((t || list_any (λ j. j == n) ms) && meets slots c)) (sym (same_test m n same))
-      | inr other ↦ rest
-          ∙ ap (λ b. meets b c || (list_any (λ j. j == n) ms && meets slots c)) (get_or-set_other masks m n (bit_or (get_or masks m 0) slots) 0 (λ e. other (sym e)))
-          ∙ ap (λ t. meets (get_or masks n 0) c || ((t || list_any (λ j. j == n) ms) && meets slots c)) (sym (other_test m n other))
-    ]
-  where
-    here : m ≡ n → get_or (set masks m (bit_or (get_or masks m 0) slots)) n 0 ≡ bit_or (get_or masks n 0) slots
-    here same =
-        subst (λ k. get_or (set masks m (bit_or (get_or masks m 0) slots)) k 0 ≡ bit_or (get_or masks k 0) slots) same
-        (get_or-set_same masks m (bit_or (get_or masks m 0) slots) 0 (All-head (λ j. j < length masks) m ms known))
 
 module _ (s : Space) (few : s.window ≤ 64) where
   pub in_window : (l : Leaf) → is_live s l ≡ true → 1 ≤ l.dur → IsInWindow s.now l
@@ -109,6 +59,3 @@ module _ (s : Space) (few : s.window ≤ 64) where
 -- where no node is marked, nothing is held
 pub tells_none : (s : Space) → TellsOf s [] (replicate s.nodes 0)
 tells_none s = record { tells = λ l n live some lt. ap (λ m. meets m (slots_of s.now l)) (get_or-replicate s.nodes n 0 0 lt) ∙ none_meets (slots_of s.now l) }
-  where
-    none_meets : (b : ℕ) → meets 0 b ≡ false
-    none_meets b = ap (λ n. not (n == 0)) (and_zero_l b)

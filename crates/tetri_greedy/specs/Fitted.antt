@@ -5,7 +5,7 @@ use Rattle.tetri_strl.specs.declared.grants.Grant.{Grant}
 use Rattle.tetri_strl.specs.Tree.{Tree}
 use Rattle.tetri_space.specs.Space.{Space}
 use Rattle.tetri_advice.specs.Fit.{Placement, fit_beside, grant_of}
-use Rattle.tetri_greedy.specs.Held.{is_marked}
+use Rattle.tetri_space.specs.Slots.{is_marked}
 
 -- a job with its placements, in order
 pub record Fitted : Type 0 where

@@ -3,7 +3,7 @@ ghost use Rattle.std.specs.Prelude.{◌≡◌, ◌∷◌, [], IfOk, OnOk, true, 
 ghost use Rattle.std.specs.List.Sorted.{IsStrictlyIncreasing};
 ghost use Rattle.tetri_advice.specs.Fit.{all_fit, best_fit, enough, fit_beside, fit_worth, fits, is_available, is_live, lowest};
 ghost use Rattle.tetri_greedy.specs.Fitted.{grown, with_fit};
-ghost use Rattle.tetri_greedy.specs.Held.{is_marked};
+ghost use Rattle.tetri_space.specs.Slots.{is_marked};
 ghost use Rattle.tetri_space.specs.Free.{is_free_throughout};
 ghost use Rattle.tetri_space.specs.Sound.{HasKnownSet, IsSound};
 ghost use Rattle.tetri_space.specs.Space.{space};

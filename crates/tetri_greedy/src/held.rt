@@ -1,9 +1,10 @@
 // What the jobs so far hold.
 ghost use Rattle.std.specs.Prelude.{◌≡◌, ◌+◌, ◌-◌, ◌^◌, ◌<◌, ◌≤◌, All, get_or, length, min, replicate, IfOk};
-ghost use Rattle.tetri_greedy.specs.Held.{is_marked, marked, slots_of};
+ghost use Rattle.tetri_space.specs.Slots.{is_marked, marked, slots_of};
 
 use std::alloc::{AllocError, Global};
 use std::marker::Model;
+use tetri_space::slots_of;
 use tetri_strl::Leaf;
 
 /// By node, the slots of a window of at most 64 slots in which it is held: bit i of its number is
@@ -19,18 +20,6 @@ impl Model for HeldSlots {
     ghost Value = { List ℕ };
 
     ghost view = { λ s. s.masks.items };
-}
-
-// The slots of the window that a live leaf uses.
-fn slots_of(now: u32, leaf: &Leaf) -> u64
-    requires live { now ≤ leaf.now.start }
-    requires window { leaf.now.start < now + 64 }
-    requires few_slots { leaf.now.dur ≤ 10000 }
-    ensures { result ≡ slots_of now leaf.now }
-{
-    let first = leaf.start - now;
-    let end = (first + leaf.dur).min(64);
-    ((1u128 << end) - (1u128 << first)) as u64
 }
 
 impl HeldSlots {

@@ -1,3 +1,4 @@
+pub mod AllotmentLaws
 pub mod BidLemmas
 pub mod ClashLemmas
 pub mod ClosedLaws
@@ -5,7 +6,9 @@ pub mod ClosedLemmas
 pub mod FindingLemmas
 pub mod FirstLemmas
 pub mod FreeLemmas
+pub mod FrontLemmas
 pub mod GroupLemmas
+pub mod InstanceLaws
 pub mod JobLemmas
 pub mod LawLemmas
 pub mod LawfulLemmas
@@ -17,6 +20,9 @@ pub mod PartsLemmas
 pub mod PrunedLemmas
 pub mod RuleLemmas
 pub mod SearchLemmas
+pub mod SlotLaws
 pub mod SpanLemmas
+pub mod StableLaws
 pub mod TotalLemmas
+pub mod TrimmedLemmas
 pub mod TurnLemmas

@@ -2,9 +2,13 @@ pub mod Broken
 pub mod Closed
 pub mod Finding
 pub mod Free
+pub mod Front
+pub mod GrantOrder
 pub mod Lawful
 pub mod Partitions
+pub mod Slots
 pub mod Sound
 pub mod Space
 pub mod Spans
 pub mod Total
+pub mod Trimmed

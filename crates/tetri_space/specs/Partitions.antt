@@ -5,6 +5,7 @@ use Rattle.tetri_strl.specs.Prune.{pruned}
 use Rattle.tetri_strl.specs.Tree.{Tree, leaves}
 use Rattle.tetri_space.specs.Free.{is_closed, is_free}
 use Rattle.tetri_base.specs.Lists.{has, same, count}
+pub use Rattle.tetri_space.specs.Space.{set_at}
 use Rattle.tetri_space.specs.Space.{Bid, Space, bid}
 use Rattle.tetri_space.specs.declared.parts.Partitions as made
 
@@ -21,10 +22,6 @@ bids_left from to (b ∷ bs) = with_left b.job (pruned from to b.expr) (bids_lef
 -- what is left of the bids in the window
 abbrev pub live_bids : Space → List Bid
 live_bids s = bids_left s.now (s.now + s.window) s.bids
-
--- the nodes of the set of this number
-abbrev pub set_at : Space → ℕ → List ℕ
-set_at s k = slice_index_or s.sets k []
 
 -- the numbers of the sets that the leaves of bids name
 abbrev pub sets_in : List Bid → List ℕ

@@ -1,6 +1,7 @@
 -- An instance as plain data: what one cycle is given.
 use Rattle.std.specs.Prelude.{ℕ, ◌+◌, ◌==◌, ◌<◌, ◌≤◌, Bool, List, [], map, find, slice_index_or, Option, option_and_then}
 use Rattle.tetri_strl.specs.declared.expr.Leaf.{Leaf}
+use Rattle.tetri_strl.specs.Prune.{starts_in}
 use Rattle.tetri_strl.specs.Tree.{Tree, tree, leaves}
 use Rattle.tetri_space.specs.declared.closure.Closure.{Closure}
 use Rattle.tetri_space.specs.declared.instance.Instance.{Instance}
@@ -38,9 +39,13 @@ space i = record {
   bids = map bid i.jobs.items;
 }
 
+-- the nodes of the set of this number
+abbrev pub set_at : Space → ℕ → List ℕ
+set_at s k = slice_index_or s.sets k []
+
 -- the nodes of a leaf's set
 abbrev pub set_of : Space → Leaf → List ℕ
-set_of s l = slice_index_or s.sets l.set []
+set_of s l = set_at s l.set
 
 -- the leaf of this number that this job offers
 abbrev pub leaf_in : List Bid → ℕ → ℕ → Option Leaf
@@ -51,6 +56,10 @@ leaf_in bids job num =
 pub record IsLive (s : Space) (l : Leaf) : Type 0 where
   pub not_early : s.now ≤ l.start
   pub not_late : l.start < s.now + s.window
+
+-- the test of it
+abbrev pub is_live : Space → Leaf → Bool
+is_live s l = starts_in s.now (s.now + s.window) l
 
 -- the leaf uses its nodes in this slot
 pub record Covers (l : Leaf) (slot : ℕ) : Type 0 where

@@ -9,6 +9,7 @@ ghost use Rattle.tetri_strl.specs.declared.grants.Grant.{Grant};
 
 use crate::Instance;
 use crate::clashes::{first_clash, first_double};
+use crate::front::lawful_front;
 use crate::leaves::{expr_of, is_live, leaf_numbered};
 use crate::nodes::{first_not_free, first_outside, some_ascend};
 use tetri_strl::{Allotment, Grant, Leaf};
@@ -66,7 +67,7 @@ fn live_leaf(inst: &Instance, grant: &Grant) -> Result<Leaf, Rule>
 }
 
 // Whether a grant keeps all rules beside the earlier ones.
-fn check_grant(inst: &Instance, earlier: &[Grant], grant: &Grant) -> Result<(), Rule>
+pub fn check_grant(inst: &Instance, earlier: &[Grant], grant: &Grant) -> Result<(), Rule>
     requires sound { IsSound (space inst.now) }
     requires ascending { All (λ g. IsStrictlyIncreasing g.nodes) earlier.now }
     ensures lawful { OnOk result (IsLawfulGrant (space inst.entry.now) grant.now) }
@@ -98,17 +99,18 @@ fn check_grant(inst: &Instance, earlier: &[Grant], grant: &Grant) -> Result<(), 
 
 /// Whether the allotment is lawful, and if not, the first grant that breaks a rule with the first
 /// rule that it breaks. Takes no memory. A job is found by binary search, its leaf by a walk over its
-/// expression, and a node in a set by binary search. Each grant is held against every earlier one by
-/// a merge of their nodes, which ends at the first that both hold, and only then is the earlier leaf
-/// looked up. So the cost grows with the pairs of grants, and within a pair with its nodes.
+/// expression, and a node in a set and its closures by binary search. Lawful grants that ascend by job
+/// and leaf are gone through once, with a mask of slots for each node. From the first on that is not
+/// so, each grant is held against every earlier one by a merge of their nodes, which ends at the first
+/// that both hold, and only then is the earlier leaf looked up.
 pub fn lawful(inst: &Instance, a: &Allotment) -> Result<(), Unlawful>
     requires { IsSound (space inst.now) }
     ensures ok { IsOk result ↔ IsLawful (space inst.entry.now) a.now }
     ensures exact { (u : Unlawful) → (result ≡ Err u) ↔ IsFirstBroken (space inst.entry.now) a.now u }
 {
     let grants = a.as_slice();
-    for (place, grant) in grants.iter().enumerate() {
-        if let Err(rule) = check_grant(inst, &grants[..place], grant) {
+    for place in lawful_front(inst, grants)..grants.len() {
+        if let Err(rule) = check_grant(inst, &grants[..place], &grants[place]) {
             return Err(Unlawful {
                 grant: place as u64,
                 rule,

@@ -81,10 +81,10 @@ joined-zero added xs h = added_of-zero xs h
 joined-zero least [] h = refl
 joined-zero least (x ∷ xs) h = least_from-zero x xs h.0 h.1
 
-barred-zero : (v : ℕ) → cond (nat_le v 0) v 0 ≡ 0
+pub barred-zero : (v : ℕ) → cond (nat_le v 0) v 0 ≡ 0
 barred-zero v = grind (arith, nat_tests)
 
-scaled-zero : (s n : ℕ) → n ≡ 0 → s * n ≡ 0
+pub scaled-zero : (s n : ℕ) → n ≡ 0 → s * n ≡ 0
 scaled-zero s n e = rw e (omega arith)
 
 module _ (value : Leaf → ℕ) (zero_at : (l : Leaf) → IsGoodLeaf l → value l ≡ 0) where

@@ -1,5 +1,7 @@
 pub mod AlignedLemmas
 pub mod GrantLemmas
+pub mod ExprLaws
+pub mod GrantedWorth
 pub mod OneStart
 pub mod PartsApart
 pub mod PruneLemmas
@@ -7,6 +9,7 @@ pub mod ThriftOfOthers
 pub mod ThriftyLemmas
 pub mod TreeLemmas
 pub mod TrimLemmas
+pub mod TrimOfOthers
 pub mod TrimThrift
 pub mod TrimWorth
 pub mod WasteLemmas

@@ -40,6 +40,10 @@ module _ (value : Leaf → ℕ) (held : List ℕ) where
 abbrev pub held_leaves : List Grant → ℕ → List ℕ
 held_leaves a job = map (λ g. g.leaf) (filter (λ g. g.job == job) a)
 
+-- some leaf of the expression has a grant of the job
+abbrev pub HasGrant : List Grant → ℕ → Tree → Type 0
+HasGrant a job t = (n : ℕ) × Contains (numbers t) n × Contains (held_leaves a job) n
+
 -- the job's grants are thrifty for its expression
 abbrev pub IsThriftyFor : List Grant → ℕ → Tree → Type 0
 IsThriftyFor a job t = IsThrifty (leaf_worth a job) (held_leaves a job) t

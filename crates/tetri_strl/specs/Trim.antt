@@ -1,5 +1,5 @@
 -- Which grants of a job earn nothing.
-use Rattle.std.specs.Prelude.{ℕ, Bool, ◌&&◌, ◌==◌, not, if◌then◌else◌, List, [], ◌∷◌, ◌++◌, filter, Option}
+use Rattle.std.specs.Prelude.{◌≡◌, ℕ, Bool, ◌&&◌, ◌==◌, not, if◌then◌else◌, List, [], ◌∷◌, ◌++◌, filter, Option}
 use Rattle.std.specs.List.{list_any, position_from}
 use Rattle.tetri_strl.specs.declared.expr.Leaf.{Leaf}
 use Rattle.tetri_strl.specs.declared.grants.Grant.{Grant}
@@ -41,6 +41,10 @@ wastes job ns g = g.job == job && list_any (λ n. n == g.leaf) ns
 -- the job's grants without those of idle leaves
 abbrev pub trimmed : List Grant → ℕ → Tree → List Grant
 trimmed a job t = filter (earns job (idle (leaf_worth a job) t)) a
+
+-- some of the grants, in their order
+abbrev pub IsPartOf : List Grant → List Grant → Type 0
+IsPartOf some all = (keeps : Grant → Bool) × (some ≡ filter keeps all)
 
 -- the place of the first grant of an idle leaf of the job
 abbrev pub first_waste : List Grant → ℕ → Tree → Option ℕ

@@ -85,9 +85,7 @@ impl Allotment {
     pub fn of(grants: Vec<Grant>) -> Self
         ensures { result ≡ grants.items }
     {
-        Allotment {
-            grants,
-        }
+        Allotment { grants }
     }
 
     /// Puts the grant last.

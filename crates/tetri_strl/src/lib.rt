@@ -15,7 +15,7 @@ mod worths;
 pub use copy::{copy_expr, copy_grant, copy_grants, copy_nodes};
 pub use expr::{Expr, Leaf};
 pub use grants::{Allotment, Grant, NodeList};
-pub use laws::thrifty_grants_start_together;
+pub use laws::{thrifty_grants_start_together, worth_comes_of_grants};
 pub use pruning::prune;
 pub use starts::aligned;
 pub use tops::top_in;

@@ -1,9 +1,9 @@
 // The grants of a job that earn something.
-ghost use Rattle.std.specs.Prelude.{◌≡◌, ◌==◌, ◌++◌, if◌then◌else◌, IfOk, OnOk};
+ghost use Rattle.std.specs.Prelude.{◌≡◌, ◌==◌, ◌++◌, filter, if◌then◌else◌, IfOk, OnOk};
 ghost use Rattle.std.specs.List.{list_any};
 ghost use Rattle.tetri_strl.specs.Thrifty.{IsThriftyFor};
 ghost use Rattle.tetri_strl.specs.Tree.{numbers, tree, trees};
-ghost use Rattle.tetri_strl.specs.Trim.{earns, idle, idle_but_first, trimmed};
+ghost use Rattle.tetri_strl.specs.Trim.{IsPartOf, earns, idle, idle_but_first, trimmed};
 ghost use Rattle.tetri_strl.specs.WellMade.{AreSound, IsSound, IsWellMade};
 ghost use Rattle.tetri_strl.specs.Worth.{leaf_worth, worth_of};
 
@@ -19,6 +19,7 @@ use std::alloc::{AllocError, Global};
 pub fn trim(alloc: Global, e: &Expr, job: u32, a: &Allotment) -> Result<Allotment, AllocError>
     requires { IsWellMade (tree e.now) }
     ensures list { IfOk result (λ made. made ≡ trimmed a.now job (tree e.now)) }
+    ensures part { IfOk result (λ made. IsPartOf made (filter (λ g. g.job == job) a.now)) }
     ensures thrifty { IfOk result (λ made. IsThriftyFor made job (tree e.now)) }
     ensures worth { IfOk result (λ made. worth_of made job (tree e.now) ≡ worth_of a.now job (tree e.now)) }
 {

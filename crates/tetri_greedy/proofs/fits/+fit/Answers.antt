@@ -6,7 +6,7 @@ use Rattle.tetri_space.specs.Sound.{HasKnownSet}
 use Rattle.tetri_space.specs.Space.{space}
 use Rattle.tetri_advice.specs.Fit.{all_fit, best_fit, fit_beside, fit_worth}
 use Rattle.tetri_greedy.specs.Fitted.{Fitted, grown, with_fit}
-use Rattle.tetri_greedy.specs.Held.{is_marked}
+use Rattle.tetri_space.specs.Slots.{is_marked}
 use Rattle.tetri_greedy.proofs.Steps.{cut_back, cut_off, more_fit, next_part, no_more_fit, none_fit}
 use Rattle.tetri_greedy.proofs.fits.+fit.Goals as goal
 use Rattle.tetri_greedy.proofs.fits.+fit.Goals.{fit_best-then-worth-most+in_ok-best, fit_best-else-worth-most}

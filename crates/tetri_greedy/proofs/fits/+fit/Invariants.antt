@@ -6,7 +6,7 @@ use Rattle.tetri_strl.specs.Aligned.{EachLeafOf}
 use Rattle.tetri_strl.specs.Tree.{tree, trees}
 use Rattle.tetri_strl.specs.WellMade.{AreSound}
 use Rattle.tetri_greedy.specs.Fitted.{grown, with_fit}
-use Rattle.tetri_greedy.specs.Held.{is_marked}
+use Rattle.tetri_space.specs.Slots.{is_marked}
 use Rattle.tetri_greedy.proofs.fits.+fit.Given as goal
 
 abbrev pub invariant-fit-loop-part : goal.invariant-fit-loop-part

@@ -2,7 +2,7 @@ use Rattle.std.proofs.Common.{◌≡◌, ◌++◌, ◌∷◌, ◌+◌, ◌∙◌
 use Rattle.std.proofs.lemmas.List.{drop_more}
 use Rattle.tetri_advice.specs.Fit.{is_available, lowest}
 use Rattle.tetri_space.specs.Space.{space}
-use Rattle.tetri_greedy.specs.Held.{is_marked}
+use Rattle.tetri_space.specs.Slots.{is_marked}
 use Rattle.tetri_greedy.proofs.Steps.{passed_step, taken_step}
 use Rattle.tetri_greedy.proofs.fits.lowest.Goals as goal
 use Rattle.tetri_greedy.proofs.fits.lowest.Goals.{then-is_open+in_ok-push, else-is_open}

@@ -1,7 +1,7 @@
 use Rattle.std.proofs.Common.{◌≡◌, ◌++◌, drop, take, filter}
 use Rattle.tetri_advice.specs.Fit.{is_available, lowest}
 use Rattle.tetri_space.specs.Space.{space}
-use Rattle.tetri_greedy.specs.Held.{is_marked}
+use Rattle.tetri_space.specs.Slots.{is_marked}
 use Rattle.tetri_greedy.proofs.fits.lowest.Given as goal
 
 abbrev pub invariant-loop-node : goal.invariant-loop-node

@@ -1,5 +1,5 @@
 use Rattle.std.proofs.Common.{◌≡◌, drop, length}
-use Rattle.tetri_greedy.specs.Held.{marked}
+use Rattle.tetri_space.specs.Slots.{marked}
 use Rattle.tetri_greedy.proofs.held.HeldSlots.hold.Given as goal
 
 abbrev pub invariant-loop-node : goal.invariant-loop-node

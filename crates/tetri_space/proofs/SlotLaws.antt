@@ -1,18 +1,18 @@
--- Two leaves share a slot of the window exactly where their bits meet.
-use Rattle.std.proofs.Common.{◌≡◌, ℕ, ◌+◌, ◌-◌, ◌^◌, ◌<◌, ◌≤◌, ◌==◌, ◌&&◌, ◌||◌, ◌⊎◌, inl, inr, Bool, true, false, not, min, max, refl, sym, ap, ◌∙◌, arith, nat_lt, bit_and, bit_or, w64}
+-- Slots of a window as bits: two leaves share a slot of the window exactly where their bits meet, and what masks tell.
+use Rattle.std.proofs.Common.{◌≡◌, ◌≢◌, ℕ, ◌+◌, ◌-◌, ◌*◌, ◌%◌, ◌^◌, ◌<◌, ◌≤◌, ◌==◌, ◌&&◌, ◌||◌, ◌⊎◌, inl, inr, Bool, true, false, not, min, max, List, [], ◌∷◌, length, get_or, set, All, replicate, refl, sym, ap, ◌∙◌, subst, arith, nat_lt, bit_and, bit_or, w64}
 use Rattle.std.specs.Int.{bit_at, trailing_zeros}
+use Rattle.std.specs.Int.Bits.{and_zero_l}
+use Rattle.std.specs.List.{list_any}
+use Rattle.std.proofs.Math.Nat.{mod-eq_of_lt}
 use Rattle.std.proofs.Math.Pow.{pow_mono}
 use Rattle.std.proofs.lemmas.Bool.{cases_eq, cases_lt, true≢false}
 use Rattle.std.proofs.lemmas.Bool.Decides.{nat_tests}
+use Rattle.std.proofs.lemmas.List.{get_or-set_other, get_or-set_same, length-set}
+use Rattle.std.proofs.lemmas.List.Elements.{All-head, All-tail}
 use Rattle.std.proofs.lemmas.Nat.{and_le_r, pow_pos}
 use Rattle.std.proofs.lemmas.Nat.Bits.{bit_at-lt, bit_at-zero, bit_at_and, bit_at_or, bit_at_mask_above, bit_at_mask_below, bit_at_mask_inside, bit_at-trailing_zeros}
 use Rattle.tetri_strl.specs.declared.expr.Leaf.{Leaf}
-use Rattle.tetri_advice.specs.Fit.{overlap}
-use Rattle.tetri_greedy.specs.Held.{slots_of}
-
--- two sets of bits have one in common
-abbrev pub meets : ℕ → ℕ → Bool
-meets a b = not (bit_and a b == 0)
+use Rattle.tetri_space.specs.Slots.{marked, meets, overlap, slots_of}
 
 same_truth : (p q : Bool) → (p ≡ true → q ≡ true) → (q ≡ true → p ≡ true) → p ≡ q
 same_truth true true f g = refl
@@ -142,3 +142,74 @@ meets_overlap now l m p q = same_truth (meets (slots_of now m) (slots_of now l))
         meets_at (slots_of now m) (slots_of now l) i
         (bit_at_mask_inside (m.start - now) (min 64 (m.start - now + m.dur)) i (omega arith) (omega (arith, first, p.live, q.live, p.window, q.window, q.some_slots)))
         (bit_at_mask_inside (l.start - now) (min 64 (l.start - now + l.dur)) i (omega arith) (omega (arith, second, p.live, q.live, p.window, q.window, p.some_slots)))
+
+-- ---- masks
+-- a power of 2 that fits 128 bits
+pub shifted : (k : ℕ) → k ≤ 64 → 1 * 2 ^ k % 340282366920938463463374607431768211456 ≡ 2 ^ k
+shifted k small =
+    let bound : 2 ^ k ≤ 2 ^ 64 = pow_mono small in
+    let one : 1 * 2 ^ k ≡ 2 ^ k = omega arith in
+    subst (λ n. n % 340282366920938463463374607431768211456 ≡ 2 ^ k) (sym one) (mod-eq_of_lt (omega (arith, bound)))
+
+pub shifted_order : (i j : ℕ) → i ≤ j → j ≤ 64 →
+    1 * 2 ^ i % 340282366920938463463374607431768211456 ≤ 1 * 2 ^ j % 340282366920938463463374607431768211456
+shifted_order i j le small =
+    let order : 2 ^ i ≤ 2 ^ j = pow_mono le in
+    rw (shifted i (omega arith), shifted j small) order
+
+-- the bits from i to j - 1
+pub mask_value : (i j : ℕ) → i ≤ j → j ≤ 64 →
+    1 * 2 ^ j % 340282366920938463463374607431768211456 - 1 * 2 ^ i % 340282366920938463463374607431768211456 ≡ 2 ^ j - 2 ^ i
+mask_value i j le small = rw (shifted i (omega arith), shifted j small) refl
+
+pub length-marked : (slots : ℕ) (ns masks : List ℕ) → length (marked masks slots ns) ≡ length masks
+length-marked slots [] masks = refl
+length-marked slots (n ∷ ns) masks =
+    length-marked slots ns (set masks n (bit_or (get_or masks n 0) slots)) ∙ length-set masks n (bit_or (get_or masks n 0) slots)
+
+same_test : (m n : ℕ) → m ≡ n → (m == n) ≡ true
+same_test m n e = grind (arith, nat_tests)
+
+other_test : (m n : ℕ) → m ≢ n → (m == n) ≡ false
+other_test m n e = grind (arith, nat_tests)
+
+-- a node that is marked twice, or at a later place
+again : (a b c : Bool) → ((a || c) || (b && c)) ≡ (a || (true && c))
+again true b c = refl
+again false true true = refl
+again false true false = refl
+again false false true = refl
+again false false false = refl
+
+-- a node meets the slots where it did before, or where it is marked and the marks do
+pub marked_meets : (slots c n : ℕ) → c < 2 ^ 64 → (ns masks : List ℕ) → All (λ m. m < length masks) ns → n < length masks →
+    meets (get_or (marked masks slots ns) n 0) c ≡ (meets (get_or masks n 0) c || (list_any (λ m. m == n) ns && meets slots c))
+marked_meets slots c n bound [] masks known lt = sym (or_false (meets (get_or masks n 0) c))
+  where
+    or_false : (a : Bool) → (a || false) ≡ a
+    or_false true = refl
+    or_false false = refl
+marked_meets slots c n bound (m ∷ ms) masks known lt =
+    let longer = length-set masks m (bit_or (get_or masks m 0) slots) in
+    let rest =
+    marked_meets slots c n bound ms (set masks m (bit_or (get_or masks m 0) slots))
+    (λ k d at. omega (arith, longer, All-tail (λ j. j < length masks) m ms known k d at)) (omega (arith, longer, lt)) in
+    elim (cases_eq m n) [
+      | inl same ↦ rest
+          ∙ ap (λ b. meets b c || (list_any (λ j. j == n) ms && meets slots c)) (here same)
+          ∙ ap (λ b. b || (list_any (λ j. j == n) ms && meets slots c)) (meets_or (get_or masks n 0) slots c bound)
+          ∙ again (meets (get_or masks n 0) c) (list_any (λ j. j == n) ms) (meets slots c)
+          ∙ ap (λ t. meets (get_or masks n 0) c || ((t || list_any (λ j. j == n) ms) && meets slots c)) (sym (same_test m n same))
+      | inr other ↦ rest
+          ∙ ap (λ b. meets b c || (list_any (λ j. j == n) ms && meets slots c)) (get_or-set_other masks m n (bit_or (get_or masks m 0) slots) 0 (λ e. other (sym e)))
+          ∙ ap (λ t. meets (get_or masks n 0) c || ((t || list_any (λ j. j == n) ms) && meets slots c)) (sym (other_test m n other))
+    ]
+  where
+    here : m ≡ n → get_or (set masks m (bit_or (get_or masks m 0) slots)) n 0 ≡ bit_or (get_or masks n 0) slots
+    here same =
+        subst (λ k. get_or (set masks m (bit_or (get_or masks m 0) slots)) k 0 ≡ bit_or (get_or masks k 0) slots) same
+        (get_or-set_same masks m (bit_or (get_or masks m 0) slots) 0 (All-head (λ j. j < length masks) m ms known))
+
+-- no slot is held where a mask is 0
+pub none_meets : (b : ℕ) → meets 0 b ≡ false
+none_meets b = ap (λ n. not (n == 0)) (and_zero_l b)

@@ -1,6 +1,6 @@
 use Rattle.std.proofs.Common.{◌+◌, ◌-◌, ◌^◌, ◌≡◌, min, ap, arith, ◌∙◌}
-use Rattle.tetri_greedy.proofs.Masks.{mask_value, shifted_order}
-use Rattle.tetri_greedy.proofs.held.slots_of.Goals as goal
+use Rattle.tetri_space.proofs.SlotLaws.{mask_value, shifted_order}
+use Rattle.tetri_space.proofs.masks.slots_of.Goals as goal
 
 pub overflow_sub-result : goal.overflow_sub-result
 overflow_sub-result c = shifted_order _ _ (omega (arith, c.min-end.ensures, c.requires.live, c.requires.window)) (omega (arith, c.min-end.ensures))
