@@ -6,3 +6,4 @@ pub mod NodeLemmas
 pub mod ProperLemmas
 pub mod CountLemmas
 pub mod SpentLemmas
+pub mod PlainLemmas

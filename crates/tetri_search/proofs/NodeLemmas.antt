@@ -88,7 +88,7 @@ sound_sides p b (Rest q ws) h s = tt
 
 -- ---- the nodes below
 pub open_behind_is : (p : Program) (n : Node) (ns : List Node) (d : Option Dual) (m : Mark) → IsInBox p n.region → AreOpen p ns → IfDual p d → IsSound p n.region m → AreOpen p (open_behind n d m ns)
-open_behind_is p n ns d (Split j at licence) h a k s = (high_in_box p n.region j at h s.1 s.2, (k, (low_in_box p n.region j at h s.1 s.2, (k, a))))
+open_behind_is p n ns d (Split j at licence) h a k s = (high_in_box p n.region j at h s.1 s.2, k, (low_in_box p n.region j at h s.1 s.2, k, a))
 open_behind_is p n ns d (Close q ws) h a k s = a
 open_behind_is p n ns d (Whole q ws worth cells) h a k s = a
 open_behind_is p n ns d (Rest q ws) h a k s = a
@@ -100,7 +100,7 @@ box_in_box p f = record { lower_count = f.lower_count; upper_count = f.upper_cou
     least z = omega (arith, ints)
 
 pub first_open : (p : Program) → IsFit p → AreOpen p (record { region = box_of p; dual = None } ∷ [])
-first_open p f = (box_in_box p f, (tt, tt))
+first_open p f = (box_in_box p f, tt, tt)
 
 -- ---- whole points
 pub sound_whole : (p : Program) (b : Bounds) (m : Mark) → IsInBox p b → IsSound p b m → IsWholePoint p m

@@ -10,9 +10,9 @@ use lib.IntN.{ℤ, pos, negsuc, ◌+ℤ◌, ◌-ℤ◌, ◌*ℤ◌}
 use lib.Signed.{lt_z, le_z}
 use Rattle.tetri_algebra.specs.Integers.{mul_le_cancel, mul_lt_cancel}
 use Rattle.tetri_algebra.specs.Quotients.{div_above, div_below}
-use Rattle.tetri_algebra.specs.Rational.{ℚ, num-whole_ℚ, whole_ℚ}
+use Rattle.tetri_algebra.specs.Rational.{ℚ, whole_ℚ}
 use Rattle.tetri_algebra.specs.RationalOrder.{floor_ℚ, floor_ℚ-whole_ℚ}
-use Rattle.tetri_algebra.specs.RationalRing.{◌*ℚ◌, whole_ℚ-*ℤ}
+use Rattle.tetri_algebra.specs.RationalRing.{◌*ℚ◌, num-whole_ℚ, whole_ℚ-*ℤ}
 use Rattle.tetri_num.specs.declared.places.Place.{Place}
 use Rattle.tetri_ip.specs.declared.programs.Program.{Program}
 use Rattle.tetri_ip.specs.declared.programs.Weight.{Weight}
@@ -60,8 +60,8 @@ capped_at_most (pos m) n h = omega (arith, ints)
 capped_at_most (negsuc m) n h = omega arith
 
 natural_above : (z : ℤ) (known : ℕ) → z ≤ℤ pos (max known (natural z))
-natural_above (pos m) known h = omega (arith, ints)
-natural_above (negsuc m) known h = omega (arith, ints)
+natural_above (pos m) known = omega (arith, ints)
+natural_above (negsuc m) known = omega (arith, ints)
 
 by_one : (z : ℤ) → int_div_euclid z (pos 1) ≡ z
 by_one z = between (int_div_euclid z (pos 1)) (div_below z (pos 1) one) (div_above z (pos 1) one)
