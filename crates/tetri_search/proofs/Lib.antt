@@ -7,3 +7,7 @@ pub mod ProperLemmas
 pub mod CountLemmas
 pub mod SpentLemmas
 pub mod PlainLemmas
+pub mod LoopLemmas
+pub mod LastLemmas
+pub mod StepLemmas
+mod Examples

@@ -1,8 +1,11 @@
 -- What the code keeps of open nodes, as the definitions speak of it.
-use Rattle.std.specs.Prelude.{◌≡◌, ℕ, List, [], ◌∷◌, map, reverse, Option, Some, None}
+use Rattle.std.specs.Prelude.{◌≡◌, ℕ, ◌<◌, ◌^◌, List, [], ◌∷◌, length, map, reverse, All, Option, Some, None, ◌≤ℤ◌, ◌<ℤ◌, pos}
 use Rattle.std.specs.declared.rc.Rc.{Rc}
 use Rattle.std.specs.Global.{Global}
-use Rattle.tetri_ip.specs.Points.{Bounds, bounds_of}
+use Rattle.tetri_ip.specs.declared.programs.Program.{Program}
+use Rattle.tetri_ip.specs.declared.programs.Region.{Region}
+use Rattle.tetri_ip.specs.Points.{Bounds, IsInBox, bounds_of}
+use Rattle.tetri_cert.specs.declared.turns.Turn.{Turn}
 use Rattle.tetri_cert.specs.declared.marks.Mark.{Mark}
 use Rattle.tetri_cert.specs.declared.marks.Mark.TheVariants.{Split, Close, Whole, Rest}
 use Rattle.tetri_search.specs.declared.duals.Dual.{Dual}
@@ -28,3 +31,15 @@ IfSplit (Split j at licence) P = P
 IfSplit (Close q ws) P = Unit {0}
 IfSplit (Whole q ws worth cells) P = Unit {0}
 IfSplit (Rest q ws) P = Unit {0}
+
+-- a region in the box, and a way back over its columns
+pub record IsOnRegion (p : Program) (r : Region) (trail : List Turn) : Type 0 where
+  pub in_box : IsInBox p (bounds_of r)
+  pub columns : All (λ t. t.column < length r.lower.items) trail
+
+-- a whole point's objective is below 2^64
+abbrev pub IsNatural : Mark → Type 0
+IsNatural (Split j at licence) = Unit {0}
+IsNatural (Close q ws) = Unit {0}
+IsNatural (Whole q ws worth cells) = (pos 0 ≤ℤ worth) × (worth <ℤ pos (2 ^ 64))
+IsNatural (Rest q ws) = Unit {0}

@@ -3,6 +3,7 @@
 ghost use Rattle.std.specs.Prelude.{◌≡◌, ◌<◌, ◌≤◌, ◌+◌, ◌^◌, ℕ, List, [], ◌∷◌, All, Bool, IfOk, IfSome, OnOk, Some, cond, length, option_map, pos, reverse, vec_len, ◌≤ℤ◌, ◌<ℤ◌};
 ghost use Rattle.tetri_ip.specs.ColumnIndex.{IsIndexOf};
 ghost use Rattle.tetri_ip.specs.Points.{IsFit, IsInBox, IsPoint, bounds_of, box_of};
+ghost use Rattle.tetri_cert.specs.declared.marks.Cell.{Cell};
 ghost use Rattle.tetri_cert.specs.Cells.{AreOfColumns, point_of};
 ghost use Rattle.tetri_cert.specs.NodeBounds.{sides_before};
 ghost use Rattle.tetri_cert.specs.NodeText.{HasShortLists, IsPlain};
@@ -41,7 +42,7 @@ pub struct Found {
 // The open nodes: the region of the next one, the way back to those of the others, and the weights
 // above each, the next one's last.
 #[derive(Drop)]
-struct Open {
+struct Front {
     region: Region,
     trail: Vec<Turn>,
     duals: Vec<Option<Rc<Dual>>>,
@@ -63,27 +64,27 @@ fn visit(
     best: u64,
     left: bool,
     above: Option<Rc<Dual>>,
-    open: &mut Open,
+    front: &mut Front,
 ) -> Result<Mark, AllocError>
     requires fit { IsFit p.now }
     requires index { IsIndexOf p.now index.now }
-    requires at { IsOnRegion p.now open.old.region open.old.trail.items }
+    requires at { IsOnRegion p.now front.old.region front.old.trail.items }
     requires dual { IfDual p.now (dual_of_rc above) }
-    ensures mark { IfOk result (λ m. m ≡ table p.now (record { region = bounds_of open.old.region; dual = dual_of_rc above }) best left) }
-    ensures regions { IfOk result (λ m. (live : Bool) × (cond live (bounds_of open.new.region ∷ pending (bounds_of open.new.region) (reverse open.new.trail.items)) []
-        ≡ sides_before (bounds_of open.old.region) m (pending (bounds_of open.old.region) (reverse open.old.trail.items)))) }
-    ensures duals { IfOk result (λ m. duals_of open.new.duals.items
-        ≡ duals_before (dual_below p.now (record { region = bounds_of open.old.region; dual = dual_of_rc above }) best) m (duals_of open.old.duals.items)) }
-    ensures lower { OnOk result (length open.new.region.lower.items ≡ length open.old.region.lower.items) }
-    ensures upper { OnOk result (length open.new.region.upper.items ≡ length open.old.region.upper.items) }
-    ensures columns { OnOk result (All (λ t. t.column < length open.new.region.lower.items) open.new.trail.items) }
+    ensures mark { IfOk result (λ m. m ≡ table p.now (record { region = bounds_of front.old.region; dual = dual_of_rc above }) best left) }
+    ensures regions { IfOk result (λ m. (live : Bool) × (cond live (bounds_of front.new.region ∷ pending (bounds_of front.new.region) (reverse front.new.trail.items)) []
+        ≡ sides_before (bounds_of front.old.region) m (pending (bounds_of front.old.region) (reverse front.old.trail.items)))) }
+    ensures duals { IfOk result (λ m. duals_of front.new.duals.items
+        ≡ duals_before (dual_below p.now (record { region = bounds_of front.old.region; dual = dual_of_rc above }) best) m (duals_of front.old.duals.items)) }
+    ensures lower { OnOk result (length front.new.region.lower.items ≡ length front.old.region.lower.items) }
+    ensures upper { OnOk result (length front.new.region.upper.items ≡ length front.old.region.upper.items) }
+    ensures columns { OnOk result (All (λ t. t.column < length front.new.region.lower.items) front.new.trail.items) }
     ensures narrow { IfOk result (λ m. IsNarrow m) }
-    ensures room { OnOk result (vec_len open.new.duals ≤ vec_len open.old.duals + 2) }
-    ensures still { left ≡ false → OnOk result (vec_len open.new.duals ≡ vec_len open.old.duals) }
+    ensures room { OnOk result (vec_len front.new.duals ≤ vec_len front.old.duals + 2) }
+    ensures still { left ≡ false → OnOk result (vec_len front.new.duals ≡ vec_len front.old.duals) }
 {
-    let Written { mark, own } = write_mark(alloc, index, p, &open.region, &above, best, left)?;
-    push_duals(alloc, &mut open.duals, own, above, &mark)?;
-    turn_on(&mut open.region, &mut open.trail, &mark)?;
+    let Written { mark, own } = write_mark(alloc, index, p, &front.region, &above, best, left)?;
+    push_duals(alloc, &mut front.duals, own, above, &mark)?;
+    turn_on(&mut front.region, &mut front.trail, &mark)?;
     Ok(mark)
 }
 
@@ -122,18 +123,18 @@ fn grow(
     ensures short { (most : ℕ) → length p.now.costs.items ≤ most → length p.now.rows.items ≤ most → IfOk result (λ g. All (HasShortLists most) g.marks) }
 {
     let index = ColumnIndex::new(alloc, p)?;
-    let mut open = Open {
+    let mut front = Front {
         region: Region::whole(alloc, p)?,
         trail: Vec::new(alloc),
         duals: Vec::new(alloc),
     };
-    open.duals.push(None)?;
+    front.duals.push(None)?;
     let mut marks = Items::new(alloc);
     let mut best = low;
     let mut used = 0;
-    while let Some(above) = open.duals.pop() {
+    while let Some(above) = front.duals.pop() {
         let left = used < budget;
-        let mark = visit(alloc, &index, p, best, left, above, &mut open)?;
+        let mark = visit(alloc, &index, p, best, left, above, &mut front)?;
         best = better(best, &mark);
         used = count(used, left);
         marks.push(mark)?;
@@ -143,7 +144,7 @@ fn grow(
 
 // The point of the last mark that has one.
 fn last_point(alloc: Global, columns: usize, marks: &[Mark]) -> Result<Option<Vec<i128>>, AllocError>
-    requires { (cells : List _) → last_whole marks.now ≡ Some cells → AreOfColumns columns cells }
+    requires { (cells : List Cell) → last_whole marks.now ≡ Some cells → AreOfColumns columns cells }
     ensures { IfOk result (λ o. option_map (λ v. v.items) o ≡ option_map (point_of columns) (last_whole marks.now)) }
 {
     for i in (0..marks.len()).rev() {

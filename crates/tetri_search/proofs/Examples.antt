@@ -1,0 +1,119 @@
+-- The definitions of a search compute: a program of two columns with the costs 0 and 2 in the box 0..1 and 0..3,
+-- whose rows say that the second column is at most four times the first, and at most 3.
+use Rattle.std.proofs.Common.{◌≡◌, ℕ, ◌^◌, ◌<◌, ◌≤◌, refl, arith, List, [], ◌∷◌, map, length, true, false, Option, Some, None}
+use Rattle.std.specs.Global.{Vec, Global}
+use denote.RawPtr.{Ptr}
+use lib.IntN.{ℤ, pos, negsuc}
+use Rattle.tetri_algebra.specs.Gcd.{gcd_of, gcd_within}
+use Rattle.tetri_algebra.specs.Rational.{ℚ, whole_ℚ, fraction}
+use Rattle.tetri_algebra.specs.RationalRing.{neg_ℚ}
+use Rattle.tetri_ip.specs.declared.programs.Program.{Program}
+use Rattle.tetri_ip.specs.declared.programs.Row.{Row}
+use Rattle.tetri_ip.specs.declared.programs.Term.{Term}
+use Rattle.tetri_ip.specs.Points.{Bounds, box_of}
+use Rattle.tetri_simplex.specs.Start.{first_table}
+use Rattle.tetri_simplex.specs.Choices.{leaving}
+use Rattle.tetri_simplex.specs.Machine.{machine, run, turn, next}
+use Rattle.tetri_cert.specs.declared.marks.Cell.{Cell}
+use Rattle.tetri_cert.specs.declared.marks.Mark.{Mark}
+use Rattle.tetri_cert.specs.declared.marks.Mark.TheVariants.{Split, Close, Whole, Rest}
+use Rattle.tetri_search.specs.declared.branches.Branch.{Branch}
+use Rattle.tetri_search.specs.declared.duals.Dual.{Dual}
+use Rattle.tetri_search.specs.Table.{Node, broken_from, rest_mark, table, wide_from, worked_mark}
+
+abbrev vec_of : {X : Type 0} → Ptr → Global → (xs : List X) → length xs < 2 ^ 63 → Vec X
+vec_of at g xs h = record { ptr = at; len = length xs; cap = length xs; alloc = g; items = xs; ok = (refl, le_self (length xs)); small = h }
+  where
+    le_self : (n : ℕ) → n ≤ n
+    le_self n = omega arith
+
+abbrev row_of : Ptr → Global → (ts : List Term) → length ts < 2 ^ 63 → ℤ → Row
+row_of at g ts h right = record { terms = vec_of at g ts h; right = right }
+
+abbrev times : ℕ → ℤ → Term
+times j z = record { column = j; by = z }
+
+abbrev linear : Ptr → Global → Program
+linear at g =
+    record {
+      costs = vec_of at g (pos 0 ∷ pos 2 ∷ []) (omega arith);
+      lower = vec_of at g (pos 0 ∷ pos 0 ∷ []) (omega arith);
+      upper = vec_of at g (pos 1 ∷ pos 3 ∷ []) (omega arith);
+      rows = vec_of at g (row_of at g (times 0 (negsuc 3) ∷ times 1 (pos 1) ∷ []) (omega arith) (pos 0) ∷ row_of at g (times 1 (pos 1) ∷ []) (omega arith) (pos 3) ∷ []) (omega arith);
+    }
+
+abbrev node : List ℤ → List ℤ → Option Dual → Node
+node ls us d = record { region = record { lower = ls; upper = us }; dual = d }
+
+-- ---- the columns at which a region is split
+-- the second column is the first with more than one number; the middle of 0 and 3 is 1
+wide_second : wide_from 0 (pos 1 ∷ pos 0 ∷ []) (pos 1 ∷ pos 3 ∷ []) ≡ Some (record { column = 1; at = pos 1 })
+wide_second = refl
+
+-- the middle of -3 and 0 is -2
+wide_below_zero : wide_from 0 (negsuc 2 ∷ []) (pos 0 ∷ []) ≡ Some (record { column = 0; at = negsuc 1 })
+wide_below_zero = refl
+
+wide_nowhere : wide_from 0 (pos 1 ∷ pos 3 ∷ []) (pos 1 ∷ pos 3 ∷ []) ≡ None
+wide_nowhere = refl
+
+-- 3/4 is not whole, its floor is 0
+broken_first : broken_from 0 (fraction (pos 3) 4 ∷ whole_ℚ (pos 3) ∷ []) ≡ Some (record { column = 0; at = pos 0 })
+unfolding fraction whole_ℚ gcd_of gcd_within
+broken_first = refl
+
+-- ---- regions of one point
+-- the point 1, 3 is worth 6
+single_whole : (at : Ptr) (g : Global) → table (linear at g) (node (pos 1 ∷ pos 3 ∷ []) (pos 1 ∷ pos 3 ∷ []) None) 5 true ≡ Whole (pos 1) [] (pos 6) (record { column = 0; value = pos 1 } ∷ record { column = 1; value = pos 3 } ∷ [])
+unfolding table worked_mark
+single_whole at g = refl
+
+-- that is no better than 6
+single_closed : (at : Ptr) (g : Global) → table (linear at g) (node (pos 1 ∷ pos 3 ∷ []) (pos 1 ∷ pos 3 ∷ []) None) 6 true ≡ Close (pos 1) []
+unfolding table worked_mark
+single_closed at g = refl
+
+-- the point 0, 1 breaks the first row
+single_broken : (at : Ptr) (g : Global) → table (linear at g) (node (pos 0 ∷ pos 1 ∷ []) (pos 0 ∷ pos 1 ∷ []) None) 0 true ≡ Close (pos 0) (record { row = 0; by = pos 1 } ∷ [])
+unfolding table worked_mark
+single_broken at g = refl
+
+-- ---- nodes that are left open
+rest_without_weights : (at : Ptr) (g : Global) → table (linear at g) (node (pos 0 ∷ pos 0 ∷ []) (pos 1 ∷ pos 3 ∷ []) None) 0 false ≡ Rest (pos 1) []
+unfolding table rest_mark
+rest_without_weights at g = refl
+
+rest_with_weights : (at : Ptr) (g : Global) → table (linear at g) (node (pos 0 ∷ pos 0 ∷ []) (pos 0 ∷ pos 3 ∷ []) (Some (record { q = pos 1; weights = record { row = 1; by = pos 2 } ∷ [] }))) 0 false ≡ Rest (pos 1) (record { row = 1; by = pos 2 } ∷ [])
+unfolding table rest_mark
+rest_with_weights at g = refl
+
+-- weights with which weighing leaves the range are not taken
+rest_past_the_range : (at : Ptr) (g : Global) → table (linear at g) (node (pos 0 ∷ pos 0 ∷ []) (pos 0 ∷ pos 3 ∷ []) (Some (record { q = pos 1; weights = record { row = 1; by = pos (2 ^ 126) } ∷ [] }))) 0 false ≡ Rest (pos 1) []
+unfolding table rest_mark
+rest_past_the_range at g = refl
+
+-- ---- runs
+-- the low side of the first column is closed once 6 is known
+low_side_closed : (at : Ptr) (g : Global) → table (linear at g) (node (pos 0 ∷ pos 0 ∷ []) (pos 0 ∷ pos 3 ∷ []) None) 6 true ≡ Close (pos 1) []
+unfolding table worked_mark machine run turn first_table leaving whole_ℚ gcd_of gcd_within neg_ℚ
+low_side_closed at g = refl
+
+-- its high side is the whole point 1, 3, with no weights
+high_side_whole : (at : Ptr) (g : Global) → table (linear at g) (node (pos 1 ∷ pos 0 ∷ []) (pos 1 ∷ pos 3 ∷ []) None) 0 true ≡ Whole (pos 1) [] (pos 6) (record { column = 0; value = pos 1 } ∷ record { column = 1; value = pos 3 } ∷ [])
+unfolding table worked_mark machine run turn first_table leaving whole_ℚ gcd_of gcd_within neg_ℚ
+high_side_whole at g = refl
+
+-- in the whole box the best point is 3/4, 3
+data Shown : Type 0 where
+  split_at : ℕ → ℤ → Shown
+  other : Shown
+
+abbrev shown : Mark → Shown
+shown (Split j at licence) = split_at j at
+shown (Close q ws) = other
+shown (Whole q ws worth cells) = other
+shown (Rest q ws) = other
+
+root_splits : (at : Ptr) (g : Global) → shown (table (linear at g) (node (pos 0 ∷ pos 0 ∷ []) (pos 1 ∷ pos 3 ∷ []) None) 0 true) ≡ split_at 0 (pos 0)
+unfolding table worked_mark machine run turn next first_table leaving whole_ℚ gcd_of gcd_within neg_ℚ
+root_splits at g = refl
