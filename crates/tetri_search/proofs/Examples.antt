@@ -5,7 +5,7 @@ use Rattle.std.specs.Global.{Vec, Global}
 use denote.RawPtr.{Ptr}
 use lib.IntN.{ℤ, pos, negsuc}
 use Rattle.tetri_algebra.specs.Gcd.{gcd_of, gcd_within}
-use Rattle.tetri_algebra.specs.Rational.{ℚ, whole_ℚ, fraction}
+use Rattle.tetri_algebra.specs.Rational.{ℚ, whole_ℚ}
 use Rattle.tetri_algebra.specs.RationalRing.{neg_ℚ}
 use Rattle.tetri_ip.specs.declared.programs.Program.{Program}
 use Rattle.tetri_ip.specs.declared.programs.Row.{Row}
@@ -13,13 +13,19 @@ use Rattle.tetri_ip.specs.declared.programs.Term.{Term}
 use Rattle.tetri_ip.specs.Points.{Bounds, box_of}
 use Rattle.tetri_simplex.specs.Start.{first_table}
 use Rattle.tetri_simplex.specs.Choices.{leaving}
-use Rattle.tetri_simplex.specs.Machine.{machine, run, turn, next}
+use Rattle.tetri_simplex.specs.Ends.{best, long}
+use Rattle.tetri_simplex.specs.Machine.{machine, run, turn}
 use Rattle.tetri_cert.specs.declared.marks.Cell.{Cell}
+use Rattle.tetri_cert.specs.Numbers.{frac_of}
+use Rattle.tetri_cert.specs.declared.marks.FracCell.{FracCell}
+use Rattle.tetri_cert.specs.declared.marks.Licence.TheVariants as licences
 use Rattle.tetri_cert.specs.declared.marks.Mark.{Mark}
 use Rattle.tetri_cert.specs.declared.marks.Mark.TheVariants.{Split, Close, Whole, Rest}
 use Rattle.tetri_search.specs.declared.branches.Branch.{Branch}
 use Rattle.tetri_search.specs.declared.duals.Dual.{Dual}
-use Rattle.tetri_search.specs.Table.{Node, broken_from, rest_mark, table, wide_from, worked_mark}
+use Rattle.tetri_search.specs.Table.{Node, broken_from, end_mark, rest_mark, table, wide_from, worked_mark}
+use Rattle.tetri_search.specs.Follow.{best_behind, last_whole}
+use Rattle.tetri_search.specs.Laws.{enough}
 
 abbrev vec_of : {X : Type 0} → Ptr → Global → (xs : List X) → length xs < 2 ^ 63 → Vec X
 vec_of at g xs h = record { ptr = at; len = length xs; cap = length xs; alloc = g; items = xs; ok = (refl, le_self (length xs)); small = h }
@@ -45,6 +51,27 @@ linear at g =
 abbrev node : List ℤ → List ℤ → Option Dual → Node
 node ls us d = record { region = record { lower = ls; upper = us }; dual = d }
 
+lowest_quarters : gcd_of 3 4 ≡ 1
+unfolding gcd_of gcd_within
+lowest_quarters = refl
+
+lowest_three : gcd_of 3 1 ≡ 1
+unfolding gcd_of gcd_within
+lowest_three = refl
+
+lowest_one : gcd_of 1 1 ≡ 1
+unfolding gcd_of gcd_within
+lowest_one = refl
+
+abbrev three_quarters : ℚ
+three_quarters = record { num = pos 3; den = 4; positive = omega arith; lowest = lowest_quarters }
+
+abbrev three : ℚ
+three = record { num = pos 3; den = 1; positive = omega arith; lowest = lowest_three }
+
+abbrev one : ℚ
+one = record { num = pos 1; den = 1; positive = omega arith; lowest = lowest_one }
+
 -- ---- the columns at which a region is split
 -- the second column is the first with more than one number; the middle of 0 and 3 is 1
 wide_second : wide_from 0 (pos 1 ∷ pos 0 ∷ []) (pos 1 ∷ pos 3 ∷ []) ≡ Some (record { column = 1; at = pos 1 })
@@ -58,9 +85,11 @@ wide_nowhere : wide_from 0 (pos 1 ∷ pos 3 ∷ []) (pos 1 ∷ pos 3 ∷ []) ≡
 wide_nowhere = refl
 
 -- 3/4 is not whole, its floor is 0
-broken_first : broken_from 0 (fraction (pos 3) 4 ∷ whole_ℚ (pos 3) ∷ []) ≡ Some (record { column = 0; at = pos 0 })
-unfolding fraction whole_ℚ gcd_of gcd_within
+broken_first : broken_from 0 (three_quarters ∷ three ∷ []) ≡ Some (record { column = 0; at = pos 0 })
 broken_first = refl
+
+broken_nowhere : broken_from 0 (one ∷ three ∷ []) ≡ None
+broken_nowhere = refl
 
 -- ---- regions of one point
 -- the point 1, 3 is worth 6
@@ -98,22 +127,39 @@ low_side_closed : (at : Ptr) (g : Global) → table (linear at g) (node (pos 0 �
 unfolding table worked_mark machine run turn first_table leaving whole_ℚ gcd_of gcd_within neg_ℚ
 low_side_closed at g = refl
 
--- its high side is the whole point 1, 3, with no weights
-high_side_whole : (at : Ptr) (g : Global) → table (linear at g) (node (pos 1 ∷ pos 0 ∷ []) (pos 1 ∷ pos 3 ∷ []) None) 0 true ≡ Whole (pos 1) [] (pos 6) (record { column = 0; value = pos 1 } ∷ record { column = 1; value = pos 3 } ∷ [])
-unfolding table worked_mark machine run turn first_table leaving whole_ℚ gcd_of gcd_within neg_ℚ
-high_side_whole at g = refl
-
--- in the whole box the best point is 3/4, 3
+-- what a mark shows, a point as its columns with their numerators and denominators
 data Shown : Type 0 where
-  split_at : ℕ → ℤ → Shown
+  split_at : ℕ → ℤ → List (ℕ × ℤ × ℤ) → Shown
   other : Shown
 
 abbrev shown : Mark → Shown
-shown (Split j at licence) = split_at j at
+shown (Split j at (licences.Point cells)) = split_at j at (map (λ (c : FracCell). (c.column, c.value.num, c.value.den)) cells)
+shown (Split j at (licences.Past place)) = other
+shown (Split j at licences.Long) = other
 shown (Close q ws) = other
 shown (Whole q ws worth cells) = other
 shown (Rest q ws) = other
 
-root_splits : (at : Ptr) (g : Global) → shown (table (linear at g) (node (pos 0 ∷ pos 0 ∷ []) (pos 1 ∷ pos 3 ∷ []) None) 0 true) ≡ split_at 0 (pos 0)
-unfolding table worked_mark machine run turn next first_table leaving whole_ℚ gcd_of gcd_within neg_ℚ
-root_splits at g = refl
+-- a best point 3/4, 3 splits the first column at 0
+best_splits : (at : Ptr) (g : Global) → shown (end_mark (linear at g) (record { column = 0; at = pos 0 }) (best (three_quarters ∷ three ∷ []) (pos 1) [])) ≡ split_at 0 (pos 0) ((0, pos 3, pos 4) ∷ (1, pos 3, pos 1) ∷ [])
+unfolding frac_of gcd_of gcd_within
+best_splits at g = refl
+
+-- a best point 1, 3 is a whole point worth 6
+best_whole : (at : Ptr) (g : Global) → end_mark (linear at g) (record { column = 0; at = pos 0 }) (best (one ∷ three ∷ []) (pos 1) []) ≡ Whole (pos 1) [] (pos 6) (record { column = 0; value = pos 1 } ∷ record { column = 1; value = pos 3 } ∷ [])
+best_whole at g = refl
+
+-- a run that was too long splits the first column with more than one number in its middle
+long_splits : (at : Ptr) (g : Global) → end_mark (linear at g) (record { column = 1; at = pos 1 }) long ≡ Split 1 (pos 1) licences.Long
+long_splits at g = refl
+
+-- ---- the sums behind marks
+best_of_two : best_behind 4 (Split 0 (pos 0) licences.Long ∷ Whole (pos 1) [] (pos 6) [] ∷ Whole (pos 1) [] (pos 5) [] ∷ []) ≡ 6
+best_of_two = refl
+
+last_of_two : last_whole (Whole (pos 1) [] (pos 6) (record { column = 0; value = pos 1 } ∷ []) ∷ Whole (pos 1) [] (pos 7) [] ∷ Rest (pos 1) [] ∷ []) ≡ Some []
+last_of_two = refl
+
+-- the box 0..1, 0..3 has 8 points
+enough_of_box : (at : Ptr) (g : Global) → enough (linear at g) ≡ 16
+enough_of_box at g = refl

@@ -1,14 +1,16 @@
 -- The point of the last mark that has one.
-use Rattle.std.proofs.Common.{◌≡◌, ℕ, ◌+◌, ◌<◌, refl, sym, ap, ◌∙◌, subst, arith, List, [], ◌∷◌, length, get_or, drop, Option, Some, None}
+use Rattle.std.proofs.Common.{◌≡◌, ℕ, ◌+◌, ◌-◌, ◌<◌, ◌≤◌, refl, sym, ap, ◌∙◌, subst, arith, List, [], ◌∷◌, length, get_or, drop, Option, Some, None}
 use Prim.Native.Nat.{zero, suc}
 use Rattle.std.specs.Prelude.{IfSome, option_map}
 use Rattle.std.specs.Global.{Vec}
 use Rattle.std.proofs.Math.Seq.{drop-cons}
 use lib.IntN.{ℤ}
 use Rattle.tetri_ip.specs.declared.programs.Program.{Program}
+use Rattle.tetri_ip.specs.declared.programs.Weight.{Weight}
 use Rattle.tetri_ip.specs.Points.{IsPoint, box_of}
 use Rattle.tetri_cert.specs.declared.marks.Cell.{Cell}
 use Rattle.tetri_cert.specs.declared.marks.Mark.{Mark}
+use Rattle.tetri_cert.specs.declared.marks.Mark.TheVariants.{Whole}
 use Rattle.tetri_cert.specs.Cells.{AreOfColumns, point_of}
 use Rattle.tetri_search.specs.Follow.{last_or, last_whole}
 use Rattle.tetri_search.specs.Nodes.{AreWholePoints}
@@ -23,9 +25,17 @@ last_here ms i m l e h =
     ∙ ap (λ (o : Option (List Cell)). last_or o m) h
 
 pub last_of_all : (ms : List Mark) (i : ℕ) (cells : List Cell) → last_whole (drop i ms) ≡ Some cells → last_whole ms ≡ Some cells
-last_of_all [] i cells e = e
+last_of_all [] zero cells e = e
+last_of_all [] (suc i) cells e = e
 last_of_all (m ∷ ms) zero cells e = e
 last_of_all (m ∷ ms) (suc i) cells e = ap (λ (o : Option (List Cell)). last_or o m) (last_of_all ms i cells e)
+
+-- the mark before a place, where none behind it has a point
+pub last_before : (ms : List Mark) (i : ℕ) (m : Mark) (q : ℤ) (ws : List Weight) (worth : ℤ) (cells : List Cell) → 0 < i → i ≤ length ms → m ≡ get_or ms (i - 1) m → m ≡ Whole q ws worth cells → last_whole (drop i ms) ≡ None → last_whole ms ≡ Some cells
+last_before ms i m q ws worth cells h l e w n =
+    let s : (i - 1) + 1 ≡ i = omega arith in
+    last_of_all ms (i - 1) cells
+    (last_here ms (i - 1) m (omega arith) e (ap (λ k. last_whole (drop k ms)) s ∙ n) ∙ ap (λ (x : Mark). last_or None x) w)
 
 pub last_columns : (p : Program) (n : ℕ) (ms : List Mark) (cells : List Cell) → n ≡ length p.costs.items → AreWholePoints p ms → last_whole ms ≡ Some cells → AreOfColumns n cells
 last_columns p n ms cells e w h = subst (λ k. AreOfColumns k cells) (sym e) (last_is_point p ms cells w h).0

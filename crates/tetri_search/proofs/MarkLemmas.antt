@@ -18,6 +18,7 @@ use Rattle.tetri_search.specs.declared.branches.Branch.{Branch}
 use Rattle.tetri_search.specs.declared.duals.Dual.{Dual}
 use Rattle.tetri_search.specs.Table.{Node, best_by, broken_from, end_mark, rest_by, rest_mark, single_by, table, wide_from, worked_by, worked_mark}
 use Rattle.tetri_search.specs.Laws.{is_rest}
+use Rattle.tetri_search.specs.Views.{IfSplit}
 
 best_written : (o : Option Branch) (p : Program) (point : List ℚ) (q : ℤ) (ws : List Weight) → is_rest (best_by o p point q ws) ≡ false
 best_written None p point q ws = refl
@@ -64,3 +65,9 @@ pub rest_is_rest : (t : Bool) (p : Program) (n : Node) (known : ℕ) (m : Mark) 
 unfolding table
 rest_is_rest true p n known m e w = absurd (false≢true (sym e))
 rest_is_rest false p n known m e w = ap is_rest w ∙ rest_rest p n.region n.dual
+
+pub if_rest : (m : Mark) (P : Type 0) → is_rest m ≡ true → IfSplit m P
+if_rest (Split j at licence) P h = absurd (false≢true h)
+if_rest (Close q ws) P h = tt
+if_rest (Whole q ws worth cells) P h = tt
+if_rest (Rest q ws) P h = tt

@@ -11,6 +11,8 @@ use lib.Signed.{le_z}
 use Rattle.tetri_algebra.specs.IntegerRing.{ℤ_ring}
 use Rattle.tetri_algebra.specs.Rational.{ℚ}
 use Rattle.tetri_algebra.specs.Sums.{dot}
+use Rattle.tetri_num.specs.declared.fractions.Frac.{Frac}
+use Rattle.tetri_num.specs.Frac.{value}
 use Rattle.tetri_num.specs.Range.{IsWithin}
 use Rattle.tetri_ip.specs.declared.programs.Program.{Program}
 use Rattle.tetri_ip.specs.declared.programs.Weight.{Weight}
@@ -72,6 +74,13 @@ plain_weights p ws f r a z w = plain_from (length p.rows.items) 0 ws (few_rows p
 
 short_weights : (p : Program) (ws : List Weight) → AreOfRows p ws → WeightsAscend ws → length ws ≤ length p.rows.items
 short_weights p ws r a = let h = length_from (length p.rows.items) 0 ws (omega arith) r a (λ l. omega arith) in omega arith
+
+-- the number of a row fits a cell of a weight
+pub unmet_fits : (p : Program) (xs : List ℤ) (i : ℕ) → IsFit p → first_unmet_from 0 p.rows.items xs ≡ Some i → i < 2 ^ 32
+unmet_fits p xs i f e =
+    let u = first_unmet_some 0 p.rows.items xs i e in
+    let n = f.few_rows in
+    omega (arith, u.number, u.in_list)
 
 -- ---- numbers in the box
 within_between : (l x u : ℤ) → IsWithin l → IsWithin u → l ≤ℤ x → x ≤ℤ u → IsWithin x
@@ -171,6 +180,13 @@ single_listed p b known f h None e = by_test (le_z (objective p b.lower) (pos kn
       plain = (small_within 1 (omega arith), tt, objective_within p b.lower f h.lower_count (lower_between p b h), plain_cells p b.lower f h.lower_count (lower_between p b h));
       short = λ most c r. (omega arith, le_trans _ _ _ (cells_of-length b.lower) (subst (λ k. k ≤ most) (sym h.lower_count) c));
     }
+
+-- a whole best point lies in the box
+pub best_in_box : (p : Program) (b : Bounds) (known : ℕ) (point xs : List Frac) (q : ℤ) (ws : List Weight) → IsInBox p b → CertifiesBest p b known (map value point) q ws → xs ≡ point → broken_from 0 (map value xs) ≡ None → IsBetween (length p.costs.items) p.lower.items (numerators (map value xs)) p.upper.items
+best_in_box p b known point xs q ws h z e n =
+    let w = not_broken 0 (map value point) (ap (λ (ys : List Frac). broken_from 0 (map value ys)) (sym e) ∙ n) in
+    subst (λ (ys : List Frac). IsBetween (length p.costs.items) p.lower.items (numerators (map value ys)) p.upper.items) (sym e)
+    (in_program_box p b (numerators (map value point)) h (whole_point p b (map value point) z.relaxed w))
 
 best_listed : (p : Program) (b : Bounds) (known : ℕ) (point : List ℚ) (q : ℤ) (ws : List Weight) → IsFit p → IsInBox p b → CertifiesBest p b known point q ws → (o : Option Branch) → broken_from 0 point ≡ o → IsSound p b (best_by o p point q ws) → IsListed p (best_by o p point q ws)
 best_listed p b known point q ws f h z (Some c) e s =

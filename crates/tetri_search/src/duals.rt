@@ -1,7 +1,8 @@
 //! Weights of the rows, and how often the objective is taken beside them.
 
-ghost use Rattle.std.specs.Prelude.{◌≡◌, ◌≤◌, ◌+◌, IfOk, OnOk, vec_len};
+ghost use Rattle.std.specs.Prelude.{◌≡◌, ◌≤◌, ◌+◌, true, IfOk, OnOk, vec_len};
 ghost use Rattle.tetri_search.specs.Follow.{dual_or};
+ghost use Rattle.tetri_search.specs.Laws.{is_rest};
 ghost use Rattle.tetri_search.specs.Views.{dual_of_rc, duals_before, duals_of};
 
 use std::alloc::{AllocError, Global};
@@ -50,6 +51,7 @@ pub(crate) fn push_duals(
 ) -> Result<(), AllocError>
     ensures duals { OnOk result (duals_of duals.new.items ≡ duals_before (dual_or own (dual_of_rc above)) mark.now (duals_of duals.old.items)) }
     ensures room { OnOk result (vec_len duals.new ≤ vec_len duals.old + 2) }
+    ensures still { is_rest mark.now ≡ true → OnOk result (vec_len duals.new ≡ vec_len duals.old) }
 {
     match mark {
         Mark::Split { .. } => {

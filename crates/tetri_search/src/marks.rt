@@ -1,6 +1,6 @@
 //! The mark of a node.
 
-ghost use Rattle.std.specs.Prelude.{◌≡◌, ◌≤◌, ◌^◌, ℕ, IfOk, Some, length, map, pos};
+ghost use Rattle.std.specs.Prelude.{◌≡◌, ◌≤◌, ◌^◌, ℕ, [], IfOk, length, map, pos};
 ghost use Rattle.tetri_num.specs.Frac.{value};
 ghost use Rattle.tetri_ip.specs.ColumnIndex.{IsIndexOf};
 ghost use Rattle.tetri_ip.specs.Points.{IsBetween, IsFit, IsInBox, bounds_of};

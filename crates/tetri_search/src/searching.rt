@@ -1,6 +1,6 @@
 //! The search.
 
-ghost use Rattle.std.specs.Prelude.{◌≡◌, ◌<◌, ◌≤◌, ◌+◌, ◌^◌, ℕ, List, [], ◌∷◌, All, Bool, IfOk, IfSome, OnOk, Some, cond, length, option_map, pos, reverse, vec_len, ◌≤ℤ◌, ◌<ℤ◌};
+ghost use Rattle.std.specs.Prelude.{◌≡◌, ◌<◌, ◌≤◌, ◌+◌, ◌-◌, ◌^◌, ℕ, List, [], ◌∷◌, All, Bool, true, false, IfOk, IfSome, OnOk, cond, length, option_map, pos, reverse, vec_len, ◌≤ℤ◌, ◌<ℤ◌};
 ghost use Rattle.tetri_ip.specs.ColumnIndex.{IsIndexOf};
 ghost use Rattle.tetri_ip.specs.Points.{IsFit, IsInBox, IsPoint, bounds_of, box_of};
 ghost use Rattle.tetri_cert.specs.declared.marks.Cell.{Cell};
