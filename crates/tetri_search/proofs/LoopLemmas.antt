@@ -215,3 +215,8 @@ used_is p n known used budget m false k b e h = h ∙ sym (used_more used m ∙ 
 
 pub used_within : (used budget k : ℕ) → used ≤ budget → k ≡ cond (nat_lt used budget) (used + 1) used → k ≤ budget
 used_within used budget k h e = grind (arith, nat_tests)
+
+pub stands_start : (p : Program) (low budget : ℕ) (ms : List Mark) (r : Region) (trail : List Turn) (ds : Duals) → IsFit p → bounds_of r ≡ box_of p → ms ≡ [] → trail ≡ [] → ds ≡ None ∷ [] → Stands p low budget ms r trail ds low 0
+stands_start p low budget ms r trail ds f b m t e =
+    subst (λ (xs : List Mark). Stands p low budget xs r trail ds low 0) (sym m)
+    (subst (λ (ts : List Turn). Stands p low budget [] r ts ds low 0) (sym t) (stands_first p low budget r None ds f b refl e))
