@@ -23,7 +23,7 @@ use Rattle.tetri_cert.specs.declared.marks.Mark.{Mark}
 use Rattle.tetri_cert.specs.declared.marks.Mark.TheVariants.{Split, Close, Whole, Rest}
 use Rattle.tetri_search.specs.declared.branches.Branch.{Branch}
 use Rattle.tetri_search.specs.declared.duals.Dual.{Dual}
-use Rattle.tetri_search.specs.Table.{Node, broken_from, end_mark, rest_mark, table, wide_from, worked_mark}
+use Rattle.tetri_search.specs.Table.{Node, fractional_from, end_mark, rest_mark, table, unfixed_from, worked_mark}
 use Rattle.tetri_search.specs.Follow.{best_behind, last_whole}
 use Rattle.tetri_search.specs.Laws.{enough}
 
@@ -74,22 +74,22 @@ one = record { num = pos 1; den = 1; positive = omega arith; lowest = lowest_one
 
 -- ---- the columns at which a region is split
 -- the second column is the first with more than one number; the middle of 0 and 3 is 1
-wide_second : wide_from 0 (pos 1 ∷ pos 0 ∷ []) (pos 1 ∷ pos 3 ∷ []) ≡ Some (record { column = 1; at = pos 1 })
-wide_second = refl
+unfixed_second : unfixed_from 0 (pos 1 ∷ pos 0 ∷ []) (pos 1 ∷ pos 3 ∷ []) ≡ Some (record { column = 1; at = pos 1 })
+unfixed_second = refl
 
 -- the middle of -3 and 0 is -2
-wide_below_zero : wide_from 0 (negsuc 2 ∷ []) (pos 0 ∷ []) ≡ Some (record { column = 0; at = negsuc 1 })
-wide_below_zero = refl
+unfixed_below_zero : unfixed_from 0 (negsuc 2 ∷ []) (pos 0 ∷ []) ≡ Some (record { column = 0; at = negsuc 1 })
+unfixed_below_zero = refl
 
-wide_nowhere : wide_from 0 (pos 1 ∷ pos 3 ∷ []) (pos 1 ∷ pos 3 ∷ []) ≡ None
-wide_nowhere = refl
+unfixed_nowhere : unfixed_from 0 (pos 1 ∷ pos 3 ∷ []) (pos 1 ∷ pos 3 ∷ []) ≡ None
+unfixed_nowhere = refl
 
 -- 3/4 is not whole, its floor is 0
-broken_first : broken_from 0 (three_quarters ∷ three ∷ []) ≡ Some (record { column = 0; at = pos 0 })
-broken_first = refl
+fractional_first : fractional_from 0 (three_quarters ∷ three ∷ []) ≡ Some (record { column = 0; at = pos 0 })
+fractional_first = refl
 
-broken_nowhere : broken_from 0 (one ∷ three ∷ []) ≡ None
-broken_nowhere = refl
+fractional_nowhere : fractional_from 0 (one ∷ three ∷ []) ≡ None
+fractional_nowhere = refl
 
 -- ---- regions of one point
 -- the point 1, 3 is worth 6

@@ -1,18 +1,19 @@
 -- The point of the last mark that has one.
 use Rattle.std.proofs.Common.{◌≡◌, ℕ, ◌+◌, ◌-◌, ◌<◌, ◌≤◌, refl, sym, ap, ◌∙◌, subst, arith, List, [], ◌∷◌, length, get_or, drop, Option, Some, None}
 use Prim.Native.Nat.{zero, suc}
-use Rattle.std.specs.Prelude.{IfSome, option_map}
+use Rattle.std.specs.Prelude.{IfSome, MatchOption, option_map}
 use Rattle.std.specs.Global.{Vec}
 use Rattle.std.proofs.Math.Seq.{drop-cons}
-use lib.IntN.{ℤ}
+use lib.IntN.{ℤ, pos}
 use Rattle.tetri_ip.specs.declared.programs.Program.{Program}
 use Rattle.tetri_ip.specs.declared.programs.Weight.{Weight}
-use Rattle.tetri_ip.specs.Points.{IsPoint, box_of}
+use Rattle.tetri_ip.specs.Points.{IsPoint, box_of, objective}
 use Rattle.tetri_cert.specs.declared.marks.Cell.{Cell}
 use Rattle.tetri_cert.specs.declared.marks.Mark.{Mark}
 use Rattle.tetri_cert.specs.declared.marks.Mark.TheVariants.{Whole}
 use Rattle.tetri_cert.specs.Cells.{AreOfColumns, point_of}
 use Rattle.tetri_search.specs.Follow.{last_or, last_whole}
+use Rattle.tetri_search.specs.Laws.{IsBestPoint}
 use Rattle.tetri_search.specs.Nodes.{AreWholePoints}
 use Rattle.tetri_search.proofs.ProperLemmas.{last_is_point}
 
@@ -49,3 +50,14 @@ last_in_box p n ms (Some v) e w h = by_last (last_whole ms) refl h
     by_last (Some cells) f g =
         let k : v.items ≡ point_of n cells = cc in
         subst (IsPoint p (box_of p)) (sym (k ∙ ap (λ i. point_of i cells) e)) (last_is_point p ms cells w f).1
+
+pub last_worth : (p : Program) (n low known : ℕ) (ms : List Mark) (o : Option (Vec ℤ)) → n ≡ length p.costs.items → IsBestPoint p low (last_whole ms) known → option_map (λ (v : Vec ℤ). v.items) o ≡ option_map (point_of n) (last_whole ms) → MatchOption o (known ≡ low) (λ v. pos known ≡ objective p v.items)
+last_worth p n low known ms o e w h = by_last (last_whole ms) o w h
+  where
+    by_last : (x : Option (List Cell)) (y : Option (Vec ℤ)) → IsBestPoint p low x known → option_map (λ (v : Vec ℤ). v.items) y ≡ option_map (point_of n) x → MatchOption y (known ≡ low) (λ v. pos known ≡ objective p v.items)
+    by_last None None g k = g
+    by_last None (Some v) g k = cc
+    by_last (Some cells) None g k = cc
+    by_last (Some cells) (Some v) g k =
+        let i : v.items ≡ point_of n cells = cc in
+        g ∙ ap (λ j. objective p (point_of j cells)) (sym e) ∙ ap (objective p) (sym i)

@@ -11,3 +11,5 @@ pub mod LoopLemmas
 pub mod LastLemmas
 pub mod StepLemmas
 mod Examples
+pub mod RiseLemmas
+pub mod SearchLaws

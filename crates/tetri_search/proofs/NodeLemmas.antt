@@ -32,7 +32,7 @@ use Rattle.tetri_cert.proofs.RegionLaws.{high_in_box, low_in_box}
 use Rattle.tetri_cert.proofs.PointLemmas.{in_program_box}
 use Rattle.tetri_search.specs.declared.branches.Branch.{Branch}
 use Rattle.tetri_search.specs.declared.duals.Dual.{Dual}
-use Rattle.tetri_search.specs.Table.{Node, rest_by, rest_mark, table, wide_from, worked_mark}
+use Rattle.tetri_search.specs.Table.{Node, rest_by, rest_mark, table, unfixed_from, worked_mark}
 use Rattle.tetri_search.specs.Follow.{dual_below, dual_by, dual_of, dual_or, open_behind, own_dual}
 use Rattle.tetri_search.specs.Nodes.{AreOpen, IfDual, IsDual, IsWholePoint}
 use Rattle.tetri_search.proofs.WorkedLemmas.{IsWorked, none_proper, proper_above, worked}
@@ -55,11 +55,11 @@ end_dual p b known long z = tt
 
 pub own_dual_is : (p : Program) (b : Bounds) (known : ℕ) → IsInBox p b → IfDual p (own_dual p b known)
 unfolding own_dual
-own_dual_is p b known h = by_wide (wide_from 0 b.lower b.upper)
+own_dual_is p b known h = by_column (unfixed_from 0 b.lower b.upper)
   where
-    by_wide : (o : Option Branch) → IfDual p (dual_by o p b known)
-    by_wide None = tt
-    by_wide (Some c) = end_dual p b known (machine p b known) (machine_certified p b known h)
+    by_column : (o : Option Branch) → IfDual p (dual_by o p b known)
+    by_column None = tt
+    by_column (Some c) = end_dual p b known (machine p b known) (machine_certified p b known h)
 
 pub dual_or_is : (p : Program) (own above : Option Dual) → IfDual p own → IfDual p above → IfDual p (dual_or own above)
 dual_or_is p None above h k = k

@@ -41,9 +41,9 @@ use Rattle.tetri_cert.proofs.PointLemmas.{in_program_box}
 use Rattle.tetri_cert.proofs.ProperTreeLaws.{IsSound}
 use Rattle.tetri_search.specs.declared.branches.Branch.{Branch}
 use Rattle.tetri_search.specs.declared.duals.Dual.{Dual}
-use Rattle.tetri_search.specs.Table.{Node, best_by, broken_from, end_mark, rest_by, rest_mark, single_by, table, wide_from, worked_by, worked_mark}
+use Rattle.tetri_search.specs.Table.{Node, best_by, fractional_from, end_mark, rest_by, rest_mark, single_by, table, unfixed_from, worked_by, worked_mark}
 use Rattle.tetri_search.specs.Nodes.{IfDual, IsDual, IsNarrow}
-use Rattle.tetri_search.proofs.SplitLemmas.{not_broken}
+use Rattle.tetri_search.proofs.SplitLemmas.{none_fractional}
 use Rattle.tetri_search.proofs.WorkedLemmas.{worked}
 
 -- ---- weights
@@ -182,13 +182,13 @@ single_listed p b known f h None e = by_test (le_z (objective p b.lower) (pos kn
     }
 
 -- a whole best point lies in the box
-pub best_in_box : (p : Program) (b : Bounds) (known : ℕ) (point xs : List Frac) (q : ℤ) (ws : List Weight) → IsInBox p b → CertifiesBest p b known (map value point) q ws → xs ≡ point → broken_from 0 (map value xs) ≡ None → IsBetween (length p.costs.items) p.lower.items (numerators (map value xs)) p.upper.items
+pub best_in_box : (p : Program) (b : Bounds) (known : ℕ) (point xs : List Frac) (q : ℤ) (ws : List Weight) → IsInBox p b → CertifiesBest p b known (map value point) q ws → xs ≡ point → fractional_from 0 (map value xs) ≡ None → IsBetween (length p.costs.items) p.lower.items (numerators (map value xs)) p.upper.items
 best_in_box p b known point xs q ws h z e n =
-    let w = not_broken 0 (map value point) (ap (λ (ys : List Frac). broken_from 0 (map value ys)) (sym e) ∙ n) in
+    let w = none_fractional 0 (map value point) (ap (λ (ys : List Frac). fractional_from 0 (map value ys)) (sym e) ∙ n) in
     subst (λ (ys : List Frac). IsBetween (length p.costs.items) p.lower.items (numerators (map value ys)) p.upper.items) (sym e)
     (in_program_box p b (numerators (map value point)) h (whole_point p b (map value point) z.relaxed w))
 
-best_listed : (p : Program) (b : Bounds) (known : ℕ) (point : List ℚ) (q : ℤ) (ws : List Weight) → IsFit p → IsInBox p b → CertifiesBest p b known point q ws → (o : Option Branch) → broken_from 0 point ≡ o → IsSound p b (best_by o p point q ws) → IsListed p (best_by o p point q ws)
+best_listed : (p : Program) (b : Bounds) (known : ℕ) (point : List ℚ) (q : ℤ) (ws : List Weight) → IsFit p → IsInBox p b → CertifiesBest p b known point q ws → (o : Option Branch) → fractional_from 0 point ≡ o → IsSound p b (best_by o p point q ws) → IsListed p (best_by o p point q ws)
 best_listed p b known point q ws f h z (Some c) e s =
     let n = z.relaxed.count in
     let k = f.few_columns in
@@ -198,7 +198,7 @@ best_listed p b known point q ws f h z (Some c) e s =
     }
 best_listed p b known point q ws f h z None e s =
     let x = numerators point in
-    let i = whole_point p b point z.relaxed (not_broken 0 point e) in
+    let i = whole_point p b point z.relaxed (none_fractional 0 point e) in
     let g = in_program_box p b x h i in
     record {
       plain = (z.weights.multiplier_in_range, plain_weights p ws f z.weights.rows z.weights.ascending z.weights.nonzero z.weights.in_range, objective_within p x f i.count g, plain_cells p x f i.count g);
@@ -206,7 +206,7 @@ best_listed p b known point q ws f h z None e s =
     }
 
 end_listed : (p : Program) (b : Bounds) (known : ℕ) (c : Branch) → IsFit p → IsInBox p b → (e : End) → Certifies p b known e → IsSound p b (end_mark p c e) → IsNarrow (end_mark p c e) → IsListed p (end_mark p c e)
-end_listed p b known c f h (best point q ws) z s n = best_listed p b known point q ws f h z (broken_from 0 point) refl s
+end_listed p b known c f h (best point q ws) z s n = best_listed p b known point q ws f h z (fractional_from 0 point) refl s
 end_listed p b known c f h (cut q ws) z s n = close_listed p b q ws f z.weights
 end_listed p b known c f h (empty ws) z s n = close_listed p b (pos 0) ws f z.weights
 end_listed p b known c f h (past place) z s n =
@@ -222,7 +222,7 @@ worked_by_listed p b known f h (Some c) s n = end_listed p b known c f h (machin
 
 pub worked_listed : (p : Program) (b : Bounds) (known : ℕ) → IsFit p → IsInBox p b → IsNarrow (worked_mark p b known) → IsListed p (worked_mark p b known)
 unfolding worked_mark
-worked_listed p b known f h n = worked_by_listed p b known f h (wide_from 0 b.lower b.upper) (worked p b known f h).sound n
+worked_listed p b known f h n = worked_by_listed p b known f h (unfixed_from 0 b.lower b.upper) (worked p b known f h).sound n
 
 rest_listed : (p : Program) (d : Dual) (r : Result ℤ WeighFault) → IsFit p → IsDual p d → IsListed p (rest_by d r)
 rest_listed p d (Ok z) f w = record {

@@ -4,7 +4,7 @@ ghost use Rattle.std.specs.Prelude.{◌≡◌, ◌==◌, ◌≤◌, ◌^◌, ◌
 ghost use Rattle.std.specs.Int.{int_div_euclid};
 ghost use Rattle.tetri_num.specs.Frac.{value};
 ghost use Rattle.tetri_ip.specs.Points.{IsFit, IsInBox, IsWithin, bounds_of};
-ghost use Rattle.tetri_search.specs.Table.{broken_from, wide_from};
+ghost use Rattle.tetri_search.specs.Table.{fractional_from, unfixed_from};
 
 use tetri_ip::{Program, Region};
 use tetri_num::Frac;
@@ -26,10 +26,10 @@ fn middle(lower: i128, upper: i128) -> i128
 }
 
 // The first column with more than one number, and the middle of its bounds.
-pub(crate) fn find_wide(p: &Program, r: &Region) -> Option<Branch>
+pub(crate) fn find_unfixed(p: &Program, r: &Region) -> Option<Branch>
     requires fit { IsFit p.now }
     requires in_box { IsInBox p.now (bounds_of r.now) }
-    ensures { result ≡ wide_from 0 r.now.lower.items r.now.upper.items }
+    ensures { result ≡ unfixed_from 0 r.now.lower.items r.now.upper.items }
 {
     for j in 0..p.costs.len() {
         let lower = r.lower[j];
@@ -51,9 +51,9 @@ fn is_whole(x: Frac) -> bool
 }
 
 // The first column whose number is not whole, and that number's floor.
-pub(crate) fn find_broken(point: &[Frac]) -> Option<Branch>
+pub(crate) fn find_fractional(point: &[Frac]) -> Option<Branch>
     requires { length point.now ≤ 2 ^ 32 }
-    ensures { result ≡ broken_from 0 (map value point.now) }
+    ensures { result ≡ fractional_from 0 (map value point.now) }
 {
     for j in 0..point.len() {
         let x = point[j];

@@ -11,10 +11,10 @@ ghost use Rattle.tetri_simplex.specs.Outcomes.{end_of};
 ghost use Rattle.tetri_simplex.specs.Relaxation.{numerators};
 ghost use Rattle.tetri_search.specs.Follow.{dual_of, dual_or, own_dual};
 ghost use Rattle.tetri_search.specs.Nodes.{IfDual, IsNarrow};
-ghost use Rattle.tetri_search.specs.Table.{best_by, broken_from, end_mark, rest_mark, single_mark, table, worked_mark};
+ghost use Rattle.tetri_search.specs.Table.{best_by, fractional_from, end_mark, rest_mark, single_mark, table, worked_mark};
 ghost use Rattle.tetri_search.specs.Views.{IfSplit, dual_of_rc};
 
-use crate::branches::{Branch, find_broken, find_wide};
+use crate::branches::{Branch, find_fractional, find_unfixed};
 use crate::duals::Dual;
 use std::alloc::{AllocError, Global};
 use std::rc::Rc;
@@ -108,13 +108,13 @@ fn best_mark(
 ) -> Result<Written, AllocError>
     requires fit { IsFit p.now }
     requires count { length point.now ≡ length p.now.costs.items }
-    requires in_box { broken_from 0 (map value point.now) ≡ None →
+    requires in_box { fractional_from 0 (map value point.now) ≡ None →
         IsBetween (length p.now.costs.items) p.now.lower.items (numerators (map value point.now)) p.now.upper.items }
-    ensures mark { IfOk result (λ w. w.mark ≡ best_by (broken_from 0 (map value point.now)) p.now (map value point.now) q weights.items) }
+    ensures mark { IfOk result (λ w. w.mark ≡ best_by (fractional_from 0 (map value point.now)) p.now (map value point.now) q weights.items) }
     ensures own { IfOk result (λ w. IfSplit w.mark (w.own ≡ Some (record { q = q; weights = weights.items }))) }
     ensures narrow { IfOk result (λ w. IsNarrow w.mark) }
 {
-    let Some(branch) = find_broken(point) else {
+    let Some(branch) = find_fractional(point) else {
         let mark = whole_mark(alloc, p, point, q, weights)?;
         return Ok(Written { mark, own: None });
     };
@@ -195,7 +195,7 @@ fn work(
     ensures own { IfOk result (λ w. IfSplit w.mark (w.own ≡ own_dual p.now (bounds_of r.now) best)) }
     ensures narrow { IfOk result (λ w. IsNarrow w.mark) }
 {
-    let Some(branch) = find_wide(p, r) else {
+    let Some(branch) = find_unfixed(p, r) else {
         let mark = single_mark(alloc, p, r, best)?;
         return Ok(ended(mark));
     };

@@ -1,8 +1,8 @@
 //! The search.
 
-ghost use Rattle.std.specs.Prelude.{◌≡◌, ◌<◌, ◌≤◌, ◌+◌, ◌-◌, ◌^◌, ℕ, List, [], ◌∷◌, All, Bool, true, false, IfOk, IfSome, OnOk, cond, length, option_map, pos, reverse, vec_len, ◌≤ℤ◌, ◌<ℤ◌};
+ghost use Rattle.std.specs.Prelude.{◌≡◌, ◌<◌, ◌≤◌, ◌+◌, ◌-◌, ◌^◌, ℕ, List, [], ◌∷◌, All, Bool, true, false, IfOk, IfSome, MatchOption, OnOk, cond, length, option_map, pos, reverse, vec_len, ◌≤ℤ◌, ◌<ℤ◌};
 ghost use Rattle.tetri_ip.specs.ColumnIndex.{IsIndexOf};
-ghost use Rattle.tetri_ip.specs.Points.{IsFit, IsInBox, IsPoint, bounds_of, box_of};
+ghost use Rattle.tetri_ip.specs.Points.{IsFit, IsInBox, IsPoint, bounds_of, box_of, objective};
 ghost use Rattle.tetri_cert.specs.declared.marks.Cell.{Cell};
 ghost use Rattle.tetri_cert.specs.Cells.{AreOfColumns, point_of};
 ghost use Rattle.tetri_cert.specs.NodeBounds.{sides_before};
@@ -107,12 +107,7 @@ fn count(used: u32, left: bool) -> u32
 }
 
 // Grows the tree, mark by mark.
-fn grow(
-    alloc: Global,
-    p: &Program,
-    low: u64,
-    budget: u32,
-) -> Result<Grown, AllocError>
+fn grow(alloc: Global, p: &Program, low: u64, budget: u32) -> Result<Grown, AllocError>
     requires fit { IsFit p.now }
     requires lower { All (λ z. z ≡ pos 0) p.now.lower.items }
     requires bounded { most_gain p.now < 2 ^ 64 }
@@ -143,7 +138,11 @@ fn grow(
 }
 
 // The point of the last mark that has one.
-fn last_point(alloc: Global, columns: usize, marks: &[Mark]) -> Result<Option<Vec<i128>>, AllocError>
+fn last_point(
+    alloc: Global,
+    columns: usize,
+    marks: &[Mark],
+) -> Result<Option<Vec<i128>>, AllocError>
     requires { (cells : List Cell) → last_whole marks.now ≡ Some cells → AreOfColumns columns cells }
     ensures { IfOk result (λ o. option_map (λ v. v.items) o ≡ option_map (point_of columns) (last_whole marks.now)) }
 {
@@ -156,7 +155,13 @@ fn last_point(alloc: Global, columns: usize, marks: &[Mark]) -> Result<Option<Ve
 }
 
 // The bound of a tree of a search, which is a proper one.
-fn bound_of(alloc: Global, p: &Program, low: u64, budget: u32, marks: &[Mark]) -> Result<u64, AllocError>
+fn bound_of(
+    alloc: Global,
+    p: &Program,
+    low: u64,
+    budget: u32,
+    marks: &[Mark],
+) -> Result<u64, AllocError>
     requires fit { IsFit p.now }
     requires earned { IsEarned p.now low budget marks.now }
     ensures { IfOk result (λ b. tree_bound p.now marks.now ≡ Ok b) }
@@ -188,6 +193,7 @@ pub fn search(alloc: Global, c: &Compiled, low: u64, budget: u32) -> Result<Foun
     ensures best { IfOk result (λ f. f.best ≡ best_behind low f.marks) }
     ensures last { IfOk result (λ f. option_map (λ v. v.items) f.last ≡ option_map (point_of (length c.entry.now.program.costs.items)) (last_whole f.marks)) }
     ensures point { IfOk result (λ f. IfSome f.last (λ v. IsPoint c.entry.now.program (box_of c.entry.now.program) v.items)) }
+    ensures worth { IfOk result (λ f. MatchOption f.last (f.best ≡ low) (λ v. pos f.best ≡ objective c.entry.now.program v.items)) }
     ensures plain { IfOk result (λ f. All IsPlain f.marks) }
     ensures short { length c.entry.now.program.costs.items ≤ 2000 → length c.entry.now.program.rows.items ≤ 2000 →
         IfOk result (λ f. All (HasShortLists 2000) f.marks) }

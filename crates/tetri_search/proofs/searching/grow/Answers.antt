@@ -37,7 +37,7 @@ loop-above-preserved c =
     let u : c.count-used.result ≡ used_after c.loop-above.used m = used_is p node c.loop-above.best c.loop-above.used c.args.budget m (nat_lt c.loop-above.used c.args.budget) c.count-used.result refl c.in_ok-mark.ensures.mark c.count-used.ensures in
     let b : c.better-best.result ≡ best_after c.loop-above.best m = c.better-best.ensures in
     let s = stands_push p c.args.low c.args.budget c.loop-above.marks c.push-in-Some.new.self m c.loop-above.front.region c.visit.new.front.region c.loop-above.front.trail.items c.visit.new.front.trail.items c.in-Some.above c.pop.new.self.items c.loop-above.front.duals.items c.visit.new.front.duals.items c.loop-above.best c.loop-above.used
-        c.requires.fit k n c.loop-above.invariant.stands c.in_ok-mark.ensures.mark c.in_ok-mark.ensures.regions c.in_ok-mark.ensures.duals c.in_ok-mark.ensures.lower c.in_ok-mark.ensures.upper c.in_ok-mark.ensures.columns c.in_ok-mark.ensures.narrow in
+    c.requires.fit k n c.loop-above.invariant.stands c.in_ok-mark.ensures.mark c.in_ok-mark.ensures.regions c.in_ok-mark.ensures.duals c.in_ok-mark.ensures.lower c.in_ok-mark.ensures.upper c.in_ok-mark.ensures.columns c.in_ok-mark.ensures.narrow in
     record {
       stands = subst (λ x. Stands p c.args.low c.args.budget c.push-in-Some.new.self c.visit.new.front.region c.visit.new.front.trail.items c.visit.new.front.duals.items c.better-best.result x) (sym u)
           (subst (λ x. Stands p c.args.low c.args.budget c.push-in-Some.new.self c.visit.new.front.region c.visit.new.front.trail.items c.visit.new.front.duals.items x (used_after c.loop-above.used m)) (sym b) s);

@@ -1,7 +1,0 @@
-use Rattle.std.proofs.Common.{◌≡◌, drop, map}
-use Rattle.tetri_num.specs.Frac.{value}
-use Rattle.tetri_search.specs.Table.{broken_from}
-use Rattle.tetri_search.proofs.branches.find_broken.Given as goal
-
-abbrev pub invariant-loop-j : goal.invariant-loop-j
-invariant-loop-j l = broken_from 0 (map value l.point) ≡ broken_from l.j (map value (drop l.j l.point))
