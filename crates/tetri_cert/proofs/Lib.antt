@@ -18,6 +18,5 @@ pub mod ListsBack
 pub mod PairsBack
 pub mod TextBack
 pub mod TextShort
-mod Rows
 pub mod CellLaws
 pub mod CellLemmas

@@ -16,7 +16,6 @@ pub mod GrantLemmas
 pub mod KidLemmas
 pub mod LawLemmas
 pub mod LawfulLemmas
-pub mod ManyJobs
 pub mod NumberLemmas
 pub mod OutlineLemmas
 pub mod ProgramLemmas

@@ -18,6 +18,3 @@ pub use compiling::{Compiled, Count, compile};
 pub use laws::most_gain_bounds_points;
 pub use sizes::size;
 pub use taking::{Taken, counts_of};
-
-#[cfg(test)]
-mod tests;

@@ -12,8 +12,6 @@ mod rows;
 mod run;
 mod start;
 mod table;
-#[cfg(test)]
-mod tests;
 mod weights;
 
 pub use laws::{ends_certify, relaxed_points};
