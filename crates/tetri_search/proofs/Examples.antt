@@ -10,18 +10,15 @@ use Rattle.tetri_algebra.specs.RationalRing.{neg_ℚ}
 use Rattle.tetri_ip.specs.declared.programs.Program.{Program}
 use Rattle.tetri_ip.specs.declared.programs.Row.{Row}
 use Rattle.tetri_ip.specs.declared.programs.Term.{Term}
-use Rattle.tetri_ip.specs.Points.{Bounds, box_of}
 use Rattle.tetri_simplex.specs.Start.{first_table}
 use Rattle.tetri_simplex.specs.Choices.{leaving}
 use Rattle.tetri_simplex.specs.Ends.{best, long}
 use Rattle.tetri_simplex.specs.Machine.{machine, run, turn}
-use Rattle.tetri_cert.specs.declared.marks.Cell.{Cell}
 use Rattle.tetri_cert.specs.Numbers.{frac_of}
 use Rattle.tetri_cert.specs.declared.marks.FracCell.{FracCell}
 use Rattle.tetri_cert.specs.declared.marks.Licence.TheVariants as licences
 use Rattle.tetri_cert.specs.declared.marks.Mark.{Mark}
 use Rattle.tetri_cert.specs.declared.marks.Mark.TheVariants.{Split, Close, Whole, Rest}
-use Rattle.tetri_search.specs.declared.branches.Branch.{Branch}
 use Rattle.tetri_search.specs.declared.duals.Dual.{Dual}
 use Rattle.tetri_search.specs.Table.{Node, fractional_from, end_mark, rest_mark, table, unfixed_from, worked_mark}
 use Rattle.tetri_search.specs.Follow.{best_behind, last_whole}

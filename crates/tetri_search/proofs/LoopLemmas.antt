@@ -1,6 +1,6 @@
 -- The search's state, mark by mark.
-use Rattle.std.proofs.Common.{◌≡◌, ℕ, ◌+◌, ◌<◌, ◌≤◌, refl, sym, ap, ◌∙◌, subst, arith, List, [], ◌∷◌, ◌++◌, length, map, reverse, All, Bool, true, false, cond, Option, Some, None}
-use Rattle.std.specs.Prelude.{nat_lt, not, ◌≤ℤ◌, ◌<ℤ◌, ◌^◌}
+use Rattle.std.proofs.Common.{◌≡◌, ℕ, ◌+◌, ◌<◌, ◌≤◌, refl, sym, ap, ◌∙◌, subst, arith, List, [], ◌∷◌, ◌++◌, length, map, reverse, All, Bool, true, false, cond, Option, None}
+use Rattle.std.specs.Prelude.{nat_lt, ◌≤ℤ◌, ◌<ℤ◌, ◌^◌}
 use Rattle.std.specs.List.{fold}
 use Rattle.std.proofs.lemmas.Bool.{false≢true}
 use Rattle.std.proofs.lemmas.Bool.Decides.{nat_tests}
@@ -13,12 +13,11 @@ use Rattle.std.specs.Global.{Global}
 use lib.IntN.{ℤ, pos}
 use Rattle.tetri_ip.specs.declared.programs.Program.{Program}
 use Rattle.tetri_ip.specs.declared.programs.Region.{Region}
-use Rattle.tetri_ip.specs.Points.{Bounds, IsFit, IsInBox, IsPoint, bounds_of, box_of, objective}
-use Rattle.tetri_cert.specs.declared.marks.Cell.{Cell}
+use Rattle.tetri_ip.specs.Points.{Bounds, IsFit, IsInBox, bounds_of, box_of}
 use Rattle.tetri_cert.specs.declared.marks.Mark.{Mark}
 use Rattle.tetri_cert.specs.declared.marks.Mark.TheVariants.{Split, Close, Whole, Rest}
 use Rattle.tetri_cert.specs.declared.turns.Turn.{Turn}
-use Rattle.tetri_cert.specs.NodeBounds.{HasSides, sides_before}
+use Rattle.tetri_cert.specs.NodeBounds.{sides_before}
 use Rattle.tetri_cert.specs.NodeText.{HasShortLists, IsPlain}
 use Rattle.tetri_cert.specs.Trees.{nodes_in}
 use Rattle.tetri_cert.specs.Turns.{pending}
@@ -32,7 +31,7 @@ use Rattle.tetri_search.specs.Laws.{is_rest}
 use Rattle.tetri_search.specs.Nodes.{AreOpen, IfDual, IsNarrow}
 use Rattle.tetri_search.specs.Views.{IsNatural, IsOnRegion, dual_of_rc, duals_before, duals_of}
 use Rattle.tetri_search.proofs.MarkLemmas.{rest_is_rest, worked_is_no_rest}
-use Rattle.tetri_search.proofs.NodeLemmas.{dual_or_is, first_open, mark_sound, open_behind_is, own_dual_is, sound_sides}
+use Rattle.tetri_search.proofs.NodeLemmas.{dual_or_is, first_open, mark_sound, open_behind_is, own_dual_is}
 use Rattle.tetri_search.proofs.PlainLemmas.{IsListed, mark_listed}
 use Rattle.tetri_search.proofs.ProperLemmas.{regions, regions_behind}
 use Rattle.tetri_search.proofs.SpentLemmas.{known_behind, used_after_all, used_behind}

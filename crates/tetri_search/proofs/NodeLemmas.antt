@@ -1,41 +1,30 @@
 -- The open nodes of a search lie in the program's box, and their marks pass the tests of a proper tree.
-use Rattle.std.proofs.Common.{◌≡◌, ℕ, ◌<◌, ◌≤◌, max, refl, sym, ap, ◌∙◌, subst, arith, List, [], ◌∷◌, length, Bool, true, false, Option, Some, None, Result, Ok, Err}
-use Rattle.std.specs.Prelude.{◌≤ℤ◌, ◌<ℤ◌, ◌≢◌}
-use Rattle.std.specs.List.{All}
-use Rattle.std.proofs.lemmas.Bool.{false≢true}
+use Rattle.std.proofs.Common.{◌≡◌, ℕ, ◌<◌, refl, sym, ap, ◌∙◌, subst, arith, List, [], ◌∷◌, length, Bool, true, false, Option, Some, None, Result, Ok, Err}
+use Rattle.std.specs.Prelude.{◌≤ℤ◌}
 use Rattle.std.proofs.lemmas.Int.{ints}
-use Rattle.std.proofs.lemmas.List.Elements.{All-nil}
-use lib.IntN.{ℤ, pos}
-use Rattle.tetri_algebra.specs.Rational.{ℚ}
-use Rattle.tetri_num.specs.Range.{IsWithin}
-use Rattle.tetri_num.specs.declared.places.Place.{Place}
+use lib.IntN.{ℤ}
 use Rattle.tetri_ip.specs.declared.programs.Program.{Program}
-use Rattle.tetri_ip.specs.declared.programs.Weight.{Weight}
 use Rattle.tetri_ip.specs.declared.programs.WeighFault.{WeighFault}
-use Rattle.tetri_ip.specs.ColumnIndex.{WeightsAscend}
 use Rattle.tetri_ip.specs.Forming.{weigh_answer}
-use Rattle.tetri_ip.specs.Points.{Bounds, IsFit, IsInBox, IsPoint, box_of}
-use Rattle.tetri_ip.specs.Weighed.{AreNotNegative, AreOfRows, weighed}
-use Rattle.tetri_ip.proofs.WeighingLaws.{answer_is_weighed, weigh_of_none}
-use Rattle.tetri_simplex.specs.Certificates.{AreWeights, Certifies}
+use Rattle.tetri_ip.specs.Points.{Bounds, IsFit, IsInBox, box_of}
+use Rattle.tetri_ip.proofs.WeighingLaws.{answer_is_weighed}
+use Rattle.tetri_simplex.specs.Certificates.{Certifies}
 use Rattle.tetri_simplex.specs.Ends.{End, best, cut, empty, past, long}
 use Rattle.tetri_simplex.specs.Machine.{machine}
 use Rattle.tetri_simplex.proofs.EndFacts.{machine_certified}
-use Rattle.tetri_cert.specs.declared.marks.Cell.{Cell}
 use Rattle.tetri_cert.specs.declared.marks.Mark.{Mark}
 use Rattle.tetri_cert.specs.declared.marks.Mark.TheVariants.{Split, Close, Whole, Rest}
-use Rattle.tetri_cert.specs.Cells.{AreOfColumns, point_of}
-use Rattle.tetri_cert.specs.NodeBounds.{HasSides, high_side, low_side}
-use Rattle.tetri_cert.specs.ProperTrees.{AreProper}
+use Rattle.tetri_cert.specs.Cells.{point_of}
+use Rattle.tetri_cert.specs.NodeBounds.{HasSides}
 use Rattle.tetri_cert.proofs.ProperTreeLaws.{IsSound}
 use Rattle.tetri_cert.proofs.RegionLaws.{high_in_box, low_in_box}
 use Rattle.tetri_cert.proofs.PointLemmas.{in_program_box}
 use Rattle.tetri_search.specs.declared.branches.Branch.{Branch}
 use Rattle.tetri_search.specs.declared.duals.Dual.{Dual}
-use Rattle.tetri_search.specs.Table.{Node, rest_by, rest_mark, table, unfixed_from, worked_mark}
-use Rattle.tetri_search.specs.Follow.{dual_below, dual_by, dual_of, dual_or, open_behind, own_dual}
-use Rattle.tetri_search.specs.Nodes.{AreOpen, IfDual, IsDual, IsWholePoint}
-use Rattle.tetri_search.proofs.WorkedLemmas.{IsWorked, none_proper, proper_above, worked}
+use Rattle.tetri_search.specs.Table.{Node, rest_by, rest_mark, table, unfixed_from}
+use Rattle.tetri_search.specs.Follow.{dual_by, dual_of, dual_or, open_behind, own_dual}
+use Rattle.tetri_search.specs.Nodes.{AreOpen, IfDual, IsWholePoint}
+use Rattle.tetri_search.proofs.WorkedLemmas.{none_proper, proper_above, worked}
 
 -- ---- weights of nodes above
 end_dual : (p : Program) (b : Bounds) (known : ℕ) (e : End) → Certifies p b known e → IfDual p (dual_of e)

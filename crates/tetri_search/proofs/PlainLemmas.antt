@@ -1,12 +1,11 @@
 -- The marks of a search are plain, and their lists are no longer than the program is wide and high.
 use Rattle.std.proofs.Common.{◌≡◌, ℕ, ◌+◌, ◌*◌, ◌^◌, ◌<◌, ◌≤◌, max, refl, sym, ap, ◌∙◌, subst, arith, List, [], ◌∷◌, length, map, cond, Bool, true, false, Option, Some, None, Result, Ok, Err}
-use Prim.Native.Nat.{zero, suc}
+use Prim.Native.Nat.{suc}
 use Rattle.std.specs.Prelude.{◌≢◌, ◌≤ℤ◌, ◌<ℤ◌, unsigned_abs}
 use Rattle.std.specs.List.{All}
 use Rattle.std.proofs.Math.Nat.{mul-le-mul_left}
 use Rattle.std.proofs.lemmas.Int.{ints, unsigned_abs-mul}
-use Rattle.std.proofs.lemmas.List.{length-map}
-use lib.IntN.{ℤ, pos, negsuc, ◌+ℤ◌, ◌*ℤ◌}
+use lib.IntN.{ℤ, pos, ◌+ℤ◌, ◌*ℤ◌}
 use lib.Signed.{le_z}
 use Rattle.tetri_algebra.specs.IntegerRing.{ℤ_ring}
 use Rattle.tetri_algebra.specs.Rational.{ℚ}
@@ -19,8 +18,8 @@ use Rattle.tetri_ip.specs.declared.programs.Weight.{Weight}
 use Rattle.tetri_ip.specs.declared.programs.WeighFault.{WeighFault}
 use Rattle.tetri_ip.specs.ColumnIndex.{WeightsAscend, weight_at}
 use Rattle.tetri_ip.specs.Forming.{weigh_answer}
-use Rattle.tetri_ip.specs.Points.{Bounds, IsBetween, IsFit, IsInBox, IsPoint, cost_reach, first_unmet_from, number_at, objective, size_at}
-use Rattle.tetri_ip.specs.Weighed.{AreOfRows, once}
+use Rattle.tetri_ip.specs.Points.{Bounds, IsBetween, IsFit, IsInBox, cost_reach, first_unmet_from, number_at, objective, size_at}
+use Rattle.tetri_ip.specs.Weighed.{AreOfRows}
 use Rattle.tetri_ip.proofs.PointLaws.{first_unmet_some}
 use Rattle.tetri_simplex.specs.Certificates.{AreWeights, Certifies, CertifiesBest}
 use Rattle.tetri_simplex.specs.Ends.{End, best, cut, empty, past, long}
@@ -29,10 +28,8 @@ use Rattle.tetri_simplex.specs.Relaxation.{numerators}
 use Rattle.tetri_simplex.proofs.EndFacts.{machine_certified}
 use Rattle.tetri_simplex.proofs.RelaxedPoints.{whole_point}
 use Rattle.tetri_cert.specs.declared.marks.Mark.{Mark}
-use Rattle.tetri_cert.specs.declared.marks.Mark.TheVariants.{Split, Close, Whole, Rest}
-use Rattle.tetri_cert.specs.declared.marks.Licence.{Licence}
-use Rattle.tetri_cert.specs.declared.marks.Licence.TheVariants as licences
-use Rattle.tetri_cert.specs.Cells.{cells_of, frac_cells_of}
+use Rattle.tetri_cert.specs.declared.marks.Mark.TheVariants.{Close, Whole}
+use Rattle.tetri_cert.specs.Cells.{cells_of}
 use Rattle.tetri_cert.specs.Lists.{Ascend}
 use Rattle.tetri_cert.specs.NodeText.{ArePlainWeights, HasShortLists, IsPlain, IsPlainPoint}
 use Rattle.tetri_cert.specs.Pairs.{IsPlainWeight, weight_key}

@@ -1,18 +1,17 @@
 -- The whole points of a search get better, so that the last one is the best.
-use Rattle.std.proofs.Common.{◌≡◌, ℕ, ◌<◌, ◌≤◌, max, refl, sym, ap, ◌∙◌, subst, arith, List, [], ◌∷◌, length, Bool, true, false, Option, Some, None}
+use Rattle.std.proofs.Common.{◌≡◌, ℕ, ◌<◌, max, refl, sym, ap, ◌∙◌, subst, arith, List, [], ◌∷◌, Bool, true, false, Option, Some, None}
 use Rattle.std.specs.Prelude.{nat_lt, ◌<ℤ◌}
 use Rattle.std.proofs.lemmas.Bool.{false≢true}
 use Rattle.std.proofs.lemmas.Int.{ints}
 use lib.IntN.{ℤ, pos, negsuc}
 use Rattle.tetri_ip.specs.declared.programs.Program.{Program}
-use Rattle.tetri_ip.specs.Points.{IsFit, IsInBox, box_of, objective}
+use Rattle.tetri_ip.specs.Points.{IsFit, IsInBox, box_of}
 use Rattle.tetri_cert.specs.declared.marks.Cell.{Cell}
 use Rattle.tetri_cert.specs.declared.marks.Mark.{Mark}
 use Rattle.tetri_cert.specs.declared.marks.Mark.TheVariants.{Split, Close, Whole, Rest}
-use Rattle.tetri_cert.specs.Cells.{point_of}
 use Rattle.tetri_cert.proofs.ProperTreeLaws.{IsSound}
 use Rattle.tetri_search.specs.Table.{Node, table}
-use Rattle.tetri_search.specs.Follow.{Follows, State, best_after, best_behind, dual_below, last_or, last_whole, natural, open_behind, used_after}
+use Rattle.tetri_search.specs.Follow.{Follows, best_after, best_behind, dual_below, last_or, last_whole, natural, open_behind, used_after}
 use Rattle.tetri_search.specs.Laws.{IsBestPoint, WholesRise, is_rest}
 use Rattle.tetri_search.specs.Nodes.{AreOpen, IsWholePoint}
 use Rattle.tetri_search.proofs.MarkLemmas.{rest_is_rest}

@@ -1,19 +1,16 @@
 -- One step of each loop over the columns of a region or of a point.
-use Rattle.std.proofs.Common.{◌≡◌, ℕ, ◌+◌, ◌<◌, ◌≤◌, refl, sym, ap, ◌∙◌, arith, List, [], ◌∷◌, ◌++◌, length, get_or, drop, map, cond, eqb, Bool, true, false, not, Option, Some, None}
+use Rattle.std.proofs.Common.{◌≡◌, ℕ, ◌+◌, ◌<◌, ◌≤◌, sym, ap, ◌∙◌, arith, List, [], ◌∷◌, ◌++◌, length, get_or, drop, map, cond, eqb, Bool, Some, None}
 use Prim.Native.Nat.{suc}
-use Rattle.std.specs.Prelude.{unsigned_abs}
 use Rattle.std.specs.Int.{int_div_euclid}
 use Rattle.std.proofs.Math.Seq.{drop-cons}
 use Rattle.std.proofs.lemmas.List.{append-nil, append_assoc, drop_all}
 use lib.IntN.{ℤ, pos, ◌+ℤ◌, ◌-ℤ◌}
 use lib.Signed.{lt_z}
-use Rattle.tetri_algebra.specs.Rational.{ℚ}
 use Rattle.tetri_algebra.specs.RationalOrder.{floor_ℚ}
 use Rattle.tetri_num.specs.declared.fractions.Frac.{Frac}
 use Rattle.tetri_num.specs.Frac.{value}
 use Rattle.tetri_num.proofs.Values.{num-value}
 use Rattle.tetri_simplex.specs.Relaxation.{numerators}
-use Rattle.tetri_search.specs.declared.branches.Branch.{Branch}
 use Rattle.tetri_search.specs.Table.{fractional_from, unfixed_from}
 
 drop_more : {X : Type 0} → (xs : List X) (j : ℕ) (x : X) → j < length xs → x ≡ get_or xs j x → drop j xs ≡ x ∷ drop (j + 1) xs

@@ -1,10 +1,9 @@
 -- What the mark of a worked node says of its region.
-use Rattle.std.proofs.Common.{◌≡◌, ℕ, ◌+◌, ◌<◌, ◌≤◌, max, min, refl, sym, ap, ◌∙◌, subst, arith, List, [], ◌∷◌, length, get_or, map, cond, Bool, true, false, Option, Some, None, Ok}
-use Rattle.std.specs.Prelude.{◌≤ℤ◌, ◌<ℤ◌, ◌^◌, ◌-◌}
+use Rattle.std.proofs.Common.{◌≡◌, ℕ, ◌<◌, ◌≤◌, max, refl, sym, ap, ◌∙◌, subst, arith, List, [], length, cond, Bool, true, false, Option, Some, None, Ok}
+use Rattle.std.specs.Prelude.{◌≤ℤ◌, ◌<ℤ◌}
 use Rattle.std.specs.Int.{int_div_euclid}
 use Rattle.std.specs.List.{All}
-use Rattle.std.proofs.lemmas.Int.{ints, by_lt_z}
-use Rattle.std.proofs.lemmas.List.{length-map}
+use Rattle.std.proofs.lemmas.Int.{ints}
 use Rattle.std.proofs.lemmas.List.Elements.{All-cons, All-nil}
 use lib.IntN.{ℤ, pos, negsuc, ◌+ℤ◌, ◌-ℤ◌, ◌*ℤ◌}
 use lib.Signed.{lt_z, le_z}
@@ -13,7 +12,6 @@ use Rattle.tetri_algebra.specs.Quotients.{div_above, div_below}
 use Rattle.tetri_algebra.specs.Rational.{ℚ, whole_ℚ}
 use Rattle.tetri_algebra.specs.RationalOrder.{floor_ℚ, floor_ℚ-whole_ℚ}
 use Rattle.tetri_algebra.specs.RationalRing.{◌*ℚ◌, num-whole_ℚ, whole_ℚ-*ℤ}
-use Rattle.tetri_num.specs.declared.places.Place.{Place}
 use Rattle.tetri_ip.specs.declared.programs.Program.{Program}
 use Rattle.tetri_ip.specs.declared.programs.Weight.{Weight}
 use Rattle.tetri_ip.specs.Forming.{weigh_answer}
@@ -21,17 +19,16 @@ use Rattle.tetri_ip.specs.Points.{Bounds, IsFit, IsInBox, IsPoint, first_unmet_f
 use Rattle.tetri_ip.specs.Weighed.{AreNotNegative, AreOfRows, once, weighed}
 use Rattle.tetri_ip.proofs.PointLaws.{first_unmet_none, first_unmet_some}
 use Rattle.tetri_ip.proofs.WeighingLaws.{weigh_of_none, weigh_of_row, weighed_row_single, weighed_single}
-use Rattle.tetri_simplex.specs.Certificates.{Certifies, CertifiesBest, CertifiesCut, CertifiesEmpty}
+use Rattle.tetri_simplex.specs.Certificates.{Certifies, CertifiesBest}
 use Rattle.tetri_simplex.specs.Ends.{End, best, cut, empty, past, long}
 use Rattle.tetri_simplex.specs.Machine.{machine}
-use Rattle.tetri_simplex.specs.Relaxation.{IsWhole, coordinate, numerators, objective_value}
+use Rattle.tetri_simplex.specs.Relaxation.{IsWhole, numerators, objective_value}
 use Rattle.tetri_simplex.proofs.EndFacts.{machine_certified}
 use Rattle.tetri_simplex.proofs.RelaxedPoints.{floor_between, whole_point, worth_same}
 use Rattle.tetri_cert.specs.declared.marks.Cell.{Cell}
 use Rattle.tetri_cert.specs.declared.marks.Mark.{Mark}
 use Rattle.tetri_cert.specs.declared.marks.Mark.TheVariants.{Split, Close, Whole, Rest}
-use Rattle.tetri_cert.specs.declared.marks.Licence.TheVariants as licences
-use Rattle.tetri_cert.specs.Cells.{cells_of, frac_cells_of, point_of}
+use Rattle.tetri_cert.specs.Cells.{cells_of, point_of}
 use Rattle.tetri_cert.specs.NodeBounds.{capped}
 use Rattle.tetri_cert.specs.ProperTrees.{AreProper, IsWorth, end_bound, floor_of}
 use Rattle.tetri_cert.proofs.CellLaws.{cells_of-columns, point_of-cells_of}

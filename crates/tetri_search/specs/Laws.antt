@@ -1,5 +1,5 @@
 -- What holds of every tree of a search.
-use Rattle.std.specs.Prelude.{◌≡◌, ℕ, ◌+◌, ◌*◌, ◌<◌, ◌≤◌, List, [], ◌∷◌, Bool, true, false, length, take, nat_lt, slice_index_or, Option, Some, None, ◌+ℤ◌, ◌-ℤ◌, Ok, pos, unsigned_abs}
+use Rattle.std.specs.Prelude.{◌≡◌, ℕ, ◌*◌, ◌<◌, ◌≤◌, List, [], ◌∷◌, Bool, true, false, length, take, nat_lt, slice_index_or, Option, Some, None, ◌+ℤ◌, ◌-ℤ◌, Ok, pos, unsigned_abs}
 use Rattle.std.specs.List.{fold, list_any}
 use lib.IntN.{ℤ}
 use Rattle.tetri_ip.specs.declared.programs.Program.{Program}

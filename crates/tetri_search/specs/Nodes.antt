@@ -1,5 +1,5 @@
 -- What the search keeps of its open nodes and of the marks that it wrote.
-use Rattle.std.specs.Prelude.{◌≡◌, ◌≢◌, ℕ, ◌<◌, ◌^◌, List, [], ◌∷◌, length, Option, Some, None, ◌<ℤ◌, pos}
+use Rattle.std.specs.Prelude.{◌≡◌, ◌≢◌, ◌<◌, ◌^◌, List, [], ◌∷◌, length, Option, Some, None, ◌<ℤ◌, pos}
 use Rattle.std.specs.List.{All}
 use Rattle.tetri_num.specs.Range.{IsWithin}
 use Rattle.tetri_ip.specs.declared.programs.Program.{Program}

@@ -16,7 +16,6 @@ use Rattle.tetri_simplex.specs.Machine.{machine}
 use Rattle.tetri_simplex.specs.Relaxation.{numerators}
 use Rattle.tetri_cert.specs.declared.marks.Mark.{Mark}
 use Rattle.tetri_cert.specs.declared.marks.Mark.TheVariants.{Split, Close, Whole, Rest}
-use Rattle.tetri_cert.specs.declared.marks.Licence.{Licence}
 use Rattle.tetri_cert.specs.declared.marks.Licence.TheVariants as licences
 use Rattle.tetri_cert.specs.Cells.{cells_of, frac_cells_of}
 use Rattle.tetri_search.specs.declared.branches.Branch.{Branch}

@@ -1,10 +1,10 @@
 -- What the code keeps of open nodes, as the definitions speak of it.
-use Rattle.std.specs.Prelude.{◌≡◌, ℕ, ◌<◌, ◌^◌, List, [], ◌∷◌, length, map, reverse, All, Option, Some, None, ◌≤ℤ◌, ◌<ℤ◌, pos}
+use Rattle.std.specs.Prelude.{◌<◌, ◌^◌, List, ◌∷◌, length, map, reverse, All, Option, Some, None, ◌≤ℤ◌, ◌<ℤ◌, pos}
 use Rattle.std.specs.declared.rc.Rc.{Rc}
 use Rattle.std.specs.Global.{Global}
 use Rattle.tetri_ip.specs.declared.programs.Program.{Program}
 use Rattle.tetri_ip.specs.declared.programs.Region.{Region}
-use Rattle.tetri_ip.specs.Points.{Bounds, IsInBox, bounds_of}
+use Rattle.tetri_ip.specs.Points.{IsInBox, bounds_of}
 use Rattle.tetri_cert.specs.declared.turns.Turn.{Turn}
 use Rattle.tetri_cert.specs.declared.marks.Mark.{Mark}
 use Rattle.tetri_cert.specs.declared.marks.Mark.TheVariants.{Split, Close, Whole, Rest}

@@ -1,7 +1,5 @@
-use Rattle.std.proofs.Common.{◌≡◌, ◌∙◌, ap, sym, subst, List, map, None}
-use Rattle.tetri_num.specs.declared.fractions.Frac.{Frac}
-use Rattle.tetri_num.specs.Frac.{value}
-use Rattle.tetri_ip.specs.Points.{IsBetween, bounds_of}
+use Rattle.std.proofs.Common.{subst}
+use Rattle.tetri_ip.specs.Points.{bounds_of}
 use Rattle.tetri_simplex.specs.declared.outcome.Outcome.{Outcome}
 use Rattle.tetri_simplex.specs.Certificates.{Certifies}
 use Rattle.tetri_simplex.specs.Outcomes.{end_of}

@@ -1,5 +1,4 @@
-use Rattle.std.proofs.Common.{◌≡◌, ◌<◌, ◌^◌, ◌∙◌, sym, arith, Some}
-use Rattle.tetri_ip.specs.Points.{first_unmet_from}
+use Rattle.std.proofs.Common.{◌<◌, ◌^◌, ◌∙◌, sym, arith}
 use Rattle.tetri_search.proofs.PlainLemmas.{unmet_fits}
 use Rattle.tetri_search.proofs.marks.single_mark.Goals as goal
 

@@ -1,4 +1,4 @@
-use Rattle.std.proofs.Common.{◌≡◌, ◌∙◌, sym, Err}
+use Rattle.std.proofs.Common.{◌≡◌, Err}
 use Rattle.tetri_cert.specs.declared.faults.TreeFault.TheVariants.{Bad, Past}
 use Rattle.tetri_cert.specs.Trees.{tree_bound}
 use Rattle.tetri_search.proofs.ProperLemmas.{earned_is_proper}

@@ -1,6 +1,5 @@
-use Rattle.std.proofs.Common.{◌≡◌, ◌≤◌, ◌<◌, ◌∙◌, sym, ap, subst, arith, length, List, Some}
+use Rattle.std.proofs.Common.{◌≡◌, ◌∙◌, sym, ap, subst, arith, Some}
 use Rattle.std.specs.Prelude.{option_map}
-use Rattle.tetri_cert.specs.declared.marks.Cell.{Cell}
 use Rattle.tetri_cert.specs.Cells.{AreOfColumns, point_of}
 use Rattle.tetri_search.specs.Follow.{last_whole}
 use Rattle.tetri_search.proofs.LastLemmas.{last_before}

@@ -1,4 +1,4 @@
-use Rattle.std.proofs.Common.{◌≡◌, ℕ, ◌∙◌, sym, ap, subst, arith, length, List}
+use Rattle.std.proofs.Common.{◌≡◌, ℕ, sym, subst, arith, length, List}
 use Rattle.tetri_cert.specs.declared.marks.Mark.{Mark}
 use Rattle.tetri_search.specs.Follow.{last_whole}
 use Rattle.tetri_search.specs.Laws.{IsBestPoint}
