@@ -1,6 +1,6 @@
 -- The cells of a point: they give the point back, are plain and are no more than its numbers.
-use Rattle.std.proofs.Common.{◌≡◌, ℕ, ◌+◌, ◌^◌, ◌<◌, ◌≤◌, refl, sym, ap, ◌∙◌, subst, arith, List, [], ◌∷◌, ◌++◌, length, replicate, map, Bool, true, false, cond, eqb, Option, Some, None}
-use Prim.Native.Nat.{zero, suc}
+use Rattle.std.proofs.Common.{◌≡◌, ℕ, ◌+◌, ◌^◌, ◌<◌, ◌≤◌, refl, sym, ap, ◌∙◌, arith, List, [], ◌∷◌, ◌++◌, length, replicate, Bool, true, false, cond, eqb, Option, Some, None}
+use Prim.Native.Nat.{suc}
 use Rattle.std.specs.Prelude.{slice_set, unsigned_abs}
 use Rattle.std.specs.List.{All}
 use Rattle.std.proofs.lemmas.Bool.{eqb-true}
@@ -19,7 +19,7 @@ use Rattle.tetri_cert.specs.declared.marks.Cell.{Cell}
 use Rattle.tetri_cert.specs.declared.marks.FracCell.{FracCell}
 use Rattle.tetri_cert.specs.Cells.{AreOfColumns, cell_at, cells_from, cells_of, frac_cell_at, frac_cells_from, frac_cells_of, point_of, with_cells}
 use Rattle.tetri_cert.specs.Lists.{Ascend}
-use Rattle.tetri_cert.specs.NodeText.{IsPlainPoint, IsPlainLicence}
+use Rattle.tetri_cert.specs.NodeText.{IsPlainPoint}
 use Rattle.tetri_cert.specs.Numbers.{frac_of}
 use Rattle.tetri_cert.specs.Pairs.{IsPlainCell, IsPlainFracCell, cell_key, frac_cell_key}
 use Rattle.tetri_cert.proofs.NumbersReduced.{frac_of-parts}

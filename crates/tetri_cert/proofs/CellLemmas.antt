@@ -1,15 +1,12 @@
 -- One more number of a point, as its cells are made.
-use Rattle.std.proofs.Common.{◌≡◌, ℕ, ◌+◌, ◌<◌, ◌≤◌, sym, ap, ◌∙◌, arith, List, [], ◌∷◌, ◌++◌, length, get_or, drop, map, Some}
+use Rattle.std.proofs.Common.{◌≡◌, ℕ, ◌+◌, ◌<◌, sym, ap, ◌∙◌, arith, List, ◌∷◌, ◌++◌, length, get_or, drop, map, Some}
 use Prim.Native.Nat.{suc}
 use Rattle.std.proofs.Math.Seq.{drop-cons}
-use Rattle.std.proofs.lemmas.List.{append-nil, append_assoc, drop_all}
-use lib.IntN.{ℤ, pos}
-use Rattle.tetri_algebra.specs.Rational.{ℚ}
+use Rattle.std.proofs.lemmas.List.{append_assoc}
 use Rattle.tetri_num.specs.declared.fractions.Frac.{Frac}
 use Rattle.tetri_num.specs.Frac.{value}
-use Rattle.tetri_cert.specs.declared.marks.Cell.{Cell}
 use Rattle.tetri_cert.specs.declared.marks.FracCell.{FracCell}
-use Rattle.tetri_cert.specs.Cells.{cell_at, cells_from, frac_cell_at, frac_cells_from}
+use Rattle.tetri_cert.specs.Cells.{frac_cell_at, frac_cells_from}
 use Rattle.tetri_cert.proofs.CellLaws.{frac_cells_more}
 
 drop_more : {X : Type 0} → (xs : List X) (j : ℕ) (x : X) → j < length xs → x ≡ get_or xs j x → drop j xs ≡ x ∷ drop (j + 1) xs

@@ -7,7 +7,7 @@ use borrow.Author.Tests.{ltb-true}
 use lib.IntN.{ℤ, pos}
 use lib.Signed.{lt_z}
 use Rattle.tetri_ip.specs.declared.programs.Program.{Program}
-use Rattle.tetri_ip.specs.Points.{Bounds, IsInBox, bounds_of}
+use Rattle.tetri_ip.specs.Points.{Bounds, bounds_of}
 use Rattle.tetri_cert.specs.declared.marks.Mark.{Mark}
 use Rattle.tetri_cert.specs.declared.marks.Mark.TheVariants.{Split, Close, Whole, Rest}
 use Rattle.tetri_cert.specs.declared.faults.TreeFault.{TreeFault}

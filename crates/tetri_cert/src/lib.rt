@@ -26,7 +26,7 @@ pub use laws::{
 };
 pub use marks::{Cell, FracCell, Licence, Mark};
 pub use plan_mark::PlanMark;
-pub use points::objective_at;
+pub use points::{objective_at, point_of};
 pub use text::{MarkFault, marks_are_short_lines, marks_read_back, print_mark, read_mark};
 pub use text_words::mark_of_words;
 pub use turns::{Turn, turn_on};

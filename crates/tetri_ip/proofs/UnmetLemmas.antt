@@ -1,5 +1,5 @@
 -- One step of the search for a row that a point breaks, and its test.
-use Rattle.std.proofs.Common.{◌≡◌, ℕ, ◌+◌, ◌<◌, refl, sym, ap, ◌∙◌, arith, List, [], ◌∷◌, length, get_or, drop, Bool, true, false, cond, Option, Some, None}
+use Rattle.std.proofs.Common.{◌≡◌, ℕ, ◌+◌, ◌<◌, refl, sym, ap, ◌∙◌, arith, List, ◌∷◌, length, get_or, drop, Bool, true, false, cond, Option, Some, None}
 use Prim.Native.Nat.{suc}
 use Rattle.std.specs.Prelude.{◌↔◌, IsTrue, is_some, not}
 use Rattle.std.proofs.Math.Seq.{drop-cons}

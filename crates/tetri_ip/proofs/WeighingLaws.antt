@@ -1,6 +1,6 @@
 -- Weighing without weights and by one row is formed, and what it gives at a region of one point.
-use Rattle.std.proofs.Common.{◌≡◌, ℕ, ◌+◌, ◌*◌, ◌^◌, ◌<◌, ◌≤◌, max, refl, sym, ap, ◌∙◌, subst, arith, List, [], ◌∷◌, length, Bool, true, false, cond, eqb, Option, Some, None, Result, Ok, Err, IfOk}
-use Prim.Native.Nat.{zero, suc}
+use Rattle.std.proofs.Common.{◌≡◌, ℕ, ◌+◌, ◌*◌, ◌^◌, ◌<◌, ◌≤◌, max, refl, sym, ap, ◌∙◌, subst, arith, List, [], ◌∷◌, length, Bool, true, false, cond, eqb, Option, Some, None, Result, Ok, IfOk}
+use Prim.Native.Nat.{suc}
 use Rattle.std.specs.Prelude.{unsigned_abs, nat_lt, ◌≤ℤ◌}
 use Rattle.std.proofs.Math.Nat.{mul-le-mul_left}
 use Rattle.std.proofs.lemmas.Bool.{eqb-true}
@@ -17,9 +17,9 @@ use Rattle.tetri_ip.specs.declared.programs.Row.{Row}
 use Rattle.tetri_ip.specs.declared.programs.Term.{Term}
 use Rattle.tetri_ip.specs.declared.programs.Weight.{Weight}
 use Rattle.tetri_ip.specs.declared.programs.WeighFault.{WeighFault}
-use Rattle.tetri_ip.specs.Points.{Bounds, IsFit, IsFitRow, IsInBox, IsWithin, coefficient, column_at, cost_reach, left_side, number_at, objective, reach, right_of, size_at, term_at, terms_of}
+use Rattle.tetri_ip.specs.Points.{Bounds, IsFit, IsInBox, IsWithin, coefficient, column_at, cost_reach, left_side, number_at, objective, reach, right_of, size_at, term_at, terms_of}
 use Rattle.tetri_ip.specs.Weighed.{bound_taken, column_sum, columns_from, once, right_sum, weighed}
-use Rattle.tetri_ip.specs.Forming.{add_product, first_negative, form_column, form_columns, form_factor, form_right, or_past, subtract_product, then_form, unless_negative, weigh_answer, within}
+use Rattle.tetri_ip.specs.Forming.{add_product, first_negative, form_column, form_columns, form_factor, form_right, or_past, then_form, unless_negative, weigh_answer, within}
 use Rattle.tetri_ip.proofs.Coefficients.{coefficient_at, unit_other}
 use Rattle.tetri_ip.proofs.Duality.{dot_from-column_sum, left_sum}
 use Rattle.tetri_ip.proofs.Formed.{columns_are, right_is}

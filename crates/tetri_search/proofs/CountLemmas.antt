@@ -1,12 +1,11 @@
 -- A search with a budget that is enough leaves no node open.
-use Rattle.std.proofs.Common.{◌≡◌, ℕ, ◌+◌, ◌*◌, ◌<◌, ◌≤◌, refl, sym, ap, ◌∙◌, subst, arith, List, [], ◌∷◌, length, get_or, Bool, true, false, Option, Some, None}
+use Rattle.std.proofs.Common.{◌≡◌, ℕ, ◌+◌, ◌*◌, ◌<◌, ◌≤◌, refl, sym, ap, ◌∙◌, subst, arith, List, [], ◌∷◌, length, true, false, Option, None}
 use Prim.Native.Nat.{zero, suc}
 use Rattle.std.specs.Prelude.{◌≤ℤ◌, ◌<ℤ◌, nat_lt, slice_set, unsigned_abs, ◌||◌}
-use Rattle.std.specs.List.{list_any}
 use Rattle.std.proofs.lemmas.Bool.{false≢true}
 use Rattle.std.proofs.lemmas.Bool.Decides.{nat_tests}
 use Rattle.std.proofs.lemmas.Int.{ints}
-use lib.IntN.{ℤ, pos, negsuc, ◌+ℤ◌, ◌-ℤ◌}
+use lib.IntN.{ℤ, pos, ◌+ℤ◌, ◌-ℤ◌}
 use Rattle.tetri_ip.specs.declared.programs.Program.{Program}
 use Rattle.tetri_ip.specs.Points.{Bounds, IsFit, IsInBox, box_of, number_at}
 use Rattle.tetri_cert.specs.declared.marks.Mark.{Mark}
@@ -15,7 +14,7 @@ use Rattle.tetri_cert.specs.NodeBounds.{HasSides}
 use Rattle.tetri_cert.proofs.ProperTreeLaws.{IsSound}
 use Rattle.tetri_search.specs.declared.duals.Dual.{Dual}
 use Rattle.tetri_search.specs.Table.{Node}
-use Rattle.tetri_search.specs.Follow.{Follows, State, best_after, dual_below, open_behind, used_after}
+use Rattle.tetri_search.specs.Follow.{Follows, best_after, dual_below, open_behind, used_after}
 use Rattle.tetri_search.specs.Laws.{EnoughLeavesNoRest, has_rest, is_rest, points_in}
 use Rattle.tetri_search.specs.Nodes.{AreOpen}
 use Rattle.tetri_search.proofs.MarkLemmas.{worked_is_no_rest}

@@ -6,3 +6,10 @@ pub mod NodeLemmas
 pub mod ProperLemmas
 pub mod CountLemmas
 pub mod SpentLemmas
+pub mod PlainLemmas
+pub mod LoopLemmas
+pub mod LastLemmas
+pub mod StepLemmas
+mod Examples
+pub mod RiseLemmas
+pub mod SearchLaws

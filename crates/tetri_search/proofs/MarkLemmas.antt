@@ -16,15 +16,16 @@ use Rattle.tetri_cert.specs.declared.marks.Mark.TheVariants.{Split, Close, Whole
 use Rattle.tetri_cert.specs.Cells.{cells_of}
 use Rattle.tetri_search.specs.declared.branches.Branch.{Branch}
 use Rattle.tetri_search.specs.declared.duals.Dual.{Dual}
-use Rattle.tetri_search.specs.Table.{Node, best_by, broken_from, end_mark, rest_by, rest_mark, single_by, table, wide_from, worked_by, worked_mark}
+use Rattle.tetri_search.specs.Table.{Node, best_by, fractional_from, end_mark, rest_by, rest_mark, single_by, table, unfixed_from, worked_by, worked_mark}
 use Rattle.tetri_search.specs.Laws.{is_rest}
+use Rattle.tetri_search.specs.Views.{IfSplit}
 
 best_written : (o : Option Branch) (p : Program) (point : List ℚ) (q : ℤ) (ws : List Weight) → is_rest (best_by o p point q ws) ≡ false
 best_written None p point q ws = refl
 best_written (Some c) p point q ws = refl
 
 end_written : (p : Program) (c : Branch) (e : End) → is_rest (end_mark p c e) ≡ false
-end_written p c (best point q ws) = best_written (broken_from 0 point) p point q ws
+end_written p c (best point q ws) = best_written (fractional_from 0 point) p point q ws
 end_written p c (cut q ws) = refl
 end_written p c (empty ws) = refl
 end_written p c (past place) = refl
@@ -44,7 +45,7 @@ worked_by_written (Some c) p b known = end_written p c (machine p b known)
 
 pub worked_written : (p : Program) (b : Bounds) (known : ℕ) → is_rest (worked_mark p b known) ≡ false
 unfolding worked_mark
-worked_written p b known = worked_by_written (wide_from 0 b.lower b.upper) p b known
+worked_written p b known = worked_by_written (unfixed_from 0 b.lower b.upper) p b known
 
 rest_by_rest : (d : Dual) (r : Result ℤ WeighFault) → is_rest (rest_by d r) ≡ true
 rest_by_rest d (Ok z) = refl
@@ -64,3 +65,9 @@ pub rest_is_rest : (t : Bool) (p : Program) (n : Node) (known : ℕ) (m : Mark) 
 unfolding table
 rest_is_rest true p n known m e w = absurd (false≢true (sym e))
 rest_is_rest false p n known m e w = ap is_rest w ∙ rest_rest p n.region n.dual
+
+pub if_rest : (m : Mark) (P : Type 0) → is_rest m ≡ true → IfSplit m P
+if_rest (Split j at licence) P h = absurd (false≢true h)
+if_rest (Close q ws) P h = tt
+if_rest (Whole q ws worth cells) P h = tt
+if_rest (Rest q ws) P h = tt

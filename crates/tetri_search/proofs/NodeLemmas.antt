@@ -1,41 +1,30 @@
 -- The open nodes of a search lie in the program's box, and their marks pass the tests of a proper tree.
-use Rattle.std.proofs.Common.{◌≡◌, ℕ, ◌<◌, ◌≤◌, max, refl, sym, ap, ◌∙◌, subst, arith, List, [], ◌∷◌, length, Bool, true, false, Option, Some, None, Result, Ok, Err}
-use Rattle.std.specs.Prelude.{◌≤ℤ◌, ◌<ℤ◌, ◌≢◌}
-use Rattle.std.specs.List.{All}
-use Rattle.std.proofs.lemmas.Bool.{false≢true}
+use Rattle.std.proofs.Common.{◌≡◌, ℕ, ◌<◌, refl, sym, ap, ◌∙◌, subst, arith, List, [], ◌∷◌, length, Bool, true, false, Option, Some, None, Result, Ok, Err}
+use Rattle.std.specs.Prelude.{◌≤ℤ◌}
 use Rattle.std.proofs.lemmas.Int.{ints}
-use Rattle.std.proofs.lemmas.List.Elements.{All-nil}
-use lib.IntN.{ℤ, pos}
-use Rattle.tetri_algebra.specs.Rational.{ℚ}
-use Rattle.tetri_num.specs.Range.{IsWithin}
-use Rattle.tetri_num.specs.declared.places.Place.{Place}
+use lib.IntN.{ℤ}
 use Rattle.tetri_ip.specs.declared.programs.Program.{Program}
-use Rattle.tetri_ip.specs.declared.programs.Weight.{Weight}
 use Rattle.tetri_ip.specs.declared.programs.WeighFault.{WeighFault}
-use Rattle.tetri_ip.specs.ColumnIndex.{WeightsAscend}
 use Rattle.tetri_ip.specs.Forming.{weigh_answer}
-use Rattle.tetri_ip.specs.Points.{Bounds, IsFit, IsInBox, IsPoint, box_of}
-use Rattle.tetri_ip.specs.Weighed.{AreNotNegative, AreOfRows, weighed}
-use Rattle.tetri_ip.proofs.WeighingLaws.{answer_is_weighed, weigh_of_none}
-use Rattle.tetri_simplex.specs.Certificates.{AreWeights, Certifies}
+use Rattle.tetri_ip.specs.Points.{Bounds, IsFit, IsInBox, box_of}
+use Rattle.tetri_ip.proofs.WeighingLaws.{answer_is_weighed}
+use Rattle.tetri_simplex.specs.Certificates.{Certifies}
 use Rattle.tetri_simplex.specs.Ends.{End, best, cut, empty, past, long}
 use Rattle.tetri_simplex.specs.Machine.{machine}
 use Rattle.tetri_simplex.proofs.EndFacts.{machine_certified}
-use Rattle.tetri_cert.specs.declared.marks.Cell.{Cell}
 use Rattle.tetri_cert.specs.declared.marks.Mark.{Mark}
 use Rattle.tetri_cert.specs.declared.marks.Mark.TheVariants.{Split, Close, Whole, Rest}
-use Rattle.tetri_cert.specs.Cells.{AreOfColumns, point_of}
-use Rattle.tetri_cert.specs.NodeBounds.{HasSides, high_side, low_side}
-use Rattle.tetri_cert.specs.ProperTrees.{AreProper}
+use Rattle.tetri_cert.specs.Cells.{point_of}
+use Rattle.tetri_cert.specs.NodeBounds.{HasSides}
 use Rattle.tetri_cert.proofs.ProperTreeLaws.{IsSound}
 use Rattle.tetri_cert.proofs.RegionLaws.{high_in_box, low_in_box}
 use Rattle.tetri_cert.proofs.PointLemmas.{in_program_box}
 use Rattle.tetri_search.specs.declared.branches.Branch.{Branch}
 use Rattle.tetri_search.specs.declared.duals.Dual.{Dual}
-use Rattle.tetri_search.specs.Table.{Node, rest_by, rest_mark, table, wide_from, worked_mark}
-use Rattle.tetri_search.specs.Follow.{dual_below, dual_by, dual_of, dual_or, open_behind, own_dual}
-use Rattle.tetri_search.specs.Nodes.{AreOpen, IfDual, IsDual, IsWholePoint}
-use Rattle.tetri_search.proofs.WorkedLemmas.{IsWorked, none_proper, proper_above, worked}
+use Rattle.tetri_search.specs.Table.{Node, rest_by, rest_mark, table, unfixed_from}
+use Rattle.tetri_search.specs.Follow.{dual_by, dual_of, dual_or, open_behind, own_dual}
+use Rattle.tetri_search.specs.Nodes.{AreOpen, IfDual, IsWholePoint}
+use Rattle.tetri_search.proofs.WorkedLemmas.{none_proper, proper_above, worked}
 
 -- ---- weights of nodes above
 end_dual : (p : Program) (b : Bounds) (known : ℕ) (e : End) → Certifies p b known e → IfDual p (dual_of e)
@@ -55,11 +44,11 @@ end_dual p b known long z = tt
 
 pub own_dual_is : (p : Program) (b : Bounds) (known : ℕ) → IsInBox p b → IfDual p (own_dual p b known)
 unfolding own_dual
-own_dual_is p b known h = by_wide (wide_from 0 b.lower b.upper)
+own_dual_is p b known h = by_column (unfixed_from 0 b.lower b.upper)
   where
-    by_wide : (o : Option Branch) → IfDual p (dual_by o p b known)
-    by_wide None = tt
-    by_wide (Some c) = end_dual p b known (machine p b known) (machine_certified p b known h)
+    by_column : (o : Option Branch) → IfDual p (dual_by o p b known)
+    by_column None = tt
+    by_column (Some c) = end_dual p b known (machine p b known) (machine_certified p b known h)
 
 pub dual_or_is : (p : Program) (own above : Option Dual) → IfDual p own → IfDual p above → IfDual p (dual_or own above)
 dual_or_is p None above h k = k
@@ -88,7 +77,7 @@ sound_sides p b (Rest q ws) h s = tt
 
 -- ---- the nodes below
 pub open_behind_is : (p : Program) (n : Node) (ns : List Node) (d : Option Dual) (m : Mark) → IsInBox p n.region → AreOpen p ns → IfDual p d → IsSound p n.region m → AreOpen p (open_behind n d m ns)
-open_behind_is p n ns d (Split j at licence) h a k s = (high_in_box p n.region j at h s.1 s.2, (k, (low_in_box p n.region j at h s.1 s.2, (k, a))))
+open_behind_is p n ns d (Split j at licence) h a k s = (high_in_box p n.region j at h s.1 s.2, k, (low_in_box p n.region j at h s.1 s.2, k, a))
 open_behind_is p n ns d (Close q ws) h a k s = a
 open_behind_is p n ns d (Whole q ws worth cells) h a k s = a
 open_behind_is p n ns d (Rest q ws) h a k s = a
@@ -100,7 +89,7 @@ box_in_box p f = record { lower_count = f.lower_count; upper_count = f.upper_cou
     least z = omega (arith, ints)
 
 pub first_open : (p : Program) → IsFit p → AreOpen p (record { region = box_of p; dual = None } ∷ [])
-first_open p f = (box_in_box p f, (tt, tt))
+first_open p f = (box_in_box p f, tt, tt)
 
 -- ---- whole points
 pub sound_whole : (p : Program) (b : Bounds) (m : Mark) → IsInBox p b → IsSound p b m → IsWholePoint p m

@@ -1,10 +1,8 @@
 -- The tree of a search is proper, and where no node is left open its bound is at most the best objective known at its end.
-use Rattle.std.proofs.Common.{◌≡◌, ℕ, ◌+◌, ◌≤◌, max, refl, sym, ap, ◌∙◌, subst, arith, List, [], ◌∷◌, length, map, Bool, true, false, Option, Some, None, Result, Ok, Err}
-use Prim.Native.Nat.{suc}
+use Rattle.std.proofs.Common.{◌≡◌, ℕ, ◌+◌, ◌≤◌, max, refl, sym, ap, ◌∙◌, subst, arith, List, [], ◌∷◌, length, map, Bool, true, false, Option, Some, None, Ok}
 use Rattle.std.specs.Prelude.{nat_lt, ◌||◌}
-use Rattle.std.specs.List.{fold, list_any}
+use Rattle.std.specs.List.{fold}
 use Rattle.std.proofs.lemmas.Bool.{false≢true}
-use lib.IntN.{ℤ}
 use Rattle.tetri_ip.specs.declared.programs.Program.{Program}
 use Rattle.tetri_ip.specs.Points.{Bounds, IsFit, IsInBox, IsPoint, box_of}
 use Rattle.tetri_base.specs.ResultSteps.{◌>>=◌}
@@ -12,15 +10,15 @@ use Rattle.tetri_cert.specs.declared.marks.Cell.{Cell}
 use Rattle.tetri_cert.specs.declared.marks.Mark.{Mark}
 use Rattle.tetri_cert.specs.declared.marks.Mark.TheVariants.{Split, Close, Whole, Rest}
 use Rattle.tetri_cert.specs.Cells.{AreOfColumns, point_of}
-use Rattle.tetri_cert.specs.NodeBounds.{node_bound, sides_before}
+use Rattle.tetri_cert.specs.NodeBounds.{sides_before}
 use Rattle.tetri_cert.specs.ProperTrees.{end_bound}
 use Rattle.tetri_cert.specs.Trees.{fills, if_fills, places_behind, tree_bound, tree_from}
 use Rattle.tetri_cert.proofs.ProperTreeLaws.{IsSound, node_told}
 use Rattle.tetri_search.specs.declared.duals.Dual.{Dual}
 use Rattle.tetri_search.specs.Table.{Node, table}
-use Rattle.tetri_search.specs.Follow.{Follows, IsEarned, State, after, best_after, best_behind, dual_below, first_state, last_or, last_whole, open_behind, used_after}
-use Rattle.tetri_search.specs.Laws.{EarnedIsProper, IsSettled, has_rest, is_rest}
-use Rattle.tetri_search.specs.Nodes.{AreOpen, AreWholePoints, IfDual, IsWholePoint}
+use Rattle.tetri_search.specs.Follow.{Follows, IsEarned, after, best_after, best_behind, dual_below, last_or, last_whole, open_behind, used_after}
+use Rattle.tetri_search.specs.Laws.{EarnedIsProper, has_rest, is_rest}
+use Rattle.tetri_search.specs.Nodes.{AreOpen, AreWholePoints, IsWholePoint}
 use Rattle.tetri_search.proofs.MarkLemmas.{rest_rest}
 use Rattle.tetri_search.proofs.WorkedLemmas.{worked}
 use Rattle.tetri_search.proofs.NodeLemmas.{dual_or_is, first_open, mark_sound, open_behind_is, own_dual_is, sound_whole}

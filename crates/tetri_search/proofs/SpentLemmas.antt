@@ -1,8 +1,8 @@
 -- Rests come once the budget is spent; and the marks of a search, place by place.
-use Rattle.std.proofs.Common.{◌≡◌, ℕ, ◌+◌, ◌<◌, ◌≤◌, refl, sym, ap, ◌∙◌, subst, arith, List, [], ◌∷◌, length, take, get_or, Bool, true, false, Option, Some, None, Result, Ok, Err}
+use Rattle.std.proofs.Common.{◌≡◌, ℕ, ◌+◌, ◌<◌, ◌≤◌, refl, sym, ap, ◌∙◌, subst, arith, List, [], ◌∷◌, length, take, get_or, Bool, true, false}
 use Prim.Native.Nat.{zero, suc}
-use Rattle.std.specs.Prelude.{nat_lt, pos, ◌||◌}
-use Rattle.std.specs.List.{fold, list_any}
+use Rattle.std.specs.Prelude.{nat_lt, pos}
+use Rattle.std.specs.List.{fold}
 use Rattle.std.proofs.lemmas.Bool.{false≢true}
 use Rattle.std.proofs.lemmas.Bool.Decides.{nat_tests}
 use Rattle.tetri_ip.specs.declared.programs.Program.{Program}
@@ -10,8 +10,8 @@ use Rattle.tetri_cert.specs.declared.marks.Mark.{Mark}
 use Rattle.tetri_cert.specs.declared.marks.Mark.TheVariants.{Split, Close, Whole, Rest}
 use Rattle.tetri_cert.specs.Trees.{nodes_in}
 use Rattle.tetri_search.specs.Table.{Node, table}
-use Rattle.tetri_search.specs.Follow.{Follows, IsEarned, IsNext, State, after, best_after, best_behind, dual_below, first_state, open_behind, used_after}
-use Rattle.tetri_search.specs.Laws.{EarnedByPlace, IsOfNode, RestsSpendTheBudget, has_rest, is_rest}
+use Rattle.tetri_search.specs.Follow.{Follows, IsNext, State, after, best_after, best_behind, dual_below, first_state, open_behind, used_after}
+use Rattle.tetri_search.specs.Laws.{EarnedByPlace, RestsSpendTheBudget, has_rest, is_rest}
 use Rattle.tetri_search.proofs.MarkLemmas.{rest_is_rest, worked_is_no_rest}
 
 pub used_behind : (used : ℕ) (ms : List Mark) → fold used_after used ms ≡ used + nodes_in ms

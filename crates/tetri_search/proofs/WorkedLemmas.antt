@@ -1,19 +1,17 @@
 -- What the mark of a worked node says of its region.
-use Rattle.std.proofs.Common.{◌≡◌, ℕ, ◌+◌, ◌<◌, ◌≤◌, max, min, refl, sym, ap, ◌∙◌, subst, arith, List, [], ◌∷◌, length, get_or, map, cond, Bool, true, false, Option, Some, None, Ok}
-use Rattle.std.specs.Prelude.{◌≤ℤ◌, ◌<ℤ◌, ◌^◌, ◌-◌}
+use Rattle.std.proofs.Common.{◌≡◌, ℕ, ◌<◌, ◌≤◌, max, refl, sym, ap, ◌∙◌, subst, arith, List, [], length, cond, Bool, true, false, Option, Some, None, Ok}
+use Rattle.std.specs.Prelude.{◌≤ℤ◌, ◌<ℤ◌}
 use Rattle.std.specs.Int.{int_div_euclid}
 use Rattle.std.specs.List.{All}
-use Rattle.std.proofs.lemmas.Int.{ints, by_lt_z}
-use Rattle.std.proofs.lemmas.List.{length-map}
+use Rattle.std.proofs.lemmas.Int.{ints}
 use Rattle.std.proofs.lemmas.List.Elements.{All-cons, All-nil}
 use lib.IntN.{ℤ, pos, negsuc, ◌+ℤ◌, ◌-ℤ◌, ◌*ℤ◌}
 use lib.Signed.{lt_z, le_z}
 use Rattle.tetri_algebra.specs.Integers.{mul_le_cancel, mul_lt_cancel}
 use Rattle.tetri_algebra.specs.Quotients.{div_above, div_below}
-use Rattle.tetri_algebra.specs.Rational.{ℚ, num-whole_ℚ, whole_ℚ}
+use Rattle.tetri_algebra.specs.Rational.{ℚ, whole_ℚ}
 use Rattle.tetri_algebra.specs.RationalOrder.{floor_ℚ, floor_ℚ-whole_ℚ}
-use Rattle.tetri_algebra.specs.RationalRing.{◌*ℚ◌, whole_ℚ-*ℤ}
-use Rattle.tetri_num.specs.declared.places.Place.{Place}
+use Rattle.tetri_algebra.specs.RationalRing.{◌*ℚ◌, num-whole_ℚ, whole_ℚ-*ℤ}
 use Rattle.tetri_ip.specs.declared.programs.Program.{Program}
 use Rattle.tetri_ip.specs.declared.programs.Weight.{Weight}
 use Rattle.tetri_ip.specs.Forming.{weigh_answer}
@@ -21,25 +19,24 @@ use Rattle.tetri_ip.specs.Points.{Bounds, IsFit, IsInBox, IsPoint, first_unmet_f
 use Rattle.tetri_ip.specs.Weighed.{AreNotNegative, AreOfRows, once, weighed}
 use Rattle.tetri_ip.proofs.PointLaws.{first_unmet_none, first_unmet_some}
 use Rattle.tetri_ip.proofs.WeighingLaws.{weigh_of_none, weigh_of_row, weighed_row_single, weighed_single}
-use Rattle.tetri_simplex.specs.Certificates.{Certifies, CertifiesBest, CertifiesCut, CertifiesEmpty}
+use Rattle.tetri_simplex.specs.Certificates.{Certifies, CertifiesBest}
 use Rattle.tetri_simplex.specs.Ends.{End, best, cut, empty, past, long}
 use Rattle.tetri_simplex.specs.Machine.{machine}
-use Rattle.tetri_simplex.specs.Relaxation.{IsWhole, coordinate, numerators, objective_value}
+use Rattle.tetri_simplex.specs.Relaxation.{IsWhole, numerators, objective_value}
 use Rattle.tetri_simplex.proofs.EndFacts.{machine_certified}
 use Rattle.tetri_simplex.proofs.RelaxedPoints.{floor_between, whole_point, worth_same}
 use Rattle.tetri_cert.specs.declared.marks.Cell.{Cell}
 use Rattle.tetri_cert.specs.declared.marks.Mark.{Mark}
 use Rattle.tetri_cert.specs.declared.marks.Mark.TheVariants.{Split, Close, Whole, Rest}
-use Rattle.tetri_cert.specs.declared.marks.Licence.TheVariants as licences
-use Rattle.tetri_cert.specs.Cells.{cells_of, frac_cells_of, point_of}
+use Rattle.tetri_cert.specs.Cells.{cells_of, point_of}
 use Rattle.tetri_cert.specs.NodeBounds.{capped}
 use Rattle.tetri_cert.specs.ProperTrees.{AreProper, IsWorth, end_bound, floor_of}
 use Rattle.tetri_cert.proofs.CellLaws.{cells_of-columns, point_of-cells_of}
 use Rattle.tetri_cert.proofs.ProperTreeLaws.{IsSound}
 use Rattle.tetri_search.specs.declared.branches.Branch.{Branch}
-use Rattle.tetri_search.specs.Table.{best_by, broken_from, end_mark, single_by, wide_from, worked_by, worked_mark}
+use Rattle.tetri_search.specs.Table.{best_by, fractional_from, end_mark, single_by, unfixed_from, worked_by, worked_mark}
 use Rattle.tetri_search.specs.Follow.{best_after, natural}
-use Rattle.tetri_search.proofs.SplitLemmas.{IsBroken, IsWide, broken_is, not_broken, not_wide, wide_is}
+use Rattle.tetri_search.proofs.SplitLemmas.{IsFractional, IsUnfixed, fractional_is, none_fractional, none_unfixed, unfixed_is}
 
 -- a whole point is better than the best objective known
 abbrev pub IsBetter : ℕ → Mark → Type 0
@@ -60,8 +57,8 @@ capped_at_most (pos m) n h = omega (arith, ints)
 capped_at_most (negsuc m) n h = omega arith
 
 natural_above : (z : ℤ) (known : ℕ) → z ≤ℤ pos (max known (natural z))
-natural_above (pos m) known h = omega (arith, ints)
-natural_above (negsuc m) known h = omega (arith, ints)
+natural_above (pos m) known = omega (arith, ints)
+natural_above (negsuc m) known = omega (arith, ints)
 
 by_one : (z : ℤ) → int_div_euclid z (pos 1) ≡ z
 by_one z = between (int_div_euclid z (pos 1)) (div_below z (pos 1) one) (div_above z (pos 1) one)
@@ -185,11 +182,11 @@ split_sound : (p : Program) (b : Bounds) (c : Branch) (k : ℕ) → c.column ≡
     (c.column < length p.costs.items) × (number_at b.lower c.column ≤ℤ c.at) × (c.at <ℤ number_at b.upper c.column)
 split_sound p b c k e l low high = (omega arith, subst (λ i. number_at b.lower i ≤ℤ c.at) (sym e) low, subst (λ i. c.at <ℤ number_at b.upper i) (sym e) high)
 
-wide_sound : (p : Program) (b : Bounds) (c : Branch) → IsInBox p b → IsWide 0 b.lower b.upper c → (c.column < length p.costs.items) × (number_at b.lower c.column ≤ℤ c.at) × (c.at <ℤ number_at b.upper c.column)
-wide_sound p b c h w = let n = h.lower_count in split_sound p b c w.place (omega (arith, w.number)) (omega (arith, w.in_list)) w.low w.high
+unfixed_sound : (p : Program) (b : Bounds) (c : Branch) → IsInBox p b → IsUnfixed 0 b.lower b.upper c → (c.column < length p.costs.items) × (number_at b.lower c.column ≤ℤ c.at) × (c.at <ℤ number_at b.upper c.column)
+unfixed_sound p b c h w = let n = h.lower_count in split_sound p b c w.place (omega (arith, w.number)) (omega (arith, w.in_list)) w.low w.high
 
-broken_sound : (p : Program) (b : Bounds) (known : ℕ) (point : List ℚ) (q : ℤ) (ws : List Weight) (c : Branch) → CertifiesBest p b known point q ws → IsBroken 0 point c → (c.column < length p.costs.items) × (number_at b.lower c.column ≤ℤ c.at) × (c.at <ℤ number_at b.upper c.column)
-broken_sound p b known point q ws c z w =
+fractional_sound : (p : Program) (b : Bounds) (known : ℕ) (point : List ℚ) (q : ℤ) (ws : List Weight) (c : Branch) → CertifiesBest p b known point q ws → IsFractional 0 point c → (c.column < length p.costs.items) × (number_at b.lower c.column ≤ℤ c.at) × (c.at <ℤ number_at b.upper c.column)
+fractional_sound p b known point q ws c z w =
     let n = z.relaxed.count in
     let l : w.place < length p.costs.items = omega (arith, w.in_list) in
     let g = floor_between p b point w.place z.relaxed l w.not_whole in
@@ -204,10 +201,10 @@ whole_weighed p b known point q ws z w =
     same_whole (weighed p b q ws) (q *ℤ objective p (numerators point))
     (z.optimal ∙ ap (λ x. whole_ℚ q *ℚ x) (sym (worth_same p point w)) ∙ sym (whole_ℚ-*ℤ q (objective p (numerators point))))
 
-best_worked : (p : Program) (b : Bounds) (known : ℕ) (point : List ℚ) (q : ℤ) (ws : List Weight) → CertifiesBest p b known point q ws → (o : Option Branch) → broken_from 0 point ≡ o → IsWorked p b known (best_by o p point q ws)
-best_worked p b known point q ws z (Some c) e = record { sound = broken_sound p b known point q ws c z (broken_is 0 point c e); at_most = omega arith; better = tt }
+best_worked : (p : Program) (b : Bounds) (known : ℕ) (point : List ℚ) (q : ℤ) (ws : List Weight) → CertifiesBest p b known point q ws → (o : Option Branch) → fractional_from 0 point ≡ o → IsWorked p b known (best_by o p point q ws)
+best_worked p b known point q ws z (Some c) e = record { sound = fractional_sound p b known point q ws c z (fractional_is 0 point c e); at_most = omega arith; better = tt }
 best_worked p b known point q ws z None e =
-    let w = not_broken 0 point e in
+    let w = none_fractional 0 point e in
     let x = numerators point in
     let o = objective p x in
     let i = whole_point p b point z.relaxed w in
@@ -219,8 +216,8 @@ best_worked p b known point q ws z None e =
       better = subst (λ y. pos known <ℤ y) g z.above;
     }
 
-end_worked : (p : Program) (b : Bounds) (known : ℕ) (c : Branch) → IsInBox p b → IsWide 0 b.lower b.upper c → (e : End) → Certifies p b known e → IsWorked p b known (end_mark p c e)
-end_worked p b known c h w (best point q ws) z = best_worked p b known point q ws z (broken_from 0 point) refl
+end_worked : (p : Program) (b : Bounds) (known : ℕ) (c : Branch) → IsInBox p b → IsUnfixed 0 b.lower b.upper c → (e : End) → Certifies p b known e → IsWorked p b known (end_mark p c e)
+end_worked p b known c h w (best point q ws) z = best_worked p b known point q ws z (fractional_from 0 point) refl
 end_worked p b known c h w (cut q ws) z = record {
   sound = proper_above p b q ws z.weights.rows z.weights.signs z.multiplier z.weights.formed;
   at_most = subst (λ n. n ≤ known) (sym (floor_above_zero p b q ws z.multiplier)) (capped_at_most _ known z.at_most);
@@ -231,15 +228,15 @@ end_worked p b known c h w (empty ws) z = record {
   at_most = omega arith;
   better = tt;
 }
-end_worked p b known c h w (past place) z = record { sound = wide_sound p b c h w; at_most = omega arith; better = tt }
-end_worked p b known c h w long z = record { sound = wide_sound p b c h w; at_most = omega arith; better = tt }
+end_worked p b known c h w (past place) z = record { sound = unfixed_sound p b c h w; at_most = omega arith; better = tt }
+end_worked p b known c h w long z = record { sound = unfixed_sound p b c h w; at_most = omega arith; better = tt }
 
-worked_by_is : (p : Program) (b : Bounds) (known : ℕ) → IsFit p → IsInBox p b → (o : Option Branch) → wide_from 0 b.lower b.upper ≡ o → IsWorked p b known (worked_by o p b known)
+worked_by_is : (p : Program) (b : Bounds) (known : ℕ) → IsFit p → IsInBox p b → (o : Option Branch) → unfixed_from 0 b.lower b.upper ≡ o → IsWorked p b known (worked_by o p b known)
 worked_by_is p b known f h None e =
-    let s = not_wide 0 b.lower b.upper (h.lower_count ∙ sym h.upper_count) (λ k l. h.ordered k (subst (λ n. k < n) h.lower_count l)) e in
+    let s = none_unfixed 0 b.lower b.upper (h.lower_count ∙ sym h.upper_count) (λ k l. h.ordered k (subst (λ n. k < n) h.lower_count l)) e in
     single_worked p b known f h s (first_unmet_from 0 p.rows.items b.lower) refl
-worked_by_is p b known f h (Some c) e = end_worked p b known c h (wide_is 0 b.lower b.upper c e) (machine p b known) (machine_certified p b known h)
+worked_by_is p b known f h (Some c) e = end_worked p b known c h (unfixed_is 0 b.lower b.upper c e) (machine p b known) (machine_certified p b known h)
 
 pub worked : (p : Program) (b : Bounds) (known : ℕ) → IsFit p → IsInBox p b → IsWorked p b known (worked_mark p b known)
 unfolding worked_mark
-worked p b known f h = worked_by_is p b known f h (wide_from 0 b.lower b.upper) refl
+worked p b known f h = worked_by_is p b known f h (unfixed_from 0 b.lower b.upper) refl

@@ -12,7 +12,7 @@ use Rattle.tetri_cert.specs.declared.marks.Mark.TheVariants.{Split, Close, Whole
 use Rattle.tetri_cert.specs.NodeBounds.{high_side, low_side}
 use Rattle.tetri_search.specs.declared.branches.Branch.{Branch}
 use Rattle.tetri_search.specs.declared.duals.Dual.{Dual}
-use Rattle.tetri_search.specs.Table.{Node, table, wide_from}
+use Rattle.tetri_search.specs.Table.{Node, table, unfixed_from}
 
 -- ---- what a mark changes
 -- the weights of a run that ended at a best point
@@ -30,7 +30,7 @@ dual_by (Some c) p b known = dual_of (machine p b known)
 
 -- the weights of a node's own run
 unfoldable pub own_dual : Program → Bounds → ℕ → Option Dual
-own_dual p b known = dual_by (wide_from 0 b.lower b.upper) p b known
+own_dual p b known = dual_by (unfixed_from 0 b.lower b.upper) p b known
 
 abbrev pub dual_or : Option Dual → Option Dual → Option Dual
 dual_or None above = above

@@ -1,14 +1,16 @@
 -- What holds of every tree of a search.
-use Rattle.std.specs.Prelude.{◌≡◌, ℕ, ◌+◌, ◌*◌, ◌<◌, ◌≤◌, List, [], ◌∷◌, Bool, true, false, length, take, nat_lt, slice_index_or, ◌+ℤ◌, ◌-ℤ◌, Ok, pos, unsigned_abs}
+use Rattle.std.specs.Prelude.{◌≡◌, ℕ, ◌*◌, ◌<◌, ◌≤◌, List, [], ◌∷◌, Bool, true, false, length, take, nat_lt, slice_index_or, Option, Some, None, ◌+ℤ◌, ◌-ℤ◌, Ok, pos, unsigned_abs}
 use Rattle.std.specs.List.{fold, list_any}
 use lib.IntN.{ℤ}
 use Rattle.tetri_ip.specs.declared.programs.Program.{Program}
-use Rattle.tetri_ip.specs.Points.{IsFit}
+use Rattle.tetri_ip.specs.Points.{IsFit, objective}
+use Rattle.tetri_cert.specs.declared.marks.Cell.{Cell}
 use Rattle.tetri_cert.specs.declared.marks.Mark.{Mark}
 use Rattle.tetri_cert.specs.declared.marks.Mark.TheVariants.{Split, Close, Whole, Rest}
+use Rattle.tetri_cert.specs.Cells.{point_of}
 use Rattle.tetri_cert.specs.Trees.{nodes_in, tree_bound}
 use Rattle.tetri_search.specs.Table.{Node, table}
-use Rattle.tetri_search.specs.Follow.{IsEarned, after, best_behind, first_state}
+use Rattle.tetri_search.specs.Follow.{IsEarned, after, best_behind, first_state, last_whole}
 
 abbrev pub is_rest : Mark → Bool
 is_rest (Split j at licence) = false
@@ -27,6 +29,14 @@ pub record IsSettled (p : Program) (low : ℕ) (ms : List Mark) : Type 0 where
 
 abbrev pub EarnedIsProper : Type 0
 EarnedIsProper = (p : Program) (low budget : ℕ) (ms : List Mark) → IsFit p → IsEarned p low budget ms → IsSettled p low ms
+
+-- the best objective known is that of the last whole point, and as at first where there is none
+abbrev pub IsBestPoint : Program → ℕ → Option (List Cell) → ℕ → Type 0
+IsBestPoint p low None known = known ≡ low
+IsBestPoint p low (Some cells) known = pos known ≡ objective p (point_of (length p.costs.items) cells)
+
+abbrev pub WholesRise : Type 0
+WholesRise = (p : Program) (low budget : ℕ) (ms : List Mark) → IsFit p → IsEarned p low budget ms → IsBestPoint p low (last_whole ms) (best_behind low ms)
 
 -- a node is left open only where the budget is spent
 abbrev pub RestsSpendTheBudget : Type 0

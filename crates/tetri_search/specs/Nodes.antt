@@ -1,5 +1,5 @@
 -- What the search keeps of its open nodes and of the marks that it wrote.
-use Rattle.std.specs.Prelude.{◌≡◌, ◌≢◌, ℕ, List, [], ◌∷◌, length, Option, Some, None, ◌<ℤ◌, pos}
+use Rattle.std.specs.Prelude.{◌≡◌, ◌≢◌, ◌<◌, ◌^◌, List, [], ◌∷◌, length, Option, Some, None, ◌<ℤ◌, pos}
 use Rattle.std.specs.List.{All}
 use Rattle.tetri_num.specs.Range.{IsWithin}
 use Rattle.tetri_ip.specs.declared.programs.Program.{Program}
@@ -8,6 +8,7 @@ use Rattle.tetri_ip.specs.Points.{IsInBox, IsPoint, box_of, objective}
 use Rattle.tetri_ip.specs.Weighed.{AreNotNegative, AreOfRows}
 use Rattle.tetri_cert.specs.declared.marks.Mark.{Mark}
 use Rattle.tetri_cert.specs.declared.marks.Mark.TheVariants.{Split, Close, Whole, Rest}
+use Rattle.tetri_cert.specs.declared.marks.Licence.TheVariants as licences
 use Rattle.tetri_cert.specs.Cells.{AreOfColumns, point_of}
 use Rattle.tetri_search.specs.declared.duals.Dual.{Dual}
 use Rattle.tetri_search.specs.Table.{Node}
@@ -29,7 +30,16 @@ IfDual p (Some d) = IsDual p d
 -- each region lies in the program's box, and the weights above can be weighed with
 abbrev pub AreOpen : Program → List Node → Type 0
 AreOpen p [] = Unit {0}
-AreOpen p (n ∷ ns) = IsInBox p n.region × (IfDual p n.dual × AreOpen p ns)
+AreOpen p (n ∷ ns) = IsInBox p n.region × IfDual p n.dual × AreOpen p ns
+
+-- the numbers of a place where an operation left the range are those of a table
+abbrev pub IsNarrow : Mark → Type 0
+IsNarrow (Split j at (licences.Point cells)) = Unit {0}
+IsNarrow (Split j at (licences.Past place)) = (place.step < 2 ^ 32) × (place.row < 2 ^ 32) × (place.column < 2 ^ 32)
+IsNarrow (Split j at licences.Long) = Unit {0}
+IsNarrow (Close q ws) = Unit {0}
+IsNarrow (Whole q ws worth cells) = Unit {0}
+IsNarrow (Rest q ws) = Unit {0}
 
 -- a whole point is one of the program, with its objective
 abbrev pub IsWholePoint : Program → Mark → Type 0

@@ -16,23 +16,22 @@ use Rattle.tetri_simplex.specs.Machine.{machine}
 use Rattle.tetri_simplex.specs.Relaxation.{numerators}
 use Rattle.tetri_cert.specs.declared.marks.Mark.{Mark}
 use Rattle.tetri_cert.specs.declared.marks.Mark.TheVariants.{Split, Close, Whole, Rest}
-use Rattle.tetri_cert.specs.declared.marks.Licence.{Licence}
 use Rattle.tetri_cert.specs.declared.marks.Licence.TheVariants as licences
 use Rattle.tetri_cert.specs.Cells.{cells_of, frac_cells_of}
 use Rattle.tetri_search.specs.declared.branches.Branch.{Branch}
 use Rattle.tetri_search.specs.declared.duals.Dual.{Dual}
 
 -- the least column, counted from j on, that has more than one number, and the middle of its bounds, rounded down
-abbrev pub wide_from : ℕ → List ℤ → List ℤ → Option Branch
-wide_from j [] us = None
-wide_from j (l ∷ ls) [] = None
-wide_from j (l ∷ ls) (u ∷ us) =
-    if lt_z l u then Some (record { column = j; at = l +ℤ int_div_euclid (u -ℤ l) (pos 2) }) else wide_from (j + 1) ls us
+abbrev pub unfixed_from : ℕ → List ℤ → List ℤ → Option Branch
+unfixed_from j [] us = None
+unfixed_from j (l ∷ ls) [] = None
+unfixed_from j (l ∷ ls) (u ∷ us) =
+    if lt_z l u then Some (record { column = j; at = l +ℤ int_div_euclid (u -ℤ l) (pos 2) }) else unfixed_from (j + 1) ls us
 
 -- the least column, counted from j on, whose number is not whole, and that number's floor
-abbrev pub broken_from : ℕ → List ℚ → Option Branch
-broken_from j [] = None
-broken_from j (x ∷ xs) = if x.den == 1 then broken_from (j + 1) xs else Some (record { column = j; at = floor_ℚ x })
+abbrev pub fractional_from : ℕ → List ℚ → Option Branch
+fractional_from j [] = None
+fractional_from j (x ∷ xs) = if x.den == 1 then fractional_from (j + 1) xs else Some (record { column = j; at = floor_ℚ x })
 
 -- ---- a region of one point
 -- the point is broken by a row, or is no better than the best objective known, or is a better point
@@ -52,7 +51,7 @@ best_by (Some c) p point q ws = Split c.column c.at (licences.Point (frac_cells_
 
 -- by the branch to be taken where the run gives none
 abbrev pub end_mark : Program → Branch → End → Mark
-end_mark p c (best point q ws) = best_by (broken_from 0 point) p point q ws
+end_mark p c (best point q ws) = best_by (fractional_from 0 point) p point q ws
 end_mark p c (cut q ws) = Close q ws
 end_mark p c (empty ws) = Close (pos 0) ws
 end_mark p c (past place) = Split c.column c.at (licences.Past place)
@@ -64,7 +63,7 @@ worked_by None p b known = single_mark p b known
 worked_by (Some c) p b known = end_mark p c (machine p b known)
 
 unfoldable pub worked_mark : Program → Bounds → ℕ → Mark
-worked_mark p b known = worked_by (wide_from 0 b.lower b.upper) p b known
+worked_mark p b known = worked_by (unfixed_from 0 b.lower b.upper) p b known
 
 -- ---- the mark of a node that is left open
 abbrev pub rest_by : Dual → Result ℤ WeighFault → Mark
