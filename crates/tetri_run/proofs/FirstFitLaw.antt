@@ -33,7 +33,7 @@ use Rattle.tetri_advice.specs.Fit.{Placement, fit, grant_of, grants_of, is_held,
 use Rattle.tetri_advice.proofs.FitLaws.{AreFit, Follows, IsPlain, IsRight, are_fit, fit-filter, none_any}
 use Rattle.tetri_claims.specs.Good.{IsThriftyForAll}
 use Rattle.tetri_greedy.specs.Held.{but_leaves}
-use Rattle.tetri_run.specs.Cycle.{ComesBefore}
+use Rattle.tetri_space.specs.GrantOrder.{ComesBefore}
 use Rattle.tetri_run.specs.FirstFit.{HasAscendingLeaves, first_fit, first_fit_from, placed}
 
 -- the leaf comes first by its number

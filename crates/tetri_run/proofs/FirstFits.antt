@@ -19,7 +19,8 @@ use Rattle.tetri_space.specs.declared.instance.Offer.{Offer}
 use Rattle.tetri_advice.specs.Fit.{Placement, fit, fit_beside, grants_of, is_held}
 use Rattle.tetri_advice.proofs.FitLaws.{IsRight, are_fit}
 use Rattle.tetri_advice.proofs.FitSame.{fit-same}
-use Rattle.tetri_greedy.specs.Held.{AreHoldable, TellsOf, all_marked, but_leaves, is_marked}
+use Rattle.tetri_greedy.specs.Held.{AreHoldable, TellsOf, all_marked, but_leaves}
+use Rattle.tetri_space.specs.Slots.{is_marked}
 use Rattle.tetri_space.proofs.FreeLemmas.{throughout_decides}
 use Rattle.tetri_greedy.proofs.Marks.{in_window, tells_all}
 use Rattle.tetri_run.specs.FirstFit.{GotFit, HasAscendingLeaves, first_fit, first_fit_from, placed}

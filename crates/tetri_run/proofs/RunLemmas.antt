@@ -14,7 +14,8 @@ use Rattle.tetri_state.specs.Launch.{worth_launched}
 use Rattle.tetri_state.specs.Reached.{ArePlans, IsReached, begun, between}
 use Rattle.tetri_state.specs.Snapshot.{Snapshot}
 use Rattle.tetri_trace.specs.Scenario.{Scenario}
-use Rattle.tetri_run.specs.Cycle.{ComesBefore, IsPlannedCycle, instance_at}
+use Rattle.tetri_space.specs.GrantOrder.{ComesBefore}
+use Rattle.tetri_run.specs.Cycle.{IsPlannedCycle, instance_at}
 use Rattle.tetri_run.specs.Run.{IsPlannedRun, IsRun, NextText, cycle, summary, cycles_text, optimal_cycles, plans_of, state_behind, summary_of, worth_of_run}
 use Rattle.tetri_run.specs.Progress.{RanAll, RanSlot, RanSlots, StoppedBetween, StoppedInSlot, StoppedInText, summary_at}
 use Rattle.tetri_run.specs.declared.cycles.RunTally.{RunTally}

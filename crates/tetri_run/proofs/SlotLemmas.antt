@@ -11,7 +11,7 @@ use Rattle.tetri_strl.specs.Tree.{Tree, one, join, scale, barrier, Trees, none, 
 use Rattle.tetri_space.specs.Lawful.{IsLawful}
 use Rattle.tetri_space.specs.Space.{Bid, Space, leaf_in}
 use Rattle.tetri_state.specs.Planning.{IsCarry, IsNumbered, is_live, still_pending}
-use Rattle.tetri_run.specs.Cycle.{ComesBefore}
+use Rattle.tetri_space.specs.GrantOrder.{ComesBefore}
 use Rattle.tetri_run.specs.FirstFit.{HasAscendingLeaves}
 
 mutual

@@ -1,7 +1,8 @@
 // One slot of a run.
 ghost use Rattle.std.specs.Prelude.{◌≡◌, ◌≤◌, ◌<◌, ◌^◌, AllPairs, IfOk, IsErrOf, OnOk};
 ghost use Rattle.tetri_algebra.specs.Counts.{Rose};
-ghost use Rattle.tetri_run.specs.Cycle.{ComesBefore, IsPlannedCycle};
+ghost use Rattle.tetri_space.specs.GrantOrder.{ComesBefore};
+ghost use Rattle.tetri_run.specs.Cycle.{IsPlannedCycle};
 ghost use Rattle.tetri_run.specs.Progress.{IsReady, RanSlot, StoppedInSlot};
 ghost use Rattle.tetri_run.specs.Run.{optimal_count};
 ghost use Rattle.tetri_report.specs.Block.{block};

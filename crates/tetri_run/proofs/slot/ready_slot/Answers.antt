@@ -9,7 +9,8 @@ use Rattle.tetri_state.specs.Planning.{IsCarry, instance_of}
 use Rattle.tetri_state.specs.Readied.{Fits, IsLaunchOf}
 use Rattle.tetri_state.specs.Snapshot.{Snapshot}
 use Rattle.tetri_trace.specs.Scenario.{scenario}
-use Rattle.tetri_run.specs.Cycle.{ComesBefore, IsKeptFor, IsPlanFor, instance_at}
+use Rattle.tetri_space.specs.GrantOrder.{ComesBefore}
+use Rattle.tetri_run.specs.Cycle.{IsKeptFor, IsPlanFor, instance_at}
 use Rattle.tetri_run.proofs.PrintLemmas.{cycle_printable}
 use Rattle.tetri_run.proofs.SlotLemmas.{carry_ordered, numbered_ascend}
 use Rattle.tetri_run.proofs.slot.ready_slot.Goals as goal
