@@ -2,7 +2,7 @@
 use Rattle.std.specs.Prelude.{◌≡◌, ℕ, ◌+◌, ◌<◌, ◌≤◌, ◌==◌, Bool, true, not, All, List, [], ◌∷◌}
 use Rattle.std.specs.List.{filter, list_any}
 use Rattle.tetri_strl.specs.declared.expr.Leaf.{Leaf}
-use Rattle.tetri_space.specs.Slots.{is_marked, marked, slots_of}
+pub use Rattle.tetri_space.specs.Slots.{is_marked, marked, slots_of}
 use Rattle.tetri_space.specs.Space.{Space}
 use Rattle.tetri_advice.specs.Fit.{Placement, is_held, is_live}
 
