@@ -1,2 +1,3 @@
-pub mod VerdictLemmas
 pub mod WastedLemmas
+pub mod VerdictLaws
+pub mod PlaceLemmas

@@ -1,3 +1,5 @@
+pub mod PlanOf
 pub mod Wasted
 pub mod Verdict
 pub mod Answers
+pub mod Places

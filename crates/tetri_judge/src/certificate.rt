@@ -5,7 +5,7 @@ ghost use Rattle.tetri_claims.specs.Certified.{IsCutShort, counted_nodes};
 ghost use Rattle.tetri_judge.specs.Answers.{AnswersBound, IsTreeProgram, verdict_of};
 ghost use Rattle.tetri_judge.specs.Verdict.{IsRightlyMarked};
 ghost use Rattle.tetri_report.specs.Block.{block};
-ghost use Rattle.tetri_report.specs.PlanOf.{planned};
+ghost use Rattle.tetri_judge.specs.PlanOf.{planned};
 ghost use Rattle.tetri_space.specs.Sound.{IsSound};
 ghost use Rattle.tetri_space.specs.Space.{space};
 

@@ -1,11 +1,13 @@
 // The judge of one cycle.
-ghost use Rattle.std.specs.Prelude.{◌≡◌, ◌⊎◌, OnOk, Ok, Err};
+ghost use Rattle.std.specs.Prelude.{◌≡◌, ◌≤◌, ◌⊎◌, IfErr, OnOk, Ok, Err};
 ghost use Rattle.tetri_claims.specs.Certified.{IsCertified};
 ghost use Rattle.tetri_claims.specs.Good.{IsGood, IsHonest};
 ghost use Rattle.tetri_judge.specs.Answers.{AnswersGrants};
+ghost use Rattle.tetri_judge.specs.Places.{place_of};
 ghost use Rattle.tetri_judge.specs.Verdict.{IsVerdict, PassesBefore, proper};
 ghost use Rattle.tetri_report.specs.Block.{block};
-ghost use Rattle.tetri_report.specs.PlanOf.{planned};
+ghost use Rattle.tetri_report.specs.BlockLines.{end_place};
+ghost use Rattle.tetri_judge.specs.PlanOf.{planned};
 ghost use Rattle.tetri_space.specs.Sound.{IsSound};
 ghost use Rattle.tetri_space.specs.Space.{space};
 
@@ -86,6 +88,7 @@ pub fn judge(
         × IsCertified (space inst.entry.now) budget (planned (block c.now))) }
     ensures complete { IsHonest (space inst.entry.now) carry (planned (block c.now))
         → IsCertified (space inst.entry.now) budget (planned (block c.now)) → (result ≡ Ok tt) ⊎ (result ≡ Err Verdict.NoMemory) }
+    ensures within { IfErr result (λ v. place_of (block c.now) v ≤ end_place (block c.now)) }
 {
     match test_grants(inst, carry, c) {
         Ok(()) => {}

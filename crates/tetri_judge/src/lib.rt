@@ -3,8 +3,12 @@
 
 mod certificate;
 mod judging;
+mod laws;
+mod places;
 mod verdict;
 mod wasted;
 
 pub use judging::judge;
+pub use laws::plans_have_one_verdict;
+pub use places::place_of;
 pub use verdict::Verdict;

@@ -5,20 +5,7 @@
 use std::process::ExitCode;
 use std::{env, io};
 use tetri_io::{FileShelf, StdSink};
-use tetri_run::{Status, run, say};
-
-// What the shell is told.
-fn exit_number(status: &Status) -> u8 {
-    match status {
-        Status::Done => 0,
-        Status::Refused { .. } => 1,
-        Status::Usage => 2,
-        Status::ReadFault => 3,
-        Status::WriteFault => 4,
-        Status::BadTrace { .. } => 5,
-        Status::NoMemory => 6,
-    }
-}
+use tetri_run::{Status, conclude, run, status_of_words};
 
 // The words behind the program's name.
 fn words<R: env::Env + AllocGlobal>(rt: &R) -> io::Result<Vec<String>> {
@@ -28,18 +15,20 @@ fn words<R: env::Env + AllocGlobal>(rt: &R) -> io::Result<Vec<String>> {
         .map_err(io::Error::from)
 }
 
-fn main(rt: HostRuntime) -> ExitCode {
-    let status = match words(&rt) {
+// Does what the words ask for.
+fn answer(rt: &HostRuntime) -> Status {
+    match words(rt) {
         Ok(words) => {
-            let mut shelf = FileShelf::new(&rt);
+            let mut shelf = FileShelf::new(rt);
             let mut sink = StdSink::new(rt.stdout());
             run(rt.alloc(), &words, &mut shelf, &mut sink)
         }
-        Err(_) => Status::Usage,
-    };
-    if status != Status::Done {
-        let mut errors = StdSink::new(rt.stderr());
-        let _ = say(rt.alloc(), &status, &mut errors);
+        Err(error) => status_of_words(error.kind()),
     }
-    ExitCode::from(exit_number(&status))
+}
+
+fn main(rt: HostRuntime) -> ExitCode {
+    let status = answer(&rt);
+    let mut errors = StdSink::new(rt.stderr());
+    ExitCode::from(conclude(rt.alloc(), &status, &mut errors))
 }

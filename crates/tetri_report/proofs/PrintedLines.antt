@@ -59,6 +59,7 @@ module _ (t : Scenario) where
   tag (lines.Cycle number) = codes "cycle"
   tag (lines.End piece) = codes "end"
   tag (lines.Cancel job) = codes "cancel"
+  tag (lines.Fail job) = codes "fail"
   tag (lines.Over piece) = codes "over"
   tag (lines.Expire job) = codes "expire"
   tag (lines.Plan p) = codes "plan"
@@ -72,6 +73,7 @@ module _ (t : Scenario) where
   others (lines.Cycle number) = decimal number ∷ []
   others (lines.End piece) = job_name t piece.job ∷ decimal piece.leaf ∷ []
   others (lines.Cancel job) = job_name t job ∷ []
+  others (lines.Fail job) = job_name t job ∷ []
   others (lines.Over piece) = job_name t piece.job ∷ decimal piece.leaf ∷ []
   others (lines.Expire job) = job_name t job ∷ []
   others (lines.Plan p) = decimal p.value ∷ decimal p.bound ∷ mark_text p.mark ∷ decimal p.nodes ∷ []
@@ -90,6 +92,7 @@ module _ (t : Scenario) where
   IsPrintableLine (lines.Cycle number) = number < 2 ^ 32
   IsPrintableLine (lines.End piece) = (piece.job < length t.submissions) × (piece.leaf < 2 ^ 32)
   IsPrintableLine (lines.Cancel job) = job < length t.submissions
+  IsPrintableLine (lines.Fail job) = job < length t.submissions
   IsPrintableLine (lines.Over piece) = (piece.job < length t.submissions) × (piece.leaf < 2 ^ 32)
   IsPrintableLine (lines.Expire job) = job < length t.submissions
   IsPrintableLine (lines.Plan p) = (p.value < 2 ^ 64) × (p.bound < 2 ^ 64) × (p.nodes < 2 ^ 32)
@@ -232,6 +235,7 @@ module _ (t : Scenario) (sound : IsSound t) where
   words_back (lines.Cycle number) h = ap (λ o. option_and_then (λ n. Some (lines.Cycle n)) o) (small_back number h)
   words_back (lines.End piece) h = ap (option_map lines.End) (piece_back piece h.0 h.1)
   words_back (lines.Cancel job) h = ap (option_map lines.Cancel) (job_back job h)
+  words_back (lines.Fail job) h = ap (option_map lines.Fail) (job_back job h)
   words_back (lines.Over piece) h = ap (option_map lines.Over) (piece_back piece h.0 h.1)
   words_back (lines.Expire job) h = ap (option_map lines.Expire) (job_back job h)
   words_back (lines.Plan p) h = plan_back p h
@@ -273,6 +277,8 @@ module _ (t : Scenario) (sound : IsSound t) where
         (high_avoids mark low (codes "end") refl, (job_word piece.job h.0, (small_word piece.leaf h.1, tt)))
     words_avoid (lines.Cancel job) h =
         (high_avoids mark low (codes "cancel") refl, (job_word job h, tt))
+    words_avoid (lines.Fail job) h =
+        (high_avoids mark low (codes "fail") refl, (job_word job h, tt))
     words_avoid (lines.Over piece) h =
         (high_avoids mark low (codes "over") refl, (job_word piece.job h.0, (small_word piece.leaf h.1, tt)))
     words_avoid (lines.Expire job) h =

@@ -14,7 +14,7 @@ use Rattle.tetri_trace.specs.Sound.{IsSound}
 use Rattle.tetri_report.specs.Block.{Block}
 use Rattle.tetri_report.specs.BlockLines.{certificate_lines, grant_line, granted, inner_lines, plan_of}
 use Rattle.tetri_report.specs.Printable.{IsCertificateInRange, IsInRange, IsPrintable, IsPrintableCertificate, IsPrintableGrant, IsPrintableNode}
-use Rattle.tetri_report.specs.Reading.{Reading, before_cancels, before_ends, before_nodes, before_overs, before_plan, block_of, is_certified, is_planned, with_line}
+use Rattle.tetri_report.specs.Reading.{Reading, before_cancels, before_ends, before_fails, before_nodes, before_overs, before_plan, block_of, is_certified, is_planned, with_line}
 use Rattle.tetri_report.specs.declared.line.ReportLine.{ReportLine}
 use Rattle.tetri_report.specs.declared.line.ReportLine.TheVariants as lines
 use Rattle.tetri_report.specs.declared.line.Stage.{Stage}
@@ -28,6 +28,7 @@ ends_cancels stages.Begun h = h
 ends_cancels stages.Ends h = h
 ends_cancels stages.Cancels h = refl
 ends_cancels stages.Opened h = h
+ends_cancels stages.Fails h = h
 ends_cancels stages.Overs h = h
 ends_cancels stages.Expires h = h
 ends_cancels stages.Planned h = h
@@ -35,23 +36,38 @@ ends_cancels stages.Tree h = h
 ends_cancels stages.Certified h = h
 ends_cancels stages.Closed h = h
 
-cancels_overs : (s : Stage) → before_cancels s ≡ true → before_overs s ≡ true
-cancels_overs stages.Begun h = h
-cancels_overs stages.Ends h = h
-cancels_overs stages.Cancels h = h
-cancels_overs stages.Opened h = h
-cancels_overs stages.Overs h = refl
-cancels_overs stages.Expires h = h
-cancels_overs stages.Planned h = h
-cancels_overs stages.Tree h = h
-cancels_overs stages.Certified h = h
-cancels_overs stages.Closed h = h
+cancels_fails : (s : Stage) → before_cancels s ≡ true → before_fails s ≡ true
+cancels_fails stages.Begun h = h
+cancels_fails stages.Ends h = h
+cancels_fails stages.Cancels h = h
+cancels_fails stages.Opened h = h
+cancels_fails stages.Fails h = refl
+cancels_fails stages.Overs h = h
+cancels_fails stages.Expires h = h
+cancels_fails stages.Planned h = h
+cancels_fails stages.Tree h = h
+cancels_fails stages.Certified h = h
+cancels_fails stages.Closed h = h
+
+fails_overs : (s : Stage) → before_fails s ≡ true → before_overs s ≡ true
+fails_overs stages.Begun h = h
+fails_overs stages.Ends h = h
+fails_overs stages.Cancels h = h
+fails_overs stages.Opened h = h
+fails_overs stages.Fails h = h
+fails_overs stages.Overs h = refl
+fails_overs stages.Expires h = h
+fails_overs stages.Planned h = h
+fails_overs stages.Tree h = h
+fails_overs stages.Certified h = h
+fails_overs stages.Closed h = h
 
 overs_plan : (s : Stage) → before_overs s ≡ true → before_plan s ≡ true
 overs_plan stages.Begun h = h
 overs_plan stages.Ends h = h
 overs_plan stages.Cancels h = h
 overs_plan stages.Opened h = h
+overs_plan stages.Fails h = h
 overs_plan stages.Overs h = h
 overs_plan stages.Expires h = refl
 overs_plan stages.Planned h = h
@@ -64,6 +80,7 @@ planned_nodes stages.Begun h = h
 planned_nodes stages.Ends h = h
 planned_nodes stages.Cancels h = h
 planned_nodes stages.Opened h = h
+planned_nodes stages.Fails h = h
 planned_nodes stages.Overs h = h
 planned_nodes stages.Expires h = h
 planned_nodes stages.Planned h = refl
@@ -81,6 +98,7 @@ tree_nodes stages.Begun h = h
 tree_nodes stages.Ends h = h
 tree_nodes stages.Cancels h = h
 tree_nodes stages.Opened h = h
+tree_nodes stages.Fails h = h
 tree_nodes stages.Overs h = h
 tree_nodes stages.Expires h = h
 tree_nodes stages.Planned h = refl
@@ -93,6 +111,7 @@ tree_certified stages.Begun h = h
 tree_certified stages.Ends h = h
 tree_certified stages.Cancels h = h
 tree_certified stages.Opened h = h
+tree_certified stages.Fails h = h
 tree_certified stages.Overs h = h
 tree_certified stages.Expires h = h
 tree_certified stages.Planned h = h
@@ -112,6 +131,10 @@ module _ (t : Scenario) where
   adds_cancelled : (b : Block) (xs : List ℕ) → with_lines t lines.Cancel b xs ≡ record b { cancelled = b.cancelled ++ xs }
   adds_cancelled b [] = ap (λ (l : List ℕ). record b { cancelled = l }) (sym (append-nil b.cancelled))
   adds_cancelled b (x ∷ xs) = adds_cancelled (record b { cancelled = b.cancelled ++ x ∷ [] }) xs ∙ ap (λ (l : List ℕ). record b { cancelled = l }) (private_append b.cancelled x xs)
+
+  adds_failed : (b : Block) (xs : List ℕ) → with_lines t lines.Fail b xs ≡ record b { failed = b.failed ++ xs }
+  adds_failed b [] = ap (λ (l : List ℕ). record b { failed = l }) (sym (append-nil b.failed))
+  adds_failed b (x ∷ xs) = adds_failed (record b { failed = b.failed ++ x ∷ [] }) xs ∙ ap (λ (l : List ℕ). record b { failed = l }) (private_append b.failed x xs)
 
   adds_over : (b : Block) (xs : List PieceId) → with_lines t lines.Over b xs ≡ record b { over = b.over ++ xs }
   adds_over b [] = ap (λ (l : List PieceId). record b { over = l }) (sym (append-nil b.over))
@@ -172,8 +195,11 @@ before_expired b = record (without_plan b) { expired = [] }
 abbrev before_over : Block → Block
 before_over b = record (before_expired b) { over = [] }
 
+abbrev before_failed : Block → Block
+before_failed b = record (before_over b) { failed = [] }
+
 abbrev before_cancelled : Block → Block
-before_cancelled b = record (before_over b) { cancelled = [] }
+before_cancelled b = record (before_failed b) { cancelled = [] }
 
 module _ (t : Scenario) (sound : IsSound t) (b : Block) (good : IsPrintable t b) (range : IsInRange b) where
   launches_read : (r : Reading) → r.fault ≡ None → is_certified r.stage ≡ true → r.block ≡ before_launches b → ReadsTo t is_certified r (map lines.Launch b.launched) b
@@ -263,14 +289,23 @@ module _ (t : Scenario) (sound : IsSound t) (b : Block) (good : IsPrintable t b)
       and_then t before_overs is_certified r (map lines.Over b.over) from_expired _ b s
       (rest_from_expired s.behind s.sane (overs_plan s.behind.stage s.stage) (s.is ∙ ap (λ (c : Block). with_lines t lines.Over c b.over) is ∙ adds_over t (before_over b) b.over))
 
+  abbrev from_failed : List ReportLine
+  from_failed = map lines.Fail b.failed ++ from_over
+
+  rest_from_failed : (r : Reading) → r.fault ≡ None → before_fails r.stage ≡ true → r.block ≡ before_failed b → ReadsTo t is_certified r from_failed b
+  rest_from_failed r sane here is =
+      let s = lines_of_kind t lines.Fail before_fails (λ stage x h. h) (λ x. refl) (λ x. refl) sound r b.failed sane here good.failed in
+      and_then t before_fails is_certified r (map lines.Fail b.failed) from_over _ b s
+      (rest_from_over s.behind s.sane (fails_overs s.behind.stage s.stage) (s.is ∙ ap (λ (c : Block). with_lines t lines.Fail c b.failed) is ∙ adds_failed t (before_failed b) b.failed))
+
   abbrev from_cancelled : List ReportLine
-  from_cancelled = map lines.Cancel b.cancelled ++ from_over
+  from_cancelled = map lines.Cancel b.cancelled ++ from_failed
 
   rest_from_cancelled : (r : Reading) → r.fault ≡ None → before_cancels r.stage ≡ true → r.block ≡ before_cancelled b → ReadsTo t is_certified r from_cancelled b
   rest_from_cancelled r sane here is =
       let s = lines_of_kind t lines.Cancel before_cancels (λ stage x h. h) (λ x. refl) (λ x. refl) sound r b.cancelled sane here good.cancelled in
-      and_then t before_cancels is_certified r (map lines.Cancel b.cancelled) from_over _ b s
-      (rest_from_over s.behind s.sane (cancels_overs s.behind.stage s.stage) (s.is ∙ ap (λ (c : Block). with_lines t lines.Cancel c b.cancelled) is ∙ adds_cancelled t (before_cancelled b) b.cancelled))
+      and_then t before_cancels is_certified r (map lines.Cancel b.cancelled) from_failed _ b s
+      (rest_from_failed s.behind s.sane (cancels_fails s.behind.stage s.stage) (s.is ∙ ap (λ (c : Block). with_lines t lines.Cancel c b.cancelled) is ∙ adds_cancelled t (before_cancelled b) b.cancelled))
 
   -- all lines of a block behind its first one are read
   pub reads_block : (r : Reading) → r.fault ≡ None → before_ends r.stage ≡ true → r.block ≡ block_of b.number → ReadsTo t is_certified r (inner_lines b) b

@@ -20,7 +20,7 @@ use Rattle.tetri_report.specs.Block.{Block}
 use Rattle.tetri_report.specs.BlockLines.{block_lines, certificate_lines, granted, inner_lines, plan_of}
 use Rattle.tetri_report.specs.BlockLines as read
 use Rattle.tetri_report.specs.Printable.{IsCertificateInRange, IsInRange, IsPrintable, IsPrintableCertificate, IsSummaryInRange}
-use Rattle.tetri_report.specs.Reading.{Reading, is_between, is_certified, onto_blocks, opened, report_from, report_in, with_read}
+use Rattle.tetri_report.specs.Reading.{Reading, is_between, is_certified, onto_blocks, onto_report, opened, report_from, report_in, with_read}
 use Rattle.tetri_report.specs.Text.{after_comma, cycle_line, cycle_text, entry, grant_line, grant_lines, granted_line, happened_text, job_line, job_name, joined, leaf_line, name_line, piece_line, plan_line, summary_text}
 use Rattle.tetri_report.specs.declared.cycle.Summary.{Summary}
 use Rattle.tetri_report.specs.declared.line.ReportLine.{ReportLine}
@@ -29,7 +29,7 @@ use Rattle.tetri_report.specs.declared.line.Stage.{Stage}
 use Rattle.tetri_report.specs.declared.line.Stage.TheVariants as stages
 use Rattle.tetri_report.proofs.PrintedLines.{IsPrintableLine, line_avoids, line_back, line_of}
 use Rattle.tetri_report.proofs.ReadBlocks.{grants_good, reads_block}
-use Rattle.tetri_report.proofs.ReadSteps.{onto_report, step}
+use Rattle.tetri_report.proofs.ReadSteps.{step}
 
 abbrev pub report_lines : List Block → Summary → List ReportLine
 report_lines [] s = lines.Summary s ∷ []
@@ -125,22 +125,23 @@ module _ (t : Scenario) where
   grants_are (g ∷ gs) (s ∷ ss) =
       ap (λ l. l ++ grant_lines t gs ss) (grant_is g s) ∙ append_assoc (line_of t (lines.Grant g s)) (10 ∷ []) (grant_lines t gs ss) ∙ ap (λ l. line_of t (lines.Grant g s) ++ 10 ∷ l) (grants_are gs ss)
 
-  happened_is : (b : Block) → happened_text t b ≡ lines_text (map lines.End b.ended) ++ lines_text (map lines.Cancel b.cancelled) ++ lines_text (map lines.Over b.over) ++ lines_text (map lines.Expire b.expired)
+  happened_is : (b : Block) → happened_text t b ≡ lines_text (map lines.End b.ended) ++ lines_text (map lines.Cancel b.cancelled) ++ lines_text (map lines.Fail b.failed) ++ lines_text (map lines.Over b.over) ++ lines_text (map lines.Expire b.expired)
   unfolding happened_text
   happened_is b =
       let ended = flat_is (piece_line t (codes "end")) lines.End (λ p. leaf_is (codes "end") (job_name t p.job) p.leaf) b.ended in
       let cancelled = flat_is (job_line t (codes "cancel")) lines.Cancel (λ j. name_is (codes "cancel") (job_name t j)) b.cancelled in
+      let failed = flat_is (job_line t (codes "fail")) lines.Fail (λ j. name_is (codes "fail") (job_name t j)) b.failed in
       let over = flat_is (piece_line t (codes "over")) lines.Over (λ p. leaf_is (codes "over") (job_name t p.job) p.leaf) b.over in
       let expired = flat_is (job_line t (codes "expire")) lines.Expire (λ j. name_is (codes "expire") (job_name t j)) b.expired in
-      four_parts ended cancelled over expired
+      five_parts ended cancelled failed over expired
     where
-      four_parts : {a a' b b' c c' d d' : List ℕ} → a ≡ a' → b ≡ b' → c ≡ c' → d ≡ d' → a ++ b ++ c ++ d ≡ a' ++ b' ++ c' ++ d'
-      four_parts p q r s = cc
+      five_parts : {a a' b b' c c' d d' e e' : List ℕ} → a ≡ a' → b ≡ b' → c ≡ c' → d ≡ d' → e ≡ e' → a ++ b ++ c ++ d ++ e ≡ a' ++ b' ++ c' ++ d' ++ e'
+      five_parts p q r s u = cc
 
   -- the parts of a block's text, glued
-  glued : (c h p g m l : List ℕ) (e1 e2 e3 e4 : List ℕ) → h ≡ e1 ++ e2 ++ e3 ++ e4 →
-      c ++ h ++ p ++ g ++ m ++ l ≡ c ++ (e1 ++ (e2 ++ (e3 ++ (e4 ++ (p ++ (g ++ (m ++ l)))))))
-  glued c h p g m l e1 e2 e3 e4 is = ap (λ x. c ++ x ++ p ++ g ++ m ++ l) is ∙ simp append_assoc
+  glued : (c h p g m l : List ℕ) (e1 e2 e3 e4 e5 : List ℕ) → h ≡ e1 ++ e2 ++ e3 ++ e4 ++ e5 →
+      c ++ h ++ p ++ g ++ m ++ l ≡ c ++ (e1 ++ (e2 ++ (e3 ++ (e4 ++ (e5 ++ (p ++ (g ++ (m ++ l))))))))
+  glued c h p g m l e1 e2 e3 e4 e5 is = ap (λ x. c ++ x ++ p ++ g ++ m ++ l) is ∙ simp append_assoc
 
   glue : (x y : List ℕ) (ls ms : List ReportLine) → x ≡ lines_text ls → y ≡ lines_text ms → x ++ y ≡ lines_text (ls ++ ms)
   glue x y ls ms p q = ap (λ l. l ++ y) p ∙ ap (λ l. lines_text ls ++ l) q ∙ sym (lines_text-append ls ms)
@@ -154,10 +155,11 @@ module _ (t : Scenario) where
       let from_plan = glue (plan_line b.value b.bound b.mark b.nodes) _ (lines.Plan (plan_of b) ∷ []) _ (plan_is b) from_grants in
       let from_expired = glue (lines_text (map lines.Expire b.expired)) _ (map lines.Expire b.expired) _ refl from_plan in
       let from_over = glue (lines_text (map lines.Over b.over)) _ (map lines.Over b.over) _ refl from_expired in
-      let from_cancelled = glue (lines_text (map lines.Cancel b.cancelled)) _ (map lines.Cancel b.cancelled) _ refl from_over in
+      let from_failed = glue (lines_text (map lines.Fail b.failed)) _ (map lines.Fail b.failed) _ refl from_over in
+      let from_cancelled = glue (lines_text (map lines.Cancel b.cancelled)) _ (map lines.Cancel b.cancelled) _ refl from_failed in
       let from_ended = glue (lines_text (map lines.End b.ended)) _ (map lines.End b.ended) _ refl from_cancelled in
       glued (cycle_line b.number) (happened_text t b) (plan_line b.value b.bound b.mark b.nodes) (grant_lines t b.grants b.starts) (certificate_text b.certificate) (flat_map (job_line t (codes "launch")) b.launched)
-      (lines_text (map lines.End b.ended)) (lines_text (map lines.Cancel b.cancelled)) (lines_text (map lines.Over b.over)) (lines_text (map lines.Expire b.expired)) (happened_is b)
+      (lines_text (map lines.End b.ended)) (lines_text (map lines.Cancel b.cancelled)) (lines_text (map lines.Fail b.failed)) (lines_text (map lines.Over b.over)) (lines_text (map lines.Expire b.expired)) (happened_is b)
       ∙ glue (cycle_line b.number) _ (lines.Cycle b.number ∷ []) _ (cycle_is b.number) from_ended
 
   report_text_is : (bs : List Block) (s : Summary) → flat_map (cycle_text t) bs ++ summary_text s ≡ lines_text (report_lines bs s)
@@ -172,12 +174,13 @@ module _ (t : Scenario) (sound : IsSound t) where
       let P = IsPrintableLine t in
       All-append P (map lines.End b.ended) _ (All-map P lines.End b.ended (λ k d lt. (good.ended k d lt, range.ended k d lt)))
       (All-append P (map lines.Cancel b.cancelled) _ (All-map P lines.Cancel b.cancelled good.cancelled)
+      (All-append P (map lines.Fail b.failed) _ (All-map P lines.Fail b.failed good.failed)
       (All-append P (map lines.Over b.over) _ (All-map P lines.Over b.over (λ k d lt. (good.over k d lt, range.over k d lt)))
       (All-append P (map lines.Expire b.expired) _ (All-map P lines.Expire b.expired good.expired)
       (All-cons P (lines.Plan (plan_of b)) _ (range.value, range.bound, range.nodes)
       (All-append P (map read.grant_line (granted b.grants b.starts)) _
       (All-map P read.grant_line (granted b.grants b.starts) (grants_good t b.grants b.starts good.starts good.grants range.grants range.starts))
-      (All-append P (certificate_lines b.certificate) _ (certificate_good b.certificate good.certificate range.certificate) (All-map P lines.Launch b.launched good.launched)))))))
+      (All-append P (certificate_lines b.certificate) _ (certificate_good b.certificate good.certificate range.certificate) (All-map P lines.Launch b.launched good.launched))))))))
     where
       certificate_good : (c : Certificate) → IsPrintableCertificate c → IsCertificateInRange c → All (IsPrintableLine t) (certificate_lines c)
       certificate_good (Tops columns rows) fits small = All-cons (IsPrintableLine t) (lines.Tops columns rows) [] small (All-nil (IsPrintableLine t))
@@ -220,6 +223,7 @@ module _ (t : Scenario) (sound : IsSound t) where
       certified_between stages.Begun h = h
       certified_between stages.Ends h = h
       certified_between stages.Cancels h = h
+      certified_between stages.Fails h = h
       certified_between stages.Overs h = h
       certified_between stages.Expires h = h
       certified_between stages.Planned h = h

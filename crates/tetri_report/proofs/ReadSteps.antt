@@ -6,16 +6,12 @@ use Rattle.tetri_trace.specs.Scenario.{Scenario}
 use Rattle.tetri_trace.specs.Sound.{IsSound}
 use Rattle.tetri_report.specs.Block.{Block}
 use Rattle.tetri_report.specs.Line.{line_in}
-use Rattle.tetri_report.specs.Reading.{Reading, answer_to, behind_line, block_before, ends_block, fitting, is_certified, line_answer, may_follow, onto_blocks, reading_behind, report_from, stage_behind, unless_refused, with_line, with_read}
+use Rattle.tetri_report.specs.Reading.{Reading, answer_to, behind_line, block_before, ends_block, fitting, is_certified, line_answer, may_follow, onto_blocks, onto_report, reading_behind, report_from, stage_behind, unless_refused, with_line, with_read}
 use Rattle.tetri_base.specs.ResultSteps.{◌>>=◌}
 use Rattle.tetri_report.specs.declared.cycle.Summary.{Summary}
 use Rattle.tetri_report.specs.declared.line.ReportLine.{ReportLine}
 use Rattle.tetri_report.specs.declared.line.Stage.{Stage}
 use Rattle.tetri_report.proofs.PrintedLines.{IsPrintableLine, line_back, line_of}
-
--- what further lines give, with a block in front where one was ended
-abbrev pub onto_report : Option Block → Result (List Block × Summary) ℕ → Result (List Block × Summary) ℕ
-onto_report o rest = rest >>= λ x. Ok (onto_blocks o x.0, x.1)
 
 onto_none : (rest : Result (List Block × Summary) ℕ) → onto_report None rest ≡ rest
 onto_none (Ok x) = refl

@@ -79,6 +79,7 @@ module _ (t : Scenario) (sound : IsSound t) where
   line_short (lines.Cycle number) h = omega (arith, joined_within 32 (words t (lines.Cycle number)), small_short number h)
   line_short (lines.End piece) h = omega (arith, joined_within 32 (words t (lines.End piece)), job_short piece.job h.0, small_short piece.leaf h.1)
   line_short (lines.Cancel job) h = omega (arith, joined_within 32 (words t (lines.Cancel job)), job_short job h)
+  line_short (lines.Fail job) h = omega (arith, joined_within 32 (words t (lines.Fail job)), job_short job h)
   line_short (lines.Over piece) h = omega (arith, joined_within 32 (words t (lines.Over piece)), job_short piece.job h.0, small_short piece.leaf h.1)
   line_short (lines.Expire job) h = omega (arith, joined_within 32 (words t (lines.Expire job)), job_short job h)
   line_short (lines.Plan p) h = omega (arith, joined_within 32 (words t (lines.Plan p)), large_short p.value h.0, large_short p.bound h.1, mark_short p.mark, small_short p.nodes h.2)

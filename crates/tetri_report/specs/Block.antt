@@ -11,6 +11,7 @@ pub record Block : Type 0 where
   pub number : ℕ
   pub ended : List PieceId
   pub cancelled : List ℕ
+  pub failed : List ℕ
   pub over : List PieceId
   pub expired : List ℕ
   pub value : ℕ
@@ -28,6 +29,7 @@ block c = record {
   number = c.number;
   ended = c.happened.ended.items;
   cancelled = c.happened.cancelled.items;
+  failed = c.happened.failed.items;
   over = c.happened.over.items;
   expired = c.happened.expired.items;
   value = c.value;

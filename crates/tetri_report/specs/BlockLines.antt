@@ -3,6 +3,7 @@ use Rattle.std.specs.Prelude.{ℕ, ◌+◌, List, [], ◌∷◌, ◌++◌, map, 
 use Rattle.tetri_strl.specs.declared.grants.Grant.{Grant}
 use Rattle.tetri_cert.specs.declared.certificate.Certificate.{Certificate}
 use Rattle.tetri_cert.specs.declared.certificate.Certificate.TheVariants.{Tops, Tree}
+use Rattle.tetri_state.specs.Begin.{Occurrences}
 use Rattle.tetri_report.specs.Block.{Block}
 use Rattle.tetri_report.specs.declared.line.PlanLine.{PlanLine}
 use Rattle.tetri_report.specs.declared.line.ReportLine.{ReportLine}
@@ -25,11 +26,22 @@ certificate_lines (Tree marks) = map lines.Node marks
 abbrev pub plan_of : Block → PlanLine
 plan_of b = record { value = b.value; bound = b.bound; mark = b.mark; nodes = b.nodes }
 
+-- what a cycle tells of its beginning
+abbrev pub occurrences_in : Block → Occurrences
+occurrences_in b = record { ended = b.ended; cancelled = b.cancelled; failed = b.failed; over = b.over; expired = b.expired }
+
+-- the lines of events, and then others
+abbrev pub event_lines : Occurrences → List ReportLine → List ReportLine
+event_lines o rest = map lines.End o.ended ++ (map lines.Cancel o.cancelled ++ (map lines.Fail o.failed ++ (map lines.Over o.over ++ (map lines.Expire o.expired ++ rest))))
+
+abbrev pub count_events : Occurrences → ℕ
+count_events o = length o.ended + length o.cancelled + length o.failed + length o.over + length o.expired
+
 -- the lines behind the first one
 abbrev pub inner_lines : Block → List ReportLine
 inner_lines b =
-    map lines.End b.ended ++ (map lines.Cancel b.cancelled ++ (map lines.Over b.over ++ (map lines.Expire b.expired ++ (lines.Plan (plan_of b) ∷ []
-    ++ (map grant_line (granted b.grants b.starts) ++ (certificate_lines b.certificate ++ map lines.Launch b.launched))))))
+    event_lines (occurrences_in b)
+    (lines.Plan (plan_of b) ∷ (map grant_line (granted b.grants b.starts) ++ (certificate_lines b.certificate ++ map lines.Launch b.launched)))
 
 abbrev pub block_lines : Block → List ReportLine
 block_lines b = lines.Cycle b.number ∷ inner_lines b
@@ -37,7 +49,7 @@ block_lines b = lines.Cycle b.number ∷ inner_lines b
 -- The places of a cycle's lines, where the `cycle` line has the place 0: its plan, its grants, the first line of its certificate,
 -- its launches, and the line that stands behind it.
 abbrev pub events : Block → ℕ
-events b = length b.ended + length b.cancelled + length b.over + length b.expired
+events b = count_events (occurrences_in b)
 
 abbrev pub plan_place : Block → ℕ
 plan_place b = 1 + events b

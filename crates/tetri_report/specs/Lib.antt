@@ -1,8 +1,8 @@
 pub mod Block
-pub mod PlanOf
 pub mod Printable
 pub mod Text
 pub mod Line
 pub mod BlockLines
+pub mod Differences
 pub mod Reading
 pub mod Answers

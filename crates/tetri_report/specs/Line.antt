@@ -72,13 +72,14 @@ kind_in word =
     if bytes_eq word (codes "cycle") then Some kinds.Cycle
     else (if bytes_eq word (codes "end") then Some kinds.End
     else (if bytes_eq word (codes "cancel") then Some kinds.Cancel
+    else (if bytes_eq word (codes "fail") then Some kinds.Fail
     else (if bytes_eq word (codes "over") then Some kinds.Over
     else (if bytes_eq word (codes "expire") then Some kinds.Expire
     else (if bytes_eq word (codes "plan") then Some kinds.Plan
     else (if bytes_eq word (codes "grant") then Some kinds.Grant
     else (if bytes_eq word (codes "tops") then Some kinds.Tops
     else (if bytes_eq word (codes "launch") then Some kinds.Launch
-    else (if bytes_eq word (codes "summary") then Some kinds.Summary else None)))))))))
+    else (if bytes_eq word (codes "summary") then Some kinds.Summary else None))))))))))
 
 -- nodes, and then those that were found
 abbrev pub after_nodes : List ℕ → Option (List ℕ) → Option (List ℕ)
@@ -120,6 +121,7 @@ module _ (s : Scenario) where
   line_of_kind kinds.Cycle words = cycle_in words
   line_of_kind kinds.End words = option_map lines.End (piece_in words)
   line_of_kind kinds.Cancel words = option_map lines.Cancel (lone_job words)
+  line_of_kind kinds.Fail words = option_map lines.Fail (lone_job words)
   line_of_kind kinds.Over words = option_map lines.Over (piece_in words)
   line_of_kind kinds.Expire words = option_map lines.Expire (lone_job words)
   line_of_kind kinds.Plan words = plan_in words

@@ -37,6 +37,7 @@ IsPrintableCertificate (Tree marks) = (1 ≤ length marks) × All IsPrintableNod
 pub record IsPrintable (s : Scenario) (b : Block) : Type 0 where
   pub ended : ArePieces s b.ended
   pub cancelled : AreJobs s b.cancelled
+  pub failed : AreJobs s b.failed
   pub over : ArePieces s b.over
   pub expired : AreJobs s b.expired
   pub grants : All (IsPrintableGrant s) b.grants
@@ -47,6 +48,13 @@ pub record IsPrintable (s : Scenario) (b : Block) : Type 0 where
 abbrev pub AreSmall : List ℕ → Type 0
 AreSmall ns = All (λ n. n < 2 ^ 32) ns
 
+-- the leaves that pieces, and grants, name
+abbrev pub HaveSmallLeaves : List PieceId → Type 0
+HaveSmallLeaves pieces = All (λ p. p.leaf < 2 ^ 32) pieces
+
+abbrev pub GrantSmallLeaves : List Grant → Type 0
+GrantSmallLeaves grants = All (λ g. g.leaf < 2 ^ 32) grants
+
 -- the numbers of the tops; a tree needs nothing here, since its nodes are plain where it may be printed
 abbrev pub IsCertificateInRange : Certificate → Type 0
 IsCertificateInRange (Tops columns rows) = (columns < 2 ^ 64) × (rows < 2 ^ 64)
@@ -55,12 +63,12 @@ IsCertificateInRange (Tree marks) = Unit {0}
 -- the numbers of a block are within the ranges of their lines
 pub record IsInRange (b : Block) : Type 0 where
   pub number : b.number < 2 ^ 32
-  pub ended : All (λ p. p.leaf < 2 ^ 32) b.ended
-  pub over : All (λ p. p.leaf < 2 ^ 32) b.over
+  pub ended : HaveSmallLeaves b.ended
+  pub over : HaveSmallLeaves b.over
   pub value : b.value < 2 ^ 64
   pub bound : b.bound < 2 ^ 64
   pub nodes : b.nodes < 2 ^ 32
-  pub grants : All (λ g. g.leaf < 2 ^ 32) b.grants
+  pub grants : GrantSmallLeaves b.grants
   pub starts : AreSmall b.starts
   pub certificate : IsCertificateInRange b.certificate
 

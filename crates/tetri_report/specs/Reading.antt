@@ -22,6 +22,7 @@ block_of number = record {
   number = number;
   ended = [];
   cancelled = [];
+  failed = [];
   over = [];
   expired = [];
   value = 0;
@@ -47,6 +48,7 @@ abbrev pub with_line : Block → ReportLine → Block
 with_line b (lines.Cycle number) = block_of number
 with_line b (lines.End piece) = record b { ended = b.ended ++ piece ∷ [] }
 with_line b (lines.Cancel job) = record b { cancelled = b.cancelled ++ job ∷ [] }
+with_line b (lines.Fail job) = record b { failed = b.failed ++ job ∷ [] }
 with_line b (lines.Over piece) = record b { over = b.over ++ piece ∷ [] }
 with_line b (lines.Expire job) = record b { expired = b.expired ++ job ∷ [] }
 with_line b (lines.Plan p) = with_plan b p
@@ -67,9 +69,13 @@ abbrev pub before_cancels : Stage → Bool
 before_cancels stages.Cancels = true
 before_cancels stage = before_ends stage
 
+abbrev pub before_fails : Stage → Bool
+before_fails stages.Fails = true
+before_fails stage = before_cancels stage
+
 abbrev pub before_overs : Stage → Bool
 before_overs stages.Overs = true
-before_overs stage = before_cancels stage
+before_overs stage = before_fails stage
 
 abbrev pub before_plan : Stage → Bool
 before_plan stages.Expires = true
@@ -97,6 +103,7 @@ abbrev pub may_follow : Stage → ReportLine → Bool
 may_follow stage (lines.Cycle number) = is_between stage
 may_follow stage (lines.End piece) = before_ends stage
 may_follow stage (lines.Cancel job) = before_cancels stage
+may_follow stage (lines.Fail job) = before_fails stage
 may_follow stage (lines.Over piece) = before_overs stage
 may_follow stage (lines.Expire job) = before_plan stage
 may_follow stage (lines.Plan p) = before_plan stage
@@ -111,6 +118,7 @@ abbrev pub stage_behind : ReportLine → Stage
 stage_behind (lines.Cycle number) = stages.Begun
 stage_behind (lines.End piece) = stages.Ends
 stage_behind (lines.Cancel job) = stages.Cancels
+stage_behind (lines.Fail job) = stages.Fails
 stage_behind (lines.Over piece) = stages.Overs
 stage_behind (lines.Expire job) = stages.Expires
 stage_behind (lines.Plan p) = stages.Planned
@@ -187,10 +195,14 @@ abbrev pub onto_blocks : Option Block → List Block → List Block
 onto_blocks None bs = bs
 onto_blocks (Some b) bs = b ∷ bs
 
+-- what further lines give, with a block in front where one was ended
+abbrev pub onto_report : Option Block → Result (List Block × Summary) ℕ → Result (List Block × Summary) ℕ
+onto_report o rest = rest >>= λ x. Ok (onto_blocks o x.0, x.1)
+
 -- the blocks and the summary that further lines make
 abbrev pub report_from : Scenario → Reading → List (List ℕ) → Result (List Block × Summary) ℕ
 report_from t r [] = end_answer r >>= λ s. Ok ([], s)
-report_from t r (line ∷ rest) = line_answer t r line >>= λ o. report_from t (behind_line t r line) rest >>= λ x. Ok (onto_blocks o x.0, x.1)
+report_from t r (line ∷ rest) = line_answer t r line >>= λ o. onto_report o (report_from t (behind_line t r line) rest)
 
 -- the blocks and the summary that the lines of a content are, or the number of the first line that is none
 abbrev pub report_in : Scenario → List ℕ → Result (List Block × Summary) ℕ

@@ -58,7 +58,7 @@ module _ (s : Scenario) where
   unfoldable pub happened_text : Block → List ℕ
   happened_text b =
       flat_map (piece_line (codes "end")) b.ended ++ flat_map (job_line (codes "cancel")) b.cancelled
-      ++ flat_map (piece_line (codes "over")) b.over ++ flat_map (job_line (codes "expire")) b.expired
+      ++ flat_map (job_line (codes "fail")) b.failed ++ flat_map (piece_line (codes "over")) b.over ++ flat_map (job_line (codes "expire")) b.expired
 
   -- the lines of a cycle
   unfoldable pub cycle_text : Block → List ℕ

@@ -2,7 +2,7 @@
 ghost use Rattle.std.specs.Prelude.{◌≡◌, ◌<◌, ◌≤◌, ◌+◌, ◌^◌, ◌++◌, ◌∷◌, [], Some, None, OnOk, OnErr, option_map, true, false};
 ghost use Rattle.tetri_report.specs.Answers.{AnswersEnd, AnswersLine, Leaves};
 ghost use Rattle.tetri_report.specs.Block.{block};
-ghost use Rattle.tetri_report.specs.Reading.{before_cancels, before_ends, before_nodes, before_overs, before_plan, behind_line, block_of, block_before, end_answer, ends_block, fitting, is_between, is_certified, is_planned, line_answer, may_follow, opened, stage_behind, summary_of, with_line, with_node, with_plan, with_read};
+ghost use Rattle.tetri_report.specs.Reading.{before_cancels, before_ends, before_fails, before_nodes, before_overs, before_plan, behind_line, block_of, block_before, end_answer, ends_block, fitting, is_between, is_certified, is_planned, line_answer, may_follow, opened, stage_behind, summary_of, with_line, with_node, with_plan, with_read};
 ghost use Rattle.tetri_report.specs.declared.blocks.ReportFault.TheVariants as faults;
 ghost use Rattle.tetri_trace.specs.Scenario.{scenario};
 
@@ -55,12 +55,21 @@ fn before_cancels(stage: Stage) -> bool
     }
 }
 
+fn before_fails(stage: Stage) -> bool
+    ensures { result ≡ before_fails stage }
+{
+    match stage {
+        Stage::Fails => true,
+        _ => before_cancels(stage),
+    }
+}
+
 fn before_overs(stage: Stage) -> bool
     ensures { result ≡ before_overs stage }
 {
     match stage {
         Stage::Overs => true,
-        _ => before_cancels(stage),
+        _ => before_fails(stage),
     }
 }
 
@@ -116,6 +125,7 @@ fn may_follow(stage: Stage, line: &ReportLine) -> bool
         ReportLine::Cycle(_) => is_between(stage),
         ReportLine::End(_) => before_ends(stage),
         ReportLine::Cancel(_) => before_cancels(stage),
+        ReportLine::Fail(_) => before_fails(stage),
         ReportLine::Over(_) => before_overs(stage),
         ReportLine::Expire(_) => before_plan(stage),
         ReportLine::Plan(_) => before_plan(stage),
@@ -134,6 +144,7 @@ fn stage_behind(line: &ReportLine) -> Stage
         ReportLine::Cycle(_) => Stage::Begun,
         ReportLine::End(_) => Stage::Ends,
         ReportLine::Cancel(_) => Stage::Cancels,
+        ReportLine::Fail(_) => Stage::Fails,
         ReportLine::Over(_) => Stage::Overs,
         ReportLine::Expire(_) => Stage::Expires,
         ReportLine::Plan(_) => Stage::Planned,
@@ -154,6 +165,7 @@ fn empty_cycle(alloc: Global, number: u32) -> Cycle
         happened: Happened {
             ended: Vec::new(alloc),
             cancelled: Vec::new(alloc),
+            failed: Vec::new(alloc),
             over: Vec::new(alloc),
             expired: Vec::new(alloc),
         },
@@ -209,6 +221,7 @@ fn add_line(alloc: Global, cycle: &mut Cycle, line: ReportLine) -> Result<(), Al
         ReportLine::Cycle(number) => *cycle = empty_cycle(alloc, number),
         ReportLine::End(piece) => cycle.happened.ended.push(piece)?,
         ReportLine::Cancel(job) => cycle.happened.cancelled.push(job)?,
+        ReportLine::Fail(job) => cycle.happened.failed.push(job)?,
         ReportLine::Over(piece) => cycle.happened.over.push(piece)?,
         ReportLine::Expire(job) => cycle.happened.expired.push(job)?,
         ReportLine::Plan(plan) => {
@@ -235,6 +248,7 @@ fn ends_block(line: &ReportLine) -> bool
         ReportLine::Cycle(_) => true,
         ReportLine::End(_) => false,
         ReportLine::Cancel(_) => false,
+        ReportLine::Fail(_) => false,
         ReportLine::Over(_) => false,
         ReportLine::Expire(_) => false,
         ReportLine::Plan(_) => false,
@@ -274,12 +288,15 @@ pub struct Blocks {
 }
 
 impl Model for Blocks {
+    ghost use Rattle.std.specs.Prelude.{◌≤◌, ◌^◌};
     ghost use Rattle.tetri_report.specs.Block.{block};
     ghost use Rattle.tetri_report.specs.Reading.{Reading};
 
     ghost Value = { Reading };
 
     ghost view = { λ b. record { lines = b.lines; stage = b.stage; block = block b.cycle; summary = b.summary; fault = b.fault } };
+
+    ghost invariant = { λ b. b.lines ≤ 2 ^ 63 };
 }
 
 impl Blocks {
@@ -372,7 +389,6 @@ impl Blocks {
     /// The summary, once all lines were read. `Malformed` comes where a line was refused, or with the number behind the
     /// last line where there was no summary.
     pub fn finish(self) -> Result<Summary, ReportFault>
-        requires { self.lines < 2 ^ 63 }
         ensures { AnswersEnd result (end_answer self) }
     {
         if let Some(line) = self.fault {

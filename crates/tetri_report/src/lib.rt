@@ -3,6 +3,7 @@
 
 mod blocks;
 mod cycle;
+mod differences;
 mod laws;
 mod line;
 mod lines;
@@ -13,8 +14,7 @@ mod summary;
 
 pub use blocks::{Blocks, ReportFault};
 pub use cycle::{Cycle, Summary};
+pub use differences::{Expected, first_other_line, plan_place};
 pub use laws::{printed_lines_are_short, printed_reports_read_back};
-pub use line::{PlanLine, ReportLine, Stage};
 pub use print::print_cycle;
-pub use ranges::cycle_is_in_range;
 pub use summary::print_summary;

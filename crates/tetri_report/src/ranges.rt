@@ -1,12 +1,10 @@
 // The numbers of a cycle are within the ranges of their lines.
-ghost use Rattle.std.specs.Prelude.{◌<◌, ◌^◌, All};
+ghost use Rattle.std.specs.Prelude.{◌<◌, ◌^◌};
 ghost use Rattle.tetri_report.specs.Block.{block};
-ghost use Rattle.tetri_report.specs.Printable.{AreSmall, IsInRange};
+ghost use Rattle.tetri_report.specs.Printable.{AreSmall, GrantSmallLeaves, HaveSmallLeaves, IsInRange};
 
 use crate::cycle::Cycle;
 use tetri_cert::Certificate;
-use tetri_state::PieceId;
-use tetri_strl::Grant;
 
 fn number_is_small(number: u32)
     ensures { number < 2 ^ 32 }
@@ -20,30 +18,14 @@ fn slots_are_small(slots: &[u32])
     ensures { AreSmall slots.now }
 {}
 
-fn leaves_are_small(pieces: &[PieceId])
-    ensures { All (λ p. p.leaf < 2 ^ 32) pieces.now }
-{
-    for piece in pieces {
-        number_is_small(piece.leaf);
-    }
-}
-
-fn granted_leaves_are_small(grants: &[Grant])
-    ensures { All (λ g. g.leaf < 2 ^ 32) grants.now }
-{
-    for grant in grants {
-        number_is_small(grant.leaf);
-    }
-}
-
-/// The numbers of a cycle, which have the types of their fields, are within the ranges of their lines.
-pub fn cycle_is_in_range(cycle: &Cycle)
+// The numbers of a cycle, which have the types of their fields, are within the ranges of their lines, where its leaves are.
+pub(crate) fn cycle_is_in_range(cycle: &Cycle)
+    requires ended { HaveSmallLeaves (block cycle.now).ended }
+    requires over { HaveSmallLeaves (block cycle.now).over }
+    requires grants { GrantSmallLeaves (block cycle.now).grants }
     ensures { IsInRange (block cycle.now) }
 {
     slots_are_small(&cycle.starts);
-    leaves_are_small(&cycle.happened.ended);
-    leaves_are_small(&cycle.happened.over);
-    granted_leaves_are_small(cycle.grants.as_slice());
     number_is_small(cycle.number);
     number_is_large(cycle.value);
     number_is_large(cycle.bound);

@@ -228,6 +228,8 @@ fn kind_in(word: &[u8]) -> Option<Kind>
         Some(Kind::End)
     } else if word == b"cancel".as_slice() {
         Some(Kind::Cancel)
+    } else if word == b"fail".as_slice() {
+        Some(Kind::Fail)
     } else if word == b"over".as_slice() {
         Some(Kind::Over)
     } else if word == b"expire".as_slice() {
@@ -261,6 +263,7 @@ fn line_of_kind(
         Kind::Cycle => Ok(cycle_in(words)),
         Kind::End => Ok(piece_in(trace, words).map(ReportLine::End)),
         Kind::Cancel => Ok(lone_job(trace, words).map(ReportLine::Cancel)),
+        Kind::Fail => Ok(lone_job(trace, words).map(ReportLine::Fail)),
         Kind::Over => Ok(piece_in(trace, words).map(ReportLine::Over)),
         Kind::Expire => Ok(lone_job(trace, words).map(ReportLine::Expire)),
         Kind::Plan => Ok(plan_in(words)),

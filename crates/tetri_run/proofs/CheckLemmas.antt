@@ -6,12 +6,12 @@ use Rattle.std.proofs.lemmas.List.Elements.{All-cons, All-head, All-nil, All-tai
 use Rattle.tetri_strl.specs.declared.grants.Grant.{Grant}
 use Rattle.tetri_claims.specs.Good.{IsHonest}
 use Rattle.tetri_claims.proofs.CertifiedLemmas.{certificates_bound}
-use Rattle.tetri_judge.proofs.VerdictLemmas.{certified_passes, passing_is_not_refused}
+use Rattle.tetri_judge.proofs.VerdictLaws.{certified_passes, passing_is_not_refused}
 use Rattle.tetri_report.specs.Block.{Block}
 use Rattle.tetri_report.specs.BlockLines.{block_lines}
-use Rattle.tetri_report.specs.PlanOf.{planned}
+use Rattle.tetri_judge.specs.PlanOf.{planned}
 use Rattle.tetri_report.specs.Line.{line_in}
-use Rattle.tetri_report.specs.Reading.{Reading, answer_to, behind_line, block_before, end_answer, ends_block, fitting, is_between, is_certified, line_answer, may_follow, onto_blocks, opened, reading_behind, report_from, stage_behind, unless_refused, with_read}
+use Rattle.tetri_report.specs.Reading.{Reading, answer_to, behind_line, block_before, end_answer, ends_block, fitting, is_between, is_certified, line_answer, may_follow, onto_blocks, onto_report, opened, reading_behind, report_from, stage_behind, unless_refused, with_read}
 use Rattle.tetri_base.specs.ResultSteps.{◌>>=◌}
 use Rattle.tetri_report.specs.Reading as reading
 use Rattle.tetri_report.specs.declared.cycle.Summary.{Summary}
@@ -30,13 +30,12 @@ use Rattle.tetri_state.proofs.InstanceLemmas.{instance_sound}
 use Rattle.tetri_state.proofs.ReachedLemmas.{begin_reached, stands_begun, early_begun}
 use Rattle.tetri_trace.specs.Scenario.{Scenario}
 use Rattle.tetri_trace.specs.Sound.{IsSound}
-use Rattle.tetri_report.proofs.ReadSteps.{onto_report}
+use Rattle.tetri_report.proofs.ReportLaws.{corrected_itself}
 use Rattle.tetri_run.specs.Check.{Checking, ComesTo, FitsRun, IsAccepted, IsAssured, IsInPlace, IsRefused, IsRight, IsShort, checked_behind, faulty, lines_in, malformed, out_of_place, too_long, unchecked}
 use Rattle.tetri_run.specs.Cycle.{IsCycle, instance_at}
-use Rattle.tetri_run.specs.Faulty.{IsFaulty, planned_badly, rightly_told, told_badly}
+use Rattle.tetri_run.specs.Faulty.{IsFaulty, planned_badly, corrected_at, told_badly}
 use Rattle.tetri_run.specs.Run.{BoundsHold, IsRun, in_order, state_behind, summary_of}
 use Rattle.tetri_run.specs.declared.why.Why.{Why}
-use Rattle.tetri_run.proofs.DifferLemmas.{nothing_else}
 use Rattle.tetri_run.proofs.RunLemmas.{now_behind, run_reaches}
 
 -- The order of cycles
@@ -70,10 +69,10 @@ next_cycle t past p bs b e run = run_front t (in_order bs) (b ∷ p) (subst (IsR
 
 -- Reading
 
-ok_same : {A E : Type 0} {x y : A} → ◌≡◌ {A = Result A E} (Ok x) (Ok y) → x ≡ y
+pub ok_same : {A E : Type 0} {x y : A} → ◌≡◌ {A = Result A E} (Ok x) (Ok y) → x ≡ y
 ok_same e = cc
 
-ok_not_err : {A E : Type 0} {x : A} {e : E} → ◌≡◌ {A = Result A E} (Ok x) (Err e) → ⊥
+pub ok_not_err : {A E : Type 0} {x : A} {e : E} → ◌≡◌ {A = Result A E} (Ok x) (Err e) → ⊥
 ok_not_err e = absurd cc
 
 end_summary : (f : Option ℕ) (m : Option Summary) (k : ℕ) (s : Summary) → unless_refused f (λ n. Err n) (ok_or m k) ≡ Ok s → m ≡ Some s
@@ -137,6 +136,7 @@ pub closed_blocks : (l : ReportLine) → may_follow stages.Closed l ≡ false
 closed_blocks (lines.Cycle number) = refl
 closed_blocks (lines.End piece) = refl
 closed_blocks (lines.Cancel job) = refl
+closed_blocks (lines.Fail job) = refl
 closed_blocks (lines.Over piece) = refl
 closed_blocks (lines.Expire job) = refl
 closed_blocks (lines.Plan p) = refl
@@ -189,6 +189,7 @@ ends_within stages.Tree w b = refl
 ends_within stages.Begun w b = b
 ends_within stages.Ends w b = b
 ends_within stages.Cancels w b = b
+ends_within stages.Fails w b = b
 ends_within stages.Overs w b = b
 ends_within stages.Expires w b = b
 ends_within stages.Planned w b = b
@@ -201,6 +202,7 @@ within_line (lines.Cycle number) r w fits = inl (ap (λ (b : Bool). cond b (Some
 within_line (lines.Summary s) r w fits = inl (ap (λ (b : Bool). cond b (Some r.block) None) (ends_within r.stage w fits))
 within_line (lines.End piece) r w fits = inr (refl, refl)
 within_line (lines.Cancel job) r w fits = inr (refl, refl)
+within_line (lines.Fail job) r w fits = inr (refl, refl)
 within_line (lines.Over piece) r w fits = inr (refl, refl)
 within_line (lines.Expire job) r w fits = inr (refl, refl)
 within_line (lines.Plan p) r w fits = inr (refl, refl)
@@ -215,6 +217,7 @@ summary_or_block (lines.Summary s) = inl (s, refl)
 summary_or_block (lines.Cycle number) = inr (refl, refl)
 summary_or_block (lines.End piece) = inr (refl, refl)
 summary_or_block (lines.Cancel job) = inr (refl, refl)
+summary_or_block (lines.Fail job) = inr (refl, refl)
 summary_or_block (lines.Over piece) = inr (refl, refl)
 summary_or_block (lines.Expire job) = inr (refl, refl)
 summary_or_block (lines.Plan p) = inr (refl, refl)
@@ -258,15 +261,15 @@ block_comes t r (line ∷ rest) w none bs s reads = by_answer (λ w none more on
 
 -- A cycle of a run has no fault.
 
-carry_same : (i : Space) (p c d : List Grant) → IsCarry i p c → IsCarry i p d → c ≡ d
+pub carry_same : (i : Space) (p c d : List Grant) → IsCarry i p c → IsCarry i p d → c ≡ d
 carry_same i p c d first second =
     ⊎_elim
     (λ one. ⊎_elim (λ two. one.1 ∙ sym two.1) (λ two. absurd (two.0 one.0)) second)
     (λ one. ⊎_elim (λ two. absurd (one.0 two.0)) (λ two. one.1 ∙ sym two.1) second)
     first
 
-rightly : (t : Scenario) (s : Snapshot) (b : Block) → IsCycle t s b → b ≡ rightly_told t s b
-rightly t s b cycle = nothing_else b _ _ _ _ cycle.number cycle.happened cycle.plan.starts cycle.plan.launched
+no_correction : (t : Scenario) (s : Snapshot) (b : Block) → IsCycle t s b → b ≡ corrected_at t s b
+no_correction t s b cycle = corrected_itself b _ _ _ _ cycle.number cycle.happened cycle.plan.starts cycle.plan.launched
 
 module _ (t : Scenario) (sound : IsSound t) where
   pub instance_good : (s : Snapshot) → IsReached t between s → s.now < t.header.until → IsSoundSpace (instance_at t s)
@@ -274,14 +277,14 @@ module _ (t : Scenario) (sound : IsSound t) where
       let there = begin_reached t s reached more in
       instance_sound t (begin t s) sound (stands_begun t (begin t s) sound there) (early_begun t (begin t s) sound there)
 
-  right_is_not_faulty : (s : Snapshot) (b : Block) (place : ℕ) (why : Why) → IsReached t between s → s.now < t.header.until → IsCycle t s b → IsFaulty t s b place why → ⊥
+  pub right_is_not_faulty : (s : Snapshot) (b : Block) (place : ℕ) (why : Why) → IsReached t between s → s.now < t.header.until → IsCycle t s b → IsFaulty t s b place why → ⊥
   right_is_not_faulty s b place why reached more cycle (planned_badly carry v cause carried failed is) =
       let same : cycle.carry ≡ carry = carry_same (instance_at t s) s.plan cycle.carry carry cycle.carried carried in
       let i = instance_at t s in
       passing_is_not_refused i (total_in i carry) t.header.budget (planned b) (instance_good s reached more) v failed
       (certified_passes i (total_in i carry) t.header.budget (planned b) (subst (λ c. IsHonest i (total_in i c) (planned b)) same cycle.plan.honest) cycle.plan.certified)
   right_is_not_faulty s b place why reached more cycle (told_badly carry at carried tests differ) =
-      differ.there (ap (λ c. slice_get (block_lines c) place) (rightly t s b cycle))
+      differ.there (ap (λ c. slice_get (block_lines c) place) (no_correction t s b cycle))
 
   -- no lawful allotment of a run's instances is worth more than the bounds that are printed for them
   pub run_bounds : (past : List Block) → IsRun t past → BoundsHold t past
@@ -383,7 +386,7 @@ fits_before_end : (t : Scenario) (p : List Block) (b : Block) (m : Option Summar
 fits_before_end t p b None fits = omega (arith, fits)
 fits_before_end t p b (Some s) fits = omega (arith, fits.0)
 
-run_on : (t : Scenario) (c : Checking) (ended : Option Block) (m : Option Summary) → IsRun t c.past → IsRight t c ended → FitsRun t (onto_blocks ended c.past) m →
+pub run_on : (t : Scenario) (c : Checking) (ended : Option Block) (m : Option Summary) → IsRun t c.past → IsRight t c ended → FitsRun t (onto_blocks ended c.past) m →
     IsRun t (onto_blocks ended c.past)
 run_on t c None m run right fits = run
 run_on t c (Some b) m run right fits = (omega (arith, fits_before_end t c.past b m fits, now_behind t c.past), right, run)

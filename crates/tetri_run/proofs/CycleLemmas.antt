@@ -4,10 +4,12 @@ use Rattle.std.specs.Prelude.{Err}
 use Rattle.tetri_claims.specs.Certified.{IsCertified}
 use Rattle.tetri_claims.specs.Good.{IsHonest}
 use Rattle.tetri_judge.specs.Verdict.{IsFirstFailed}
-use Rattle.tetri_judge.proofs.VerdictLemmas.{certified_passes}
+use Rattle.tetri_judge.proofs.VerdictLaws.{certified_passes}
 use Rattle.tetri_report.specs.Block.{Block}
-use Rattle.tetri_report.specs.BlockLines.{block_lines}
-use Rattle.tetri_report.specs.PlanOf.{planned}
+use Rattle.tetri_report.specs.BlockLines.{block_lines, occurrences_in}
+use Rattle.tetri_report.specs.Differences.{DifferFirstAt, corrected}
+use Rattle.tetri_judge.specs.Places.{place_of}
+use Rattle.tetri_judge.specs.PlanOf.{planned}
 use Rattle.tetri_space.specs.Space.{Space}
 use Rattle.tetri_space.specs.Total.{total_in}
 use Rattle.tetri_state.specs.Begin.{Occurrences, occurring}
@@ -17,9 +19,8 @@ use Rattle.tetri_state.specs.Snapshot.{Snapshot}
 use Rattle.tetri_strl.specs.declared.grants.Grant.{Grant}
 use Rattle.tetri_trace.specs.Scenario.{Scenario}
 use Rattle.tetri_run.specs.Checked.{AnswersCycle, AnswersPlan}
-use Rattle.tetri_run.specs.Cycle.{IsCycle, instance_at, occurrences_in}
-use Rattle.tetri_run.specs.Faulty.{IsFaulty, place_of, planned_badly, rightly_told, told_badly}
-use Rattle.tetri_run.specs.Told.{DifferFirstAt, retold}
+use Rattle.tetri_run.specs.Cycle.{IsCycle, instance_at}
+use Rattle.tetri_run.specs.Faulty.{IsFaulty, planned_badly, corrected_at, told_badly}
 use Rattle.tetri_run.specs.declared.halt.CheckHalt.{CheckHalt}
 use Rattle.tetri_run.specs.declared.halt.CheckHalt.TheVariants.{Refused, ReadFault, NoMemory}
 use Rattle.tetri_run.specs.declared.why.Why.TheVariants.{WrongEvents}
@@ -58,19 +59,19 @@ module _ (t : Scenario) (s : Snapshot) (b : Block) (i : Space) (is : i ≡ insta
     number_here : i.now ≡ s.now
     number_here = ap (λ (j : Space). j.now) is
 
-    retold_is : retold b i.now o starts launched ≡ rightly_told t s b
-    retold_is =
-        ap (λ n. retold b n o starts launched) number_here
-        ∙ ap (λ q. retold b s.now q starts launched) happened
-        ∙ ap (λ l. retold b s.now (occurring t s) l launched) starts_here
-        ∙ ap (retold b s.now (occurring t s) (map (start_of (instance_at t s)) b.grants)) launched_here
+    corrected_is : corrected b i.now o starts launched ≡ corrected_at t s b
+    corrected_is =
+        ap (λ n. corrected b n o starts launched) number_here
+        ∙ ap (λ q. corrected b s.now q starts launched) happened
+        ∙ ap (λ l. corrected b s.now (occurring t s) l launched) starts_here
+        ∙ ap (corrected b s.now (occurring t s) (map (start_of (instance_at t s)) b.grants)) launched_here
 
-    pub line_refused : (place : ℕ) → DifferFirstAt (block_lines b) (block_lines (retold b i.now o starts launched)) place → IsFaulty t s b place WrongEvents
+    pub line_refused : (place : ℕ) → DifferFirstAt (block_lines b) (block_lines (corrected b i.now o starts launched)) place → IsFaulty t s b place WrongEvents
     line_refused place differ =
         told_badly carry place carry_here (certified_passes (instance_at t s) (total_in (instance_at t s) carry) t.header.budget (planned b) honest_here certified_here)
-        (subst (λ c. DifferFirstAt (block_lines b) (block_lines c) place) retold_is differ)
+        (subst (λ c. DifferFirstAt (block_lines b) (block_lines c) place) corrected_is differ)
 
-    pub cycle_right : b ≡ retold b i.now o starts launched → IsCycle t s b
+    pub cycle_right : b ≡ corrected b i.now o starts launched → IsCycle t s b
     cycle_right same = record {
       number = ap (λ (c : Block). c.number) same ∙ number_here;
       happened = ap occurrences_in same ∙ happened;

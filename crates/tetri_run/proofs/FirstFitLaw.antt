@@ -22,18 +22,18 @@ use Rattle.tetri_strl.proofs.PartsApart.{apart_of_pairs, the_one}
 use Rattle.tetri_strl.proofs.ThriftOfOthers.{thrifty-append_left, thrifty-append_right}
 use Rattle.tetri_strl.proofs.TrimThrift.{trimmed_thrifty}
 use Rattle.tetri_strl.proofs.WorthLemmas.{EachLeaf-from}
-use Rattle.tetri_space.specs.Free.{IsFree}
+use Rattle.tetri_space.specs.Free.{IsFreeThroughout, is_free_throughout}
 use Rattle.tetri_space.specs.Space.{Bid, Space, Covers, IsLive, leaf_in}
 use Rattle.tetri_space.specs.Lawful.{AreApart, IsLawful, IsLawfulGrant, MayBeGranted, NoCommonSlot}
 use Rattle.tetri_space.specs.Sound.{HasKnownSet, IsSound, IsSoundBid}
+use Rattle.tetri_space.proofs.FreeLemmas.{throughout_decides}
 use Rattle.tetri_space.proofs.LawfulLemmas.{AllPairs-append}
 use Rattle.tetri_space.proofs.LeafLemmas.{leaf_in-found}
-use Rattle.tetri_advice.specs.Fit.{Placement, fit, grant_of, grants_of, is_free_from, is_held, is_held_by, is_live, overlap}
+use Rattle.tetri_advice.specs.Fit.{Placement, fit, grant_of, grants_of, is_held, is_held_by, is_live, overlap}
 use Rattle.tetri_advice.proofs.FitLaws.{AreFit, Follows, IsPlain, IsRight, are_fit, fit-filter, none_any}
 use Rattle.tetri_claims.specs.Good.{IsThriftyForAll}
 use Rattle.tetri_greedy.specs.Held.{but_leaves}
-use Rattle.tetri_greedy.proofs.Free.{free_from_test}
-use Rattle.tetri_run.specs.Cycle.{ComesBefore}
+use Rattle.tetri_space.specs.GrantOrder.{ComesBefore}
 use Rattle.tetri_run.specs.FirstFit.{HasAscendingLeaves, first_fit, first_fit_from, placed}
 
 -- the leaf comes first by its number
@@ -181,11 +181,8 @@ module _ (s : Space) (sound : IsSound s) (sets : All IsStrictlyIncreasing s.sets
           few = own.right.few;
           in_set = own.right.in_set;
           free =
-              All-weaker (λ n. is_free_from s p.leaf.start n ≡ true) (λ n. (slot : ℕ) → Covers p.leaf slot → IsFree s n slot)
-              (λ n e slot covers.
-              let free = free_from_test s p.leaf.start n e in
-              record { there = free.there; not_drained = free.not_drained; idle = omega (arith, free.idle, covers.begun) })
-              p.nodes own.right.free;
+              All-weaker (λ n. is_free_throughout s p.leaf n ≡ true) (IsFreeThroughout s p.leaf)
+              (λ n e. (throughout_decides s p.leaf n own.right.good.some_slots).0 e) p.nodes own.right.free;
         };
       })
 

@@ -1,5 +1,5 @@
 -- First fit, job by job.
-use Rattle.std.proofs.Common.{◌≡◌, ℕ, ◌+◌, ◌<◌, ◌≤◌, ◌==◌, Bool, true, false, not, cond, List, [], ◌∷◌, ◌++◌, All, Contains, map, length, drop, get_or, sym, ap, ◌∙◌, subst, append_assoc}
+use Rattle.std.proofs.Common.{◌≡◌, ℕ, ◌+◌, ◌<◌, ◌≤◌, ◌==◌, arith, Bool, true, false, not, cond, List, [], ◌∷◌, ◌++◌, All, Contains, map, length, drop, get_or, sym, ap, ◌∙◌, subst, append_assoc}
 use Rattle.std.specs.List.{filter, list_any}
 use Rattle.std.specs.List.Sorted.{IsStrictlyIncreasing}
 use Rattle.std.proofs.lemmas.List.{drop_more}
@@ -11,7 +11,7 @@ use Rattle.tetri_strl.specs.Tree.{Tree, one, join, scale, barrier, Trees, none, 
 use Rattle.tetri_strl.specs.Trim.{earns, idle}
 use Rattle.tetri_strl.specs.WellMade as made
 use Rattle.tetri_strl.specs.Worth.{leaf_worth}
-use Rattle.tetri_space.specs.Space.{Bid, Space, bid}
+use Rattle.tetri_space.specs.Space.{Bid, Covers, Space, bid}
 use Rattle.tetri_space.specs.Sound.{HasKnownSet, IsSound, IsSoundBid}
 use Rattle.std.specs.Prelude.{OnOk, Result, Ok, Err}
 use Rattle.tetri_strl.proofs.WorthLemmas.{EachLeaf-from}
@@ -19,8 +19,9 @@ use Rattle.tetri_space.specs.declared.instance.Offer.{Offer}
 use Rattle.tetri_advice.specs.Fit.{Placement, fit, fit_beside, grants_of, is_held}
 use Rattle.tetri_advice.proofs.FitLaws.{IsRight, are_fit}
 use Rattle.tetri_advice.proofs.FitSame.{fit-same}
-use Rattle.tetri_greedy.specs.Held.{AreHoldable, TellsOf, all_marked, but_leaves, is_marked}
-use Rattle.tetri_greedy.proofs.Free.{free_from_test}
+use Rattle.tetri_greedy.specs.Held.{AreHoldable, TellsOf, all_marked, but_leaves}
+use Rattle.tetri_space.specs.Slots.{is_marked}
+use Rattle.tetri_space.proofs.FreeLemmas.{throughout_decides}
 use Rattle.tetri_greedy.proofs.Marks.{in_window, tells_all}
 use Rattle.tetri_run.specs.FirstFit.{GotFit, HasAscendingLeaves, first_fit, first_fit_from, placed}
 use Rattle.tetri_run.proofs.FirstFitLaw.{IsBefore, grants_but, plain_bid}
@@ -47,7 +48,9 @@ holdable s job taken few (p ∷ ps) right =
         window = window.window;
         some_slots = own.good.some_slots;
         few_slots = own.good.few_slots;
-        known = λ k d lt. (free_from_test s p.leaf.start (get_or p.nodes k d) (own.free k d lt)).there;
+        known = λ k d lt.
+            let starts : Covers p.leaf p.leaf.start = record { begun = omega arith; not_over = omega (arith, own.good.some_slots) } in
+            ((throughout_decides s p.leaf (get_or p.nodes k d) own.good.some_slots).0 (own.free k d lt) p.leaf.start starts).there;
       },
       holdable s job taken few ps (All-tail (IsRight s job taken) p ps right),
     )

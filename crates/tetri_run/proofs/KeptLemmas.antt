@@ -12,7 +12,7 @@ use Rattle.tetri_space.specs.Lawful.{IsLawful, IsLawfulGrant}
 use Rattle.tetri_space.specs.Sound.{IsSound, IsSoundBid}
 use Rattle.tetri_space.specs.Space.{Bid, Space}
 use Rattle.tetri_claims.specs.Good.{IsThriftyForAll}
-use Rattle.tetri_run.specs.Cycle.{ComesBefore}
+use Rattle.tetri_space.specs.GrantOrder.{ComesBefore}
 use Rattle.tetri_space.specs.Total.{total_in}
 use Rattle.tetri_run.specs.FirstFit.{HasAscendingLeaves, first_fit}
 use Rattle.tetri_run.proofs.FirstFitLaw.{first_fit_lawful, first_fit_ordered, first_fit_thrifty}

@@ -5,8 +5,9 @@ pub mod PrintLemmas
 pub mod RunLemmas
 pub mod SlotLemmas
 pub mod ReadBackLemmas
-pub mod DifferLemmas
 pub mod CheckLemmas
 pub mod StepLemmas
 pub mod CycleLemmas
 pub mod TopLemmas
+pub mod RefusalLemmas
+pub mod EndedLemmas

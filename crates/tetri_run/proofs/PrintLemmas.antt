@@ -19,7 +19,8 @@ use Rattle.tetri_trace.specs.Scenario.{Scenario}
 use Rattle.tetri_report.specs.Block.{Block}
 use Rattle.tetri_report.specs.Printable.{AreJobs, IsPrintable, IsPrintableCertificate, IsPrintableGrant}
 use Rattle.tetri_cert.specs.declared.certificate.Certificate.TheVariants.{Tops}
-use Rattle.tetri_run.specs.Cycle.{IsPlanFor, occurrences_in}
+use Rattle.tetri_report.specs.BlockLines.{occurrences_in}
+use Rattle.tetri_run.specs.Cycle.{IsPlanFor}
 
 mutual
   -- the leaves of a sound expression are within their limits
@@ -91,6 +92,7 @@ pub cycle_printable : (t : Scenario) (i : Space) (carry : List Grant) (b : Block
 cycle_printable t i carry b budget is jobs plan tops = record {
   ended = jobs.ended;
   cancelled = jobs.cancelled;
+  failed = jobs.failed;
   over = jobs.over;
   expired = jobs.expired;
   grants = All-weaker (IsLawfulGrant i) (IsPrintableGrant t) (grant_printable t i is) b.grants plan.honest.lawful.grants;

@@ -12,8 +12,7 @@ use Rattle.tetri_report.specs.declared.cycle.Summary.{Summary}
 use Rattle.tetri_io.proofs.Known.{append_known-append}
 use Rattle.tetri_run.specs.Progress.{RanAll, WroteReport}
 use Rattle.tetri_report.specs.Text.{cycle_text, summary_text}
-use Rattle.tetri_report.proofs.ReadReports.{report_back}
-use Rattle.tetri_report.proofs.ShortLines.{lines_short}
+use Rattle.tetri_report.proofs.ReportLaws.{printed_is_short, printed_reads_back}
 use Rattle.tetri_state.specs.Begin.{begin}
 use Rattle.tetri_state.specs.Known.{AreOfJobs}
 use Rattle.tetri_state.specs.Reached.{IsReached, between}
@@ -58,13 +57,13 @@ module _ (t : Scenario) (sound : IsSound t) where
   pub run_reads_back : (past : List Block) → IsPlannedRun t past → IsSummaryInRange (summary_of t past) → report_in t (report_text t past) ≡ Ok (in_order past, summary_of t past)
   run_reads_back past run small =
       ap (λ l. report_in t (l ++ summary_text (summary_of t past))) (cycles_text-in_order t past)
-      ∙ report_back t sound (in_order past) (summary_of t past) (run_printable past run) (run_in_range past run) small
+      ∙ printed_reads_back t sound (in_order past) (summary_of t past) (run_printable past run) (run_in_range past run) small
 
   run_lines_short : (past : List Block) → IsPlannedRun t past → IsSummaryInRange (summary_of t past) → All IsShort (lines_in (report_text t past))
   run_lines_short past run small =
       All-map IsShort (λ (l : List ℕ × ℕ). l.0) (lines_from 0 (report_text t past))
       (subst (λ bytes. All (λ (l : List ℕ × ℕ). length l.0 ≤ 1048576) (lines_from 0 bytes)) (ap (λ l. l ++ summary_text (summary_of t past)) (sym (cycles_text-in_order t past)))
-      (lines_short t sound (in_order past) (summary_of t past) (run_printable past run) (run_in_range past run) small))
+      (printed_is_short t sound (in_order past) (summary_of t past) (run_printable past run) (run_in_range past run) small))
 
   -- what this planner writes is accepted
   pub run_accepted : (past : List Block) → IsPlannedRun t past → length past ≡ t.header.until → IsSummaryInRange (summary_of t past) → IsAccepted t (report_text t past)

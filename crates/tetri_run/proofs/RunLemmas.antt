@@ -11,10 +11,11 @@ use Rattle.tetri_report.specs.declared.cycle.Summary.{Summary}
 use Rattle.tetri_state.specs.After.{after}
 use Rattle.tetri_state.specs.Begin.{begin}
 use Rattle.tetri_state.specs.Launch.{worth_launched}
-use Rattle.tetri_state.specs.Reached.{ArePlans, IsReached, between}
+use Rattle.tetri_state.specs.Reached.{ArePlans, IsReached, begun, between}
 use Rattle.tetri_state.specs.Snapshot.{Snapshot}
 use Rattle.tetri_trace.specs.Scenario.{Scenario}
-use Rattle.tetri_run.specs.Cycle.{ComesBefore, IsPlannedCycle, instance_at}
+use Rattle.tetri_space.specs.GrantOrder.{ComesBefore}
+use Rattle.tetri_run.specs.Cycle.{IsPlannedCycle, instance_at}
 use Rattle.tetri_run.specs.Run.{IsPlannedRun, IsRun, NextText, cycle, summary, cycles_text, optimal_cycles, plans_of, state_behind, summary_of, worth_of_run}
 use Rattle.tetri_run.specs.Progress.{RanAll, RanSlot, RanSlots, StoppedBetween, StoppedInSlot, StoppedInText, summary_at}
 use Rattle.tetri_run.specs.declared.cycles.RunTally.{RunTally}
@@ -32,6 +33,10 @@ run_of t (b ∷ past) run = (run.0, run.1.cycle, run_of t past run.2)
 -- the states of a run are reached
 pub run_reaches : (t : Scenario) (past : List Block) → IsRun t past → IsReached t between (state_behind t past)
 run_reaches t past run = record { plans = plans_of past; are_plans = run_plans t past run; is = refl }
+
+-- and so are those in which the slots of its cycles have begun
+pub run_begins : (t : Scenario) (past : List Block) (b : Block) → IsRun t (b ∷ past) → IsReached t begun (begin t (state_behind t past))
+run_begins t past b run = record { plans = plans_of past; are_plans = run_plans t past run.2; is = (run.0, refl) }
 
 pub now_behind : (t : Scenario) (past : List Block) → (state_behind t past).now ≡ length past
 now_behind t [] = refl

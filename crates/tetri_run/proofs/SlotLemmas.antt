@@ -1,6 +1,6 @@
 -- What one slot needs of the instance and of what is carried over.
 use Rattle.std.proofs.Common.{◌≡◌, ℕ, ◌<◌, List, [], ◌++◌, length, get_or, map, All, AllPairs, refl, sym, ap, ◌∙◌, subst, arith, ⊎_elim}
-use Rattle.std.specs.List.{range_with_len, list_any}
+use Rattle.std.specs.List.{range_with_len}
 use Rattle.std.proofs.lemmas.List.{get_or-map, map-append}
 use Rattle.std.proofs.lemmas.List.Elements.{All-weaker}
 use Rattle.std.proofs.lemmas.List.FromFn.{get_or-range_with_len}
@@ -8,11 +8,10 @@ use Rattle.std.proofs.lemmas.List.Kept.{AllPairs-filter}
 use Rattle.tetri_strl.specs.declared.expr.Leaf.{Leaf}
 use Rattle.tetri_strl.specs.declared.grants.Grant.{Grant}
 use Rattle.tetri_strl.specs.Tree.{Tree, one, join, scale, barrier, Trees, none, more, leaves, leaves_of, numbers, numbers_of}
-use Rattle.std.specs.Prelude.{◌==◌}
 use Rattle.tetri_space.specs.Lawful.{IsLawful}
-use Rattle.tetri_space.specs.Space.{Bid, Space}
-use Rattle.tetri_state.specs.Planning.{IsCarry, IsNumbered, still_pending}
-use Rattle.tetri_run.specs.Cycle.{ComesBefore}
+use Rattle.tetri_space.specs.Space.{Bid, Space, leaf_in}
+use Rattle.tetri_state.specs.Planning.{IsCarry, IsNumbered, is_live, still_pending}
+use Rattle.tetri_space.specs.GrantOrder.{ComesBefore}
 use Rattle.tetri_run.specs.FirstFit.{HasAscendingLeaves}
 
 mutual
@@ -46,7 +45,7 @@ pub carry_ordered : (i : Space) (plan carry : List Grant) → AllPairs ComesBefo
 carry_ordered i plan carry ordered carried = ⊎_elim kept dropped carried
   where
     kept : IsLawful i (still_pending i plan) × (carry ≡ still_pending i plan) → AllPairs ComesBefore carry
-    kept k = subst (AllPairs ComesBefore) (sym k.1) (AllPairs-filter ComesBefore (λ g. list_any (λ b. b.job == g.job) i.bids) plan ordered)
+    kept k = subst (AllPairs ComesBefore) (sym k.1) (AllPairs-filter ComesBefore (λ g. is_live i (leaf_in i.bids g.job g.leaf)) plan ordered)
 
     dropped : (IsLawful i (still_pending i plan) → ⊥) × (carry ≡ []) → AllPairs ComesBefore carry
     dropped k = subst (AllPairs ComesBefore) (sym k.1) (λ a b d lt within. absurd (omega (arith, within)))

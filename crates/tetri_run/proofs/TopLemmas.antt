@@ -1,10 +1,11 @@
 -- What the check of a report says once its trace was read.
-use Rattle.std.proofs.Common.{◌≡◌, ◌∙◌, ℕ, List, sym}
+use Rattle.std.proofs.Common.{◌≡◌, ◌∙◌, ◌⊎◌, ℕ, List, refl, sym, inl, inr}
 use Rattle.std.specs.Prelude.{Option, Some, Result, Ok}
 use Rattle.tetri_trace.specs.Lines.{scenario_in}
 use Rattle.tetri_trace.specs.Scenario.{Scenario}
 use Rattle.tetri_trace.specs.declared.fault.TraceWhy.{TraceWhy}
-use Rattle.tetri_run.specs.Status.{IsCheckAnswer, IsCheckPromised}
+use Rattle.tetri_run.specs.Check.{IsAccepted}
+use Rattle.tetri_run.specs.Status.{IsCheckAnswer, IsCheckPromised, IsRefusal}
 use Rattle.tetri_run.specs.Words.{Asked, to_check}
 use Rattle.tetri_run.specs.declared.status.Status.{Status}
 use Rattle.tetri_run.specs.declared.status.Status.TheVariants.{Done, Refused, Usage, ReadFault, WriteFault, BadTrace, NoMemory}
@@ -18,6 +19,17 @@ check_promised ReadFault trace t report before after is answer = tt
 check_promised WriteFault trace t report before after is answer = (t, is, answer)
 check_promised (BadTrace line why) trace t report before after is answer = absurd answer
 check_promised NoMemory trace t report before after is answer = tt
+
+-- a report that is not accepted is refused, where nothing kept it from being read
+pub rejected : (status : Status) (t : Scenario) (report : List ℕ) (before after : Option (List ℕ)) → IsCheckAnswer status t report before after → (IsAccepted t report → ⊥) →
+    (status ≡ ReadFault → ⊥) → IsRefusal status t report ⊎ (status ≡ NoMemory)
+rejected Done t report before after answer not quiet = absurd (not answer.0.accepted)
+rejected (Refused line why) t report before after answer not quiet = inl answer.0
+rejected Usage t report before after answer not quiet = absurd answer
+rejected ReadFault t report before after answer not quiet = absurd (quiet refl)
+rejected WriteFault t report before after answer not quiet = absurd (not answer.0.accepted)
+rejected (BadTrace line why) t report before after answer not quiet = absurd answer
+rejected NoMemory t report before after answer not quiet = inr refl
 
 -- a content is one trace
 pub same_scenario : (content : List ℕ) (t s : Scenario) → scenario_in content ≡ Ok t → scenario_in content ≡ Ok s → t ≡ s

@@ -7,7 +7,8 @@ use Rattle.tetri_judge.specs.declared.verdict.Verdict.{Verdict}
 use Rattle.tetri_judge.specs.declared.verdict.Verdict.TheVariants as verdicts
 use Rattle.tetri_report.specs.Block.{Block}
 use Rattle.tetri_report.specs.BlockLines.{certificate_lines, events}
-use Rattle.tetri_report.specs.PlanOf.{planned}
+use Rattle.tetri_judge.specs.Places.{place_of}
+use Rattle.tetri_judge.specs.PlanOf.{planned}
 use Rattle.tetri_report.specs.declared.blocks.ReportFault.{ReportFault}
 use Rattle.tetri_report.specs.declared.blocks.ReportFault.TheVariants as faults
 use Rattle.tetri_report.specs.Reading.{Reading, behind_line, line_answer}
@@ -21,7 +22,7 @@ use Rattle.tetri_state.specs.Snapshot.{Snapshot}
 use Rattle.tetri_trace.specs.Scenario.{Scenario}
 use Rattle.tetri_run.specs.Check.{Checking, FitsRun, IsInPlace, IsPassed, IsRefused, IsShort}
 use Rattle.tetri_run.specs.Cycle.{IsCycle, instance_at}
-use Rattle.tetri_run.specs.Faulty.{IsFaulty, place_of, why_of}
+use Rattle.tetri_run.specs.Faulty.{IsFaulty, why_of}
 use Rattle.tetri_run.specs.Run.{IsRun, optimal_count, optimal_cycles, state_behind, worth_of_run}
 use Rattle.tetri_run.specs.declared.halt.CheckHalt.{CheckHalt}
 use Rattle.tetri_run.specs.declared.halt.CheckHalt.TheVariants.{Refused, ReadFault, NoMemory}

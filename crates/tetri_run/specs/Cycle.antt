@@ -1,24 +1,23 @@
 -- What one cycle of a run says.
-use Rattle.std.specs.Prelude.{◌≡◌, ◌<◌, ◌≤◌, ◌⊎◌, ℕ, List, AllPairs, map}
+use Rattle.std.specs.Prelude.{◌≡◌, ◌≤◌, List, ℕ, AllPairs, map}
 use Rattle.tetri_strl.specs.declared.grants.Grant.{Grant}
 use Rattle.tetri_cert.specs.declared.certificate.Certificate.TheVariants.{Tops}
 use Rattle.tetri_claims.specs.Certified.{IsCertified}
 use Rattle.tetri_claims.specs.Good.{BoundsEveryLawful, IsHonest}
 use Rattle.tetri_report.specs.Block.{Block}
-use Rattle.tetri_report.specs.PlanOf.{planned}
+use Rattle.tetri_report.specs.BlockLines.{occurrences_in}
+use Rattle.tetri_judge.specs.PlanOf.{planned}
 use Rattle.tetri_report.specs.Printable.{IsInRange}
+use Rattle.tetri_space.specs.GrantOrder.{ComesBefore}
 use Rattle.tetri_space.specs.Space.{Space}
 use Rattle.tetri_space.specs.Total.{total_in}
-use Rattle.tetri_state.specs.Begin.{Occurrences, begin, occurring}
+use Rattle.tetri_state.specs.Begin.{begin, occurring}
 use Rattle.tetri_state.specs.Launch.{start_of, launched_in}
 use Rattle.tetri_state.specs.Planning.{IsCarry, instance_of}
 use Rattle.tetri_state.specs.Snapshot.{Snapshot}
 use Rattle.tetri_trace.specs.Scenario.{Scenario}
 use Rattle.tetri_run.specs.FirstFit.{first_fit}
 use Rattle.tetri_run.specs.Kept.{kept}
-
-abbrev pub occurrences_in : Block → Occurrences
-occurrences_in b = record { ended = b.ended; cancelled = b.cancelled; over = b.over; expired = b.expired }
 
 -- what the cycle plans for that begins in this state
 abbrev pub instance_at : Scenario → Snapshot → Space
@@ -44,10 +43,6 @@ pub record IsCycle (t : Scenario) (s : Snapshot) (b : Block) : Type 0 where
 -- no lawful allotment is worth more than the bound of the cycle that begins in this state
 abbrev pub IsBoundedCycle : Scenario → Snapshot → Block → Type 0
 IsBoundedCycle t s b = BoundsEveryLawful (instance_at t s) b.bound
-
--- the first grant's job and leaf come before the second's
-abbrev pub ComesBefore : Grant → Grant → Type 0
-ComesBefore g h = (g.job < h.job) ⊎ ((g.job ≡ h.job) × (g.leaf < h.leaf))
 
 -- the grants are those that this planner keeps, by job and leaf, and worth at least those of first fit
 pub record IsKeptFor (i : Space) (carry : List Grant) (b : Block) : Type 0 where

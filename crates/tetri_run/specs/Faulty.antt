@@ -1,12 +1,14 @@
 -- What is wrong with a cycle of a report.
-use Rattle.std.specs.Prelude.{◌≡◌, ℕ, ◌+◌, List, map, Option, Some, None}
+use Rattle.std.specs.Prelude.{◌≡◌, ℕ, List, map, Option, Some, None}
 use Rattle.tetri_strl.specs.declared.grants.Grant.{Grant}
 use Rattle.tetri_judge.specs.Verdict.{IsFirstFailed, Passes, Test}
 use Rattle.tetri_judge.specs.declared.verdict.Verdict.{Verdict}
 use Rattle.tetri_judge.specs.declared.verdict.Verdict.TheVariants as verdicts
 use Rattle.tetri_report.specs.Block.{Block}
-use Rattle.tetri_report.specs.BlockLines.{block_lines, certificate_place, grant_place, plan_place}
-use Rattle.tetri_report.specs.PlanOf.{planned}
+use Rattle.tetri_report.specs.BlockLines.{block_lines}
+use Rattle.tetri_report.specs.Differences.{DifferFirstAt, corrected}
+use Rattle.tetri_judge.specs.Places.{place_of}
+use Rattle.tetri_judge.specs.PlanOf.{planned}
 use Rattle.tetri_space.specs.Total.{total_in}
 use Rattle.tetri_state.specs.Begin.{occurring}
 use Rattle.tetri_state.specs.Launch.{launched_in, start_of}
@@ -14,7 +16,6 @@ use Rattle.tetri_state.specs.Planning.{IsCarry}
 use Rattle.tetri_state.specs.Snapshot.{Snapshot}
 use Rattle.tetri_trace.specs.Scenario.{Scenario}
 use Rattle.tetri_run.specs.Cycle.{instance_at}
-use Rattle.tetri_run.specs.Told.{DifferFirstAt, retold}
 use Rattle.tetri_run.specs.declared.why.Why.{Why}
 use Rattle.tetri_run.specs.declared.why.Why.TheVariants as whys
 
@@ -30,21 +31,9 @@ why_of (verdicts.WrongBound printed found) = Some (whys.WrongBound printed found
 why_of verdicts.WrongMark = Some whys.WrongMark
 why_of verdicts.NoMemory = None
 
--- the place of the line, counted from the cycle's first one, at which a verdict refuses its plan; want of memory refuses none
-abbrev pub place_of : Block → Verdict → ℕ
-place_of b (verdicts.Unlawful u) = grant_place b u.grant
-place_of b (verdicts.WrongValue printed found) = plan_place b
-place_of b (verdicts.WasteGrant place) = grant_place b place
-place_of b (verdicts.BelowCarry printed carry) = plan_place b
-place_of b (verdicts.BadTree node why) = certificate_place b + node
-place_of b (verdicts.Past node column) = certificate_place b + node
-place_of b (verdicts.WrongBound printed found) = plan_place b
-place_of b verdicts.WrongMark = plan_place b
-place_of b verdicts.NoMemory = plan_place b
-
--- the cycle as it has to be told in this state, with its own plan
-abbrev pub rightly_told : Scenario → Snapshot → Block → Block
-rightly_told t s b = retold b s.now (occurring t s) (map (start_of (instance_at t s)) b.grants) (launched_in (instance_at t s) b.grants)
+-- the cycle as it has to be in this state, with its own plan
+abbrev pub corrected_at : Scenario → Snapshot → Block → Block
+corrected_at t s b = corrected b s.now (occurring t s) (map (start_of (instance_at t s)) b.grants) (launched_in (instance_at t s) b.grants)
 
 -- The cycle, which begins in this state, fails a test, which refuses the line at this place, counted from its first one. First
 -- come the tests of its plan. Then its lines are held against those that the state and the plan make: the first that differs is
@@ -55,4 +44,4 @@ pub data IsFaulty (t : Scenario) (s : Snapshot) (b : Block) : ℕ → Why → Ty
       → IsFaulty t s b (place_of b v) why
   told_badly : (carry : List Grant) (place : ℕ) → IsCarry (instance_at t s) s.plan carry
       → ((test : Test) → Passes (instance_at t s) (total_in (instance_at t s) carry) t.header.budget (planned b) test)
-      → DifferFirstAt (block_lines b) (block_lines (rightly_told t s b)) place → IsFaulty t s b place whys.WrongEvents
+      → DifferFirstAt (block_lines b) (block_lines (corrected_at t s b)) place → IsFaulty t s b place whys.WrongEvents

@@ -2,10 +2,10 @@ pub mod FirstFit
 pub mod Kept
 pub mod Cycle
 pub mod Run
-pub mod Told
 pub mod Faulty
 pub mod Check
 pub mod Checked
 pub mod Progress
 pub mod Words
 pub mod Status
+pub mod Ended

@@ -1,5 +1,5 @@
 -- A run: one cycle a slot, from the opening state on. Lists of cycles have the last one first.
-use Rattle.std.specs.Prelude.{◌≡◌, ◌<◌, ℕ, ◌+◌, List, [], ◌∷◌, ◌++◌, map, length}
+use Rattle.std.specs.Prelude.{◌≡◌, ◌⊎◌, ◌<◌, Contains, ℕ, ◌+◌, List, [], ◌∷◌, ◌++◌, map, length}
 use Rattle.tetri_strl.specs.declared.grants.Grant.{Grant}
 use Rattle.tetri_cert.specs.declared.plan_mark.PlanMark.{PlanMark}
 use Rattle.tetri_cert.specs.declared.plan_mark.PlanMark.TheVariants.{Optimal, Spent, Wide}
@@ -7,7 +7,10 @@ use Rattle.tetri_report.specs.Block.{Block}
 use Rattle.tetri_report.specs.Text.{cycle_text, summary_text}
 use Rattle.tetri_report.specs.declared.cycle.Summary.{Summary}
 use Rattle.tetri_state.specs.Launch.{worth_launched}
+use Rattle.tetri_state.specs.Begin.{named}
+use Rattle.tetri_state.specs.Pieces.{IsSameRun}
 use Rattle.tetri_state.specs.Reached.{state_after}
+use Rattle.tetri_state.specs.declared.pieces.Piece.{Piece}
 use Rattle.tetri_state.specs.Snapshot.{Snapshot}
 use Rattle.tetri_trace.specs.Scenario.{Scenario}
 use Rattle.tetri_run.specs.Cycle.{IsBoundedCycle, IsCycle, IsPlannedCycle, instance_at}
@@ -31,6 +34,13 @@ IsRun = IsRunOf IsCycle
 -- no lawful allotment of any of these cycles' instances is worth more than the cycle's bound
 abbrev pub BoundsHold : Scenario → List Block → Type 0
 BoundsHold = IsRunOf IsBoundedCycle
+
+-- Behind one cycle more the piece still runs, on the same nodes, or the cycle tells that the piece ended, or that its job was
+-- cancelled or failed.
+abbrev pub RunsOnBehind : Scenario → List Block → Block → Piece → Type 0
+RunsOnBehind t past b p =
+    ((q : Piece) × Contains (state_behind t (b ∷ past)).pieces q × IsSameRun p q)
+    ⊎ (Contains b.ended (named p) ⊎ (Contains b.cancelled p.job ⊎ Contains b.failed p.job))
 
 -- a run that this planner plans
 abbrev pub IsPlannedRun : Scenario → List Block → Type 0

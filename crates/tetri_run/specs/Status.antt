@@ -48,6 +48,11 @@ IsCheckAnswer WriteFault t report before after = IsAssured t report × AppendsPa
 IsCheckAnswer (BadTrace line why) t report before after = ⊥
 IsCheckAnswer NoMemory t report before after = Unit {0}
 
+-- the status tells the first test that the report fails, at its line
+abbrev pub IsRefusal : Status → Scenario → List ℕ → Type 0
+IsRefusal (Refused line why) t report = IsRefusedAt t report line why
+IsRefusal status t report = ⊥
+
 -- What a status says of checking a report against the trace that was read: that this is refused, or is accepted and the
 -- report was checked.
 abbrev pub IsCheckPromised : Status → Result Scenario (ℕ × TraceWhy) → List ℕ → Option (List ℕ) → Option (List ℕ) → Type 0
@@ -114,11 +119,13 @@ field_words fields.Window = codes "window"
 field_words fields.Budget = codes "budget"
 field_words fields.Until = codes "until"
 field_words fields.Unit = codes "unit"
+field_words fields.Closures = codes "closures"
 field_words fields.At = codes "at"
 field_words fields.Arrive = codes "arrive"
 field_words fields.Cancel = codes "cancel"
 field_words fields.Drain = codes "drain"
 field_words fields.Undrain = codes "undrain"
+field_words fields.Fail = codes "fail"
 field_words fields.Late = codes "late"
 field_words fields.Strl = codes "strl"
 field_words fields.Ask = codes "ask"

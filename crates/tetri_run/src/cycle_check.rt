@@ -1,47 +1,25 @@
 // The check of one cycle of a report.
 ghost use Rattle.std.specs.Prelude.{◌≡◌, ◌+◌, ◌<◌, ◌≤◌, ◌^◌, length, IfOk};
-ghost use Rattle.tetri_judge.specs.Verdict.{Shows};
 ghost use Rattle.tetri_report.specs.Block.{block};
 ghost use Rattle.tetri_report.specs.BlockLines.{end_place};
-ghost use Rattle.tetri_report.specs.PlanOf.{planned};
+ghost use Rattle.tetri_judge.specs.PlanOf.{planned};
+ghost use Rattle.tetri_judge.specs.Places.{place_of};
 ghost use Rattle.tetri_run.specs.Checked.{AnswersCycle, AnswersPlan, AnswersVerdict};
-ghost use Rattle.tetri_run.specs.Faulty.{place_of};
 ghost use Rattle.tetri_space.specs.Sound.{IsSound as IsSoundInstance};
 ghost use Rattle.tetri_space.specs.Space.{space};
 ghost use Rattle.tetri_state.specs.Reached.{IsReached, between};
 ghost use Rattle.tetri_trace.specs.Scenario.{scenario};
 ghost use Rattle.tetri_trace.specs.Sound.{IsSound};
 
-use crate::differences::{Rightly, first_other_line, plan_place};
 use crate::halt::CheckHalt;
 use crate::slot::{SlotTally, optimal_count};
 use crate::why::{Why, why_of};
 use std::alloc::Global;
-use tetri_judge::{Verdict, judge};
-use tetri_report::Cycle;
+use tetri_judge::{Verdict, judge, place_of};
+use tetri_report::{Cycle, Expected, first_other_line};
 use tetri_space::{Instance, total};
 use tetri_state::{State, launch_of, starts_of};
 use tetri_trace::Trace;
-
-// The place of the line at which a verdict refuses the plan, among the lines of the cycle.
-fn place_of(cycle: &Cycle, verdict: Verdict) -> u64
-    requires few { end_place (block cycle.now) < 2 ^ 64 }
-    requires within { place_of (block cycle.now) verdict ≤ end_place (block cycle.now) }
-    ensures { result ≡ place_of (block cycle.now) verdict }
-{
-    let plan = plan_place(cycle);
-    match verdict {
-        Verdict::Unlawful(unlawful) => plan + 1 + unlawful.grant,
-        Verdict::WasteGrant(grant) => plan + 1 + grant,
-        Verdict::BadTree { node, .. } => plan + 1 + cycle.grants.as_slice().len() as u64 + node,
-        Verdict::Past { node, .. } => plan + 1 + cycle.grants.as_slice().len() as u64 + node,
-        Verdict::WrongValue { .. } => plan,
-        Verdict::BelowCarry { .. } => plan,
-        Verdict::WrongBound { .. } => plan,
-        Verdict::WrongMark => plan,
-        Verdict::NoMemory => plan,
-    }
-}
 
 // The line at which a verdict refuses the plan, and why, unless memory ran out.
 fn refusal_of(cycle: &Cycle, first: u64, verdict: Verdict) -> CheckHalt
@@ -105,13 +83,13 @@ pub(crate) fn check_cycle(
     }
     let starts = starts_of(alloc, &inst, cycle.grants.as_slice())?;
     let launch = launch_of(alloc, &inst, cycle.grants.as_slice())?;
-    let rightly = Rightly {
+    let expected = Expected {
         number: inst.now,
         happened: &happened,
         starts: &starts,
         launched: &launch.jobs,
     };
-    if let Some(place) = first_other_line(cycle, rightly) {
+    if let Some(place) = first_other_line(cycle, expected) {
         return Err(CheckHalt::Refused {
             line: first + place,
             why: Why::WrongEvents,

@@ -5,9 +5,10 @@ mod accepted;
 mod check;
 mod cycle_check;
 mod cycles;
-mod differences;
+mod ended;
 mod first_fit;
 mod halt;
+mod laws;
 mod planner;
 mod slot;
 mod spoken;
@@ -15,6 +16,10 @@ mod status;
 mod top;
 mod why;
 
+pub use ended::{conclude, exit_number, status_of_words};
+pub use laws::{
+    pieces_of_runs_keep_their_nodes, reports_are_refused_once, states_of_runs_are_reached,
+};
 pub use spoken::{SayFault, say};
 pub use status::Status;
 pub use top::{run, run_check, run_plan};

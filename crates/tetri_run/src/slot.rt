@@ -1,7 +1,8 @@
 // One slot of a run.
 ghost use Rattle.std.specs.Prelude.{◌≡◌, ◌≤◌, ◌<◌, ◌^◌, AllPairs, IfOk, IsErrOf, OnOk};
 ghost use Rattle.tetri_algebra.specs.Counts.{Rose};
-ghost use Rattle.tetri_run.specs.Cycle.{ComesBefore, IsPlannedCycle};
+ghost use Rattle.tetri_space.specs.GrantOrder.{ComesBefore};
+ghost use Rattle.tetri_run.specs.Cycle.{IsPlannedCycle};
 ghost use Rattle.tetri_run.specs.Progress.{IsReady, RanSlot, StoppedInSlot};
 ghost use Rattle.tetri_run.specs.Run.{optimal_count};
 ghost use Rattle.tetri_report.specs.Block.{block};
@@ -17,7 +18,7 @@ use crate::planner::{Told, plan_cycle};
 use std::alloc::{AllocError, Global};
 use tetri_cert::PlanMark;
 use tetri_io::{Sink, send_all};
-use tetri_report::{cycle_is_in_range, print_cycle};
+use tetri_report::print_cycle;
 use tetri_state::{Prepared, State, jobs_of_a_run_are_known};
 use tetri_trace::Trace;
 
@@ -64,7 +65,6 @@ fn ready_slot(alloc: Global, trace: &Trace, state: &mut State) -> Result<Ready, 
     let inst = state.instance(alloc, trace)?;
     let carry = state.carry(alloc, trace, &inst)?;
     let told = plan_cycle(alloc, &inst, inst.now, happened, carry)?;
-    cycle_is_in_range(&told.cycle);
     let text = print_cycle(alloc, trace, &told.cycle)?;
     let prepared = state.prepare(alloc, trace, &inst, &told.cycle.grants)?;
     let tally = SlotTally {

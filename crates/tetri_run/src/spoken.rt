@@ -3,6 +3,7 @@ ghost use Rattle.std.specs.Prelude.{◌≡◌, ◌≤◌, ◌++◌, IfOk, OnOk, 
 ghost use Rattle.std.specs.Io.KnownBytes.{append_known};
 ghost use Rattle.tetri_algebra.specs.Counts.{Rose};
 ghost use Rattle.tetri_io.specs.Sink.{AppendsPart};
+ghost use Rattle.tetri_run.specs.Ended.{NeedsMemory};
 ghost use Rattle.tetri_run.specs.Status.{bad_trace_words, fault_words, field_words, refusal_name, refusal_values, refused_words, rule_name, rule_values, status_words, tree_words, why_name, why_values, why_words};
 ghost use Rattle.tetri_run.specs.declared.why.Why.TheVariants as whys;
 ghost use Rattle.tetri_trace.specs.declared.fault.TraceWhy.{TraceWhy};
@@ -80,11 +81,13 @@ fn field_word(field: Field) -> &'static str
         Field::Budget => "budget",
         Field::Until => "until",
         Field::Unit => "unit",
+        Field::Closures => "closures",
         Field::At => "at",
         Field::Arrive => "arrive",
         Field::Cancel => "cancel",
         Field::Drain => "drain",
         Field::Undrain => "undrain",
+        Field::Fail => "fail",
         Field::Late => "late",
         Field::Strl => "strl",
         Field::Ask => "ask",
@@ -266,6 +269,7 @@ pub fn say<K: Sink>(alloc: Global, status: &Status, sink: &mut K) -> Result<(), 
     ensures part { IsErrOf result SayFault.Failed
         → AppendsPart (K.written sink.old) (K.written sink.new) (status_words status.entry.now) }
     ensures memory { IsErrOf result SayFault.NoMemory → K.written sink.new ≡ K.written sink.old }
+    ensures numbered { IsErrOf result SayFault.NoMemory → NeedsMemory status.entry.now }
     ensures later { K.faults sink.old ≤ K.faults sink.new }
 {
     match status {

@@ -2,7 +2,7 @@
 ghost use Rattle.std.specs.Prelude.{◌≡◌, ◌≢◌, ◌↔◌, ◌≤◌, ◌⊎◌, List, ℕ, Some, None, Ok, Err, ◌++◌, option_map};
 ghost use Rattle.tetri_algebra.specs.Counts.{Rose};
 ghost use Rattle.tetri_run.specs.Check.{IsAccepted};
-ghost use Rattle.tetri_run.specs.Status.{IsCheckPromised, IsPromised, IsSilent, RoseOf, status_of, trace_of};
+ghost use Rattle.tetri_run.specs.Status.{IsCheckPromised, IsPromised, IsRefusal, IsSilent, RoseOf, status_of, trace_of};
 ghost use Rattle.tetri_run.specs.declared.why.Why.{Why};
 ghost use Rattle.tetri_trace.specs.declared.fault.TraceWhy.{TraceWhy};
 ghost use Rattle.tetri_run.specs.Words.{Asked, asked, asked_of, texts, to_check, to_plan};
@@ -66,8 +66,8 @@ pub fn run<S: Shelf, K: Sink>(
         → RoseOf a (S.faults shelf.old) (S.faults shelf.new) }
     ensures write { result ≡ Status.WriteFault → Rose (K.faults sink.old) (K.faults sink.new) }
 
-    // A trace that is accepted is planned, a report that is accepted is told so, and a trace that is not accepted is refused,
-    // but for want of memory.
+    // A trace that is accepted is planned, a report that is accepted is told so, and a trace and a report that are not accepted
+    // are refused, but for want of memory.
     ensures complete { (name content : List ℕ) (t : Scenario) → asked (texts words.now) ≡ Some (to_plan name)
         → S.told shelf.old name ≡ Some content → scenario_in content ≡ Ok t
         → ¬ Rose (S.faults shelf.old name) (S.faults shelf.new name)
@@ -79,9 +79,14 @@ pub fn run<S: Shelf, K: Sink>(
         → ¬ RoseOf (to_check trace report) (S.faults shelf.old) (S.faults shelf.new)
         → ¬ Rose (K.faults sink.old) (K.faults sink.new)
         → (result ≡ Status.Done) ⊎ (result ≡ Status.NoMemory) }
+    ensures rejects { (trace report content lines : List ℕ) (t : Scenario) → asked (texts words.now) ≡ Some (to_check trace report)
+        → S.told shelf.old trace ≡ Some content → scenario_in content ≡ Ok t
+        → S.told shelf.old report ≡ Some lines → ¬ IsAccepted t lines
+        → ¬ RoseOf (to_check trace report) (S.faults shelf.old) (S.faults shelf.new)
+        → IsRefusal result t lines ⊎ (result ≡ Status.NoMemory) }
     ensures refuses { (a : Asked) (content : List ℕ) (line : ℕ) (why : TraceWhy) → asked (texts words.now) ≡ Some a
         → S.told shelf.old (trace_of a) ≡ Some content → scenario_in content ≡ Err (line, why)
-        → ¬ RoseOf a (S.faults shelf.old) (S.faults shelf.new)
+        → ¬ Rose (S.faults shelf.old (trace_of a)) (S.faults shelf.new (trace_of a))
         → (result ≡ Status.BadTrace line why) ⊎ (result ≡ Status.NoMemory) }
     ensures same { S.told shelf.new ≡ S.told shelf.old }
     ensures later_reads { (other : List ℕ) → S.faults shelf.old other ≤ S.faults shelf.new other }
@@ -157,6 +162,10 @@ pub fn run_check<S: Shelf, K: Sink>(
         → ¬ RoseOf (to_check trace.now report.now) (S.faults shelf.old) (S.faults shelf.new)
         → ¬ Rose (K.faults sink.old) (K.faults sink.new)
         → (result ≡ Status.Done) ⊎ (result ≡ Status.NoMemory) }
+    ensures rejects { (content lines : List ℕ) (t : Scenario) → S.told shelf.old trace.now ≡ Some content → scenario_in content ≡ Ok t
+        → S.told shelf.old report.now ≡ Some lines → ¬ IsAccepted t lines
+        → ¬ RoseOf (to_check trace.now report.now) (S.faults shelf.old) (S.faults shelf.new)
+        → IsRefusal result t lines ⊎ (result ≡ Status.NoMemory) }
     ensures refuses { (content : List ℕ) (line : ℕ) (why : TraceWhy) → S.told shelf.old trace.now ≡ Some content
         → scenario_in content ≡ Err (line, why)
         → ¬ Rose (S.faults shelf.old trace.now) (S.faults shelf.new trace.now)

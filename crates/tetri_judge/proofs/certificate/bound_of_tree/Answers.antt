@@ -1,6 +1,6 @@
 use Rattle.std.proofs.Common.{Some, subst}
 use Rattle.tetri_judge.specs.Answers.{IsTreeProgram}
-use Rattle.tetri_judge.proofs.VerdictLemmas.{fault_answers}
+use Rattle.tetri_judge.proofs.VerdictLaws.{fault_answers}
 use Rattle.tetri_space.specs.Space.{space}
 use Rattle.tetri_judge.proofs.certificate.bound_of_tree.Goals as goal
 

@@ -1,8 +1,9 @@
 use Rattle.std.proofs.Common.{Err, ap, inr}
 use Rattle.tetri_judge.specs.Verdict.{Passes, Test}
-use Rattle.tetri_judge.proofs.VerdictLemmas.{certified_passes, passing_is_certified, passing_is_good, passing_is_not_refused, refused_for_memory}
+use Rattle.tetri_judge.proofs.PlaceLemmas.{verdict_within}
+use Rattle.tetri_judge.proofs.VerdictLaws.{certified_passes, passing_is_certified, passing_is_good, passing_is_not_refused, refused_for_memory}
 use Rattle.tetri_report.specs.Block.{block}
-use Rattle.tetri_report.specs.PlanOf.{planned}
+use Rattle.tetri_judge.specs.PlanOf.{planned}
 use Rattle.tetri_space.specs.Space.{space}
 use Rattle.tetri_judge.proofs.judging.judge.Goals as goal
 
@@ -27,3 +28,11 @@ returns-in-Err-clause-complete c = λ honest certified.
     let s = space c.args.inst.now in
     let p = planned (block c.args.c.now) in
     absurd (passing_is_not_refused s c.args.carry c.args.budget p c.requires c.in-Err.verdict (c.in-Err.ensures c.args.budget) (certified_passes s c.args.carry c.args.budget p honest certified))
+
+pub returns-in-Err-clause-within : goal.returns-in-Err-clause-within
+returns-in-Err-clause-within c =
+    verdict_within (space c.args.inst.now) c.args.carry c.args.budget (block c.args.c.now) c.in-Err.verdict (inr (c.in-Err.ensures c.args.budget))
+
+pub returns-in-Err-test_certificate-clause-within : goal.returns-in-Err-test_certificate-clause-within
+returns-in-Err-test_certificate-clause-within c =
+    verdict_within (space c.args.inst.now) c.args.carry c.args.budget (block c.args.c.now) c.in-Err-test_certificate.verdict c.in-Err-test_certificate.ensures

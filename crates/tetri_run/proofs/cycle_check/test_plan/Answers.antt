@@ -1,11 +1,7 @@
 use Rattle.tetri_report.specs.Block.{block}
 use Rattle.tetri_space.specs.Space.{space}
-use Rattle.tetri_run.proofs.StepLemmas.{plan_answer, verdict_within}
+use Rattle.tetri_run.proofs.StepLemmas.{plan_answer}
 use Rattle.tetri_run.proofs.cycle_check.test_plan.Goals as goal
-
-pub refusal_of-requires-clause-within : goal.refusal_of-requires-clause-within
-refusal_of-requires-clause-within c =
-    verdict_within (space c.args.inst.now) c.args.carry c.args.budget (block c.args.cycle.now) c.in-Err.verdict c.in-Err.ensures.verdict
 
 pub returns-in-Ok : goal.returns-in-Ok
 returns-in-Ok c = (c.in-Ok.ensures.good.0.honest, c.in-Ok.ensures.good.1)

@@ -3,7 +3,7 @@ use Rattle.std.specs.Prelude.{IsErrOf}
 use Rattle.tetri_state.specs.Reached.{IsReached, between}
 use Rattle.tetri_state.specs.Snapshot.{Snapshot}
 use Rattle.tetri_trace.specs.Scenario.{scenario}
-use Rattle.tetri_run.specs.Cycle.{ComesBefore}
+use Rattle.tetri_space.specs.GrantOrder.{ComesBefore}
 use Rattle.tetri_run.specs.Progress.{StoppedInSlot}
 use Rattle.tetri_run.specs.declared.cycles.RunTally.{RunTally}
 use Rattle.tetri_run.specs.declared.halt.Halt.TheVariants.{WriteFault}

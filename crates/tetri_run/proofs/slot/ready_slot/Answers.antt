@@ -9,7 +9,8 @@ use Rattle.tetri_state.specs.Planning.{IsCarry, instance_of}
 use Rattle.tetri_state.specs.Readied.{Fits, IsLaunchOf}
 use Rattle.tetri_state.specs.Snapshot.{Snapshot}
 use Rattle.tetri_trace.specs.Scenario.{scenario}
-use Rattle.tetri_run.specs.Cycle.{ComesBefore, IsKeptFor, IsPlanFor, instance_at}
+use Rattle.tetri_space.specs.GrantOrder.{ComesBefore}
+use Rattle.tetri_run.specs.Cycle.{IsKeptFor, IsPlanFor, instance_at}
 use Rattle.tetri_run.proofs.PrintLemmas.{cycle_printable}
 use Rattle.tetri_run.proofs.SlotLemmas.{carry_ordered, numbered_ascend}
 use Rattle.tetri_run.proofs.slot.ready_slot.Goals as goal
@@ -62,9 +63,9 @@ returns-clause-ready c =
         bounded = subst (λ (i : Space). BoundsEveryLawful i b.bound) is c.in_ok-told.ensures.bounded;
         by_tops = c.in_ok-told.ensures.by_tops;
         kept_for = subst (λ (i : Space). IsKeptFor i carry b) is c.in_ok-told.ensures.kept;
-        in_range = c.cycle_is_in_range.ensures;
+        in_range = c.in_ok-text.ensures.in_range;
       };
-      text = c.in_ok-text.ensures;
+      text = c.in_ok-text.ensures.text;
       launch = subst (λ (q : Snapshot). IsLaunchOf t q b.grants c.in_ok-prepared.prepared) begun c.in_ok-prepared.ensures.launch;
       fits = subst (λ (q : Snapshot). Fits q c.in_ok-prepared.prepared) begun c.in_ok-prepared.ensures.fits;
       worth = c.in_ok-told.ensures.worth ∙ ap (λ (i : Space). worth_launched i b.grants) is;
