@@ -26,7 +26,7 @@ impl Service {
         Service {
             read_most: 64,
             write_most: 7,
-            room: 100_000,
+            room: 4_000_000,
             reads: Vec::new(alloc),
             writes: Vec::new(alloc),
         }
@@ -38,7 +38,7 @@ impl Service {
         match word {
             "piece" => self.read_most = size.max(1),
             "width" => self.write_most = size.max(1),
-            "room" => self.room = size.min(100_000),
+            "room" => self.room = size.min(4_000_000),
             "read" => self.reads.push(number)?,
             "write" => self.writes.push(number)?,
             _ => {}

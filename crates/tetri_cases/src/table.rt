@@ -1,7 +1,7 @@
 // The sections of a table.
-use tetri_tables::{Tally, expand_text};
 use crate::{certificates, contents, names, reports, runs, sets, texts, traces};
 use std::alloc::{AllocError, Global};
+use tetri_tables::{Tally, expand_text};
 
 /// What the sections before have given.
 #[derive(Drop)]
@@ -50,6 +50,10 @@ fn judge_section(
     let (word, more) = kind.split_once(": ").unwrap_or((kind, ""));
     match word {
         "plan" => runs::plan(alloc, given, tally, body),
+        "made plan" => {
+            let body = expand_text(alloc, body)?;
+            runs::plan(alloc, given, tally, body.as_str().trim_end_matches('\n'))
+        }
         "no plan" => runs::no_plan(alloc, given, tally, more),
         "check" => runs::check(alloc, given, tally, more),
         "forged" => runs::forged(alloc, given, tally, body),
