@@ -1,7 +1,5 @@
 // Programs of instances: what they say, their points, their trees and their dual runs.
-ghost use Rattle.std.specs.Prelude.{◌×◌, ◌≤◌};
 ghost use Rattle.tetri_ip.specs.Points.{IsFit};
-ghost use Rattle.tetri_space.specs.Partitions.{ArePartitionsOf, parts_of};
 ghost use Rattle.tetri_space.specs.Sound.{IsSound};
 ghost use Rattle.tetri_space.specs.Space.{space};
 
