@@ -94,12 +94,22 @@ fn given_of(alloc: Global, trace: String) -> Given {
     }
 }
 
-/// Judges a trace with the report that is to be planned for it.
-pub fn judge_example(alloc: Global, trace: String, report: &str) -> Result<Tally, AllocError> {
+/// Judges a trace with a report that a check accepts, and that is planned for it where this is said.
+pub fn judge_example(
+    alloc: Global,
+    trace: String,
+    report: String,
+    is_planned: bool,
+) -> Result<Tally, AllocError> {
     let mut given = given_of(alloc, trace);
     let mut tally = Tally::new(alloc);
-    let body = report.trim_end_matches('\n');
-    runs::plan(alloc, &mut given, &mut tally, body)?;
+    if is_planned {
+        let body = report.as_str().trim_end_matches('\n');
+        runs::plan(alloc, &mut given, &mut tally, body)?;
+    } else {
+        given.report = report;
+        runs::accepted(alloc, &given, &mut tally)?;
+    }
     Ok(tally)
 }
 
