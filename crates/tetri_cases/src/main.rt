@@ -2,7 +2,8 @@
 //!
 //! A table is a text of sections. What stands before the first line that begins with `== ` is a comment; that line names the
 //! section's kind, and the lines below it are its text, blank lines at the end left out. The README lists the kinds. An argument
-//! that ends with `.jsonl` is a trace, whose report stands beside it.
+//! that ends with `.jsonl` is a trace, and the report beside it is the one that is planned for it. One that ends with `.report` is a
+//! report that a check accepts.
 #![tactic(auto)]
 
 mod certificates;
@@ -17,16 +18,29 @@ mod traces;
 
 use std::{env, fs, io};
 
+// The name of an example without its ending.
+fn example_of(name: &str) -> Option<&str> {
+    match name.strip_suffix(".jsonl") {
+        Some(example) => Some(example),
+        None => name.strip_suffix(".report"),
+    }
+}
+
 fn main(rt: HostRuntime) -> io::Result<()> {
     for name in env::args(&rt)?.skip(1) {
-        let text = fs::read_to_string(&rt, name.as_str())?;
-        let tally = match name.as_str().strip_suffix(".jsonl") {
+        let is_planned = name.as_str().ends_with(".jsonl");
+        let tally = match example_of(name.as_str()) {
             Some(example) => {
+                let trace = format!(in rt.alloc(); "{example}.jsonl")?;
                 let report = format!(in rt.alloc(); "{example}.report")?;
+                let trace = fs::read_to_string(&rt, trace.as_str())?;
                 let report = fs::read_to_string(&rt, report.as_str())?;
-                table::judge_example(rt.alloc(), text, report.as_str())?
+                table::judge_example(rt.alloc(), trace, report, is_planned)?
             }
-            None => table::judge(rt.alloc(), text.as_str())?,
+            None => {
+                let text = fs::read_to_string(&rt, name.as_str())?;
+                table::judge(rt.alloc(), text.as_str())?
+            }
         };
         print!(rt; "{}", tally.differences)?;
         println!(rt; "{name}: {} cases", tally.cases)?;

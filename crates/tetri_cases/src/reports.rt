@@ -84,14 +84,11 @@ pub fn lines(
     let Ok(trace) = answer(alloc, given.trace.as_bytes())? else {
         return tally.expect("a trace", "refused", "read");
     };
+    let (rows, last) = body.rsplit_once('\n').unwrap_or(("", body));
     let mut blocks = Blocks::new(alloc);
     let mut count = 0u64;
-    let mut last = "";
-    for row in body.lines() {
-        let Some((line, wanted)) = row.split_once(" => ") else {
-            last = row;
-            continue;
-        };
+    for row in rows.lines() {
+        let (line, wanted) = row.split_once(" => ").unwrap_or((row, ""));
         if count == 1000 || blocks.summary().is_some() {
             return tally.expect(row, "a summary", "none so far");
         }

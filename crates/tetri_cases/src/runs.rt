@@ -26,7 +26,7 @@ impl Service {
         Service {
             read_most: 64,
             write_most: 7,
-            room: 100_000,
+            room: 4_000_000,
             reads: Vec::new(alloc),
             writes: Vec::new(alloc),
         }
@@ -38,7 +38,7 @@ impl Service {
         match word {
             "piece" => self.read_most = size.max(1),
             "width" => self.write_most = size.max(1),
-            "room" => self.room = size.min(100_000),
+            "room" => self.room = size.min(4_000_000),
             "read" => self.reads.push(number)?,
             "write" => self.writes.push(number)?,
             _ => {}
@@ -120,13 +120,18 @@ pub fn plan(
     let wanted = format!(in alloc; "{body}\n")?;
     let found = answer(alloc, given, "plan trace")?;
     tally.expect(given.trace.as_str(), found.as_str(), wanted.as_str())?;
+    given.report = wanted;
+    accepted(alloc, given, tally)
+}
+
+/// The report is accepted, with each of its cycles.
+pub fn accepted(alloc: Global, given: &Given, tally: &mut Tally) -> Result<(), AllocError> {
     let mut cycles = 0usize;
-    for line in body.lines() {
+    for line in given.report.as_str().lines() {
         if line.starts_with("cycle ") {
             cycles = cycles.saturating_add(1);
         }
     }
-    given.report = wanted;
     let accepted = format!(in alloc; "accepted {cycles}")?;
     check(alloc, given, tally, accepted.as_str())
 }

@@ -1,7 +1,7 @@
 // The sections of a table.
-use tetri_tables::{Tally, expand_text};
 use crate::{certificates, contents, names, reports, runs, sets, texts, traces};
 use std::alloc::{AllocError, Global};
+use tetri_tables::{Tally, expand_text};
 
 /// What the sections before have given.
 #[derive(Drop)]
@@ -50,6 +50,10 @@ fn judge_section(
     let (word, more) = kind.split_once(": ").unwrap_or((kind, ""));
     match word {
         "plan" => runs::plan(alloc, given, tally, body),
+        "made plan" => {
+            let body = expand_text(alloc, body)?;
+            runs::plan(alloc, given, tally, body.as_str().trim_end_matches('\n'))
+        }
         "no plan" => runs::no_plan(alloc, given, tally, more),
         "check" => runs::check(alloc, given, tally, more),
         "forged" => runs::forged(alloc, given, tally, body),
@@ -90,12 +94,22 @@ fn given_of(alloc: Global, trace: String) -> Given {
     }
 }
 
-/// Judges a trace with the report that is to be planned for it.
-pub fn judge_example(alloc: Global, trace: String, report: &str) -> Result<Tally, AllocError> {
+/// Judges a trace with a report that a check accepts, and that is planned for it where this is said.
+pub fn judge_example(
+    alloc: Global,
+    trace: String,
+    report: String,
+    is_planned: bool,
+) -> Result<Tally, AllocError> {
     let mut given = given_of(alloc, trace);
     let mut tally = Tally::new(alloc);
-    let body = report.trim_end_matches('\n');
-    runs::plan(alloc, &mut given, &mut tally, body)?;
+    if is_planned {
+        let body = report.as_str().trim_end_matches('\n');
+        runs::plan(alloc, &mut given, &mut tally, body)?;
+    } else {
+        given.report = report;
+        runs::accepted(alloc, &given, &mut tally)?;
+    }
     Ok(tally)
 }
 

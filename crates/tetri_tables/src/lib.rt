@@ -2,11 +2,11 @@
 #![tactic(auto)]
 
 mod edits;
-mod expand;
-mod tally;
+mod escapes;
+mod tallies;
 mod trees;
 
 pub use edits::{edited, replaced};
-pub use expand::{expand, expand_text};
-pub use tally::{Tally, halves};
+pub use escapes::{expand, expand_text};
+pub use tallies::{Tally, halves};
 pub use trees::tell_expr;

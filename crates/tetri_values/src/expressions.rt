@@ -85,6 +85,18 @@ fn told(alloc: Global, e: &Expr, what: &str) -> Result<String, AllocError>
     }
 }
 
+fn expect_rows(alloc: Global, tally: &mut Tally, e: &Expr, body: &str) -> Result<(), AllocError>
+    requires { IsWellMade (tree e.now) }
+{
+    thrifty_grants_start_together(e);
+    for row in body.lines() {
+        let (what, wanted) = halves(row);
+        let found = told(alloc, e, what)?;
+        tally.expect(row, found.as_str(), wanted)?;
+    }
+    Ok(())
+}
+
 /// Rows of an expression over the nodes of the trace, whose grants are those of job 1: `worth GRANTS`, `top FROM TO`,
 /// `aligned`, `copy`, `left FROM TO` with what is left of it in these slots, `waste GRANTS` with the place of the first grant
 /// that earns nothing, `trim GRANTS` and `idle GRANTS`.
@@ -99,14 +111,8 @@ pub fn expression(
         return tally.expect("a trace", "refused", "read");
     };
     let mut sets = Sets::new(alloc);
-    let Ok(e) = read_expr(alloc, text.as_bytes(), 1, 0, &trace.cluster, &mut sets) else {
-        return tally.expect(text, "refused", "read");
-    };
-    thrifty_grants_start_together(&e);
-    for row in body.lines() {
-        let (what, wanted) = halves(row);
-        let found = told(alloc, &e, what)?;
-        tally.expect(row, found.as_str(), wanted)?;
+    match read_expr(alloc, text.as_bytes(), 1, 0, &trace.cluster, &mut sets) {
+        Ok(e) => expect_rows(alloc, tally, &e, body),
+        Err(_) => tally.expect(text, "refused", "read"),
     }
-    Ok(())
 }

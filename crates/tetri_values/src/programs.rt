@@ -1,7 +1,5 @@
 // Programs of instances: what they say, their points, their trees and their dual runs.
-ghost use Rattle.std.specs.Prelude.{◌×◌, ◌≤◌};
 ghost use Rattle.tetri_ip.specs.Points.{IsFit};
-ghost use Rattle.tetri_space.specs.Partitions.{ArePartitionsOf, parts_of};
 ghost use Rattle.tetri_space.specs.Sound.{IsSound};
 ghost use Rattle.tetri_space.specs.Space.{space};
 
@@ -12,6 +10,7 @@ use tetri_base::Items;
 use tetri_cert::{Mark, Walk, bound, objective_at, read_mark};
 use tetri_compile::{Compiled, compile, counts_of, size};
 use tetri_ip::{Program, Region, Weight, holds_point};
+use tetri_num::{Frac, Past};
 use tetri_simplex::{Outcome, dual_run};
 use tetri_space::{Instance, Partitions, find_partitions};
 
@@ -50,6 +49,28 @@ pub fn outcome_told(alloc: Global, outcome: Outcome) -> Result<String, AllocErro
         Outcome::Long => out.push_str("long")?,
     }
     Ok(out)
+}
+
+// What a point earns, where no number leaves the range.
+fn earned(p: &Program, point: &[Frac]) -> Result<Frac, Past> {
+    let mut sum = Frac::whole(0);
+    for (cost, x) in p.costs.iter().zip(point) {
+        if -i128::MAX <= *cost {
+            sum = sum.add(Frac::whole(*cost).mul(*x)?)?;
+        }
+    }
+    Ok(sum)
+}
+
+// What the best point of a dual run earns.
+fn best_told(alloc: Global, p: &Program, outcome: Outcome) -> Result<String, AllocError> {
+    let Outcome::Best { point, .. } = outcome else {
+        return outcome_told(alloc, outcome);
+    };
+    match earned(p, &point) {
+        Ok(worth) => format!(in alloc; "best {}/{}", worth.num, worth.den),
+        Err(_) => String::from_str(alloc, "past"),
+    }
 }
 
 fn row_told(alloc: Global, p: &Program, row: usize) -> Result<String, AllocError> {
@@ -160,12 +181,18 @@ fn of_program(alloc: Global, c: &Compiled, word: &str, rest: &str) -> Result<Str
             let best = rest.parse::<u64>().unwrap_or(0);
             outcome_told(alloc, dual_run(alloc, &c.program, &whole, best)?)
         }
+        "relaxed" => {
+            let whole = Region::whole(alloc, &c.program)?;
+            let outcome = dual_run(alloc, &c.program, &whole, 0)?;
+            best_told(alloc, &c.program, outcome)
+        }
         _ => String::from_str(alloc, "no such word"),
     }
 }
 
 /// What is told of the program of an instance: its numbers, a `row NUMBER`, its count columns, the `bound MARKS` with `|`
-/// between the marks' lines, the `dual BEST` run, or a `point VALUES`; or that it is too large.
+/// between the marks' lines, the `dual BEST` run, what the best point of a dual run earns (`relaxed`), or a `point VALUES`; or
+/// that it is too large.
 pub fn told(alloc: Global, inst: &Instance, word: &str, rest: &str) -> Result<String, AllocError>
     requires { IsSound (space inst.now) }
 {
