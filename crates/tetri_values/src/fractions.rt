@@ -1,9 +1,13 @@
 // Fractions, divisors and multiples.
+ghost use Rattle.tetri_num.specs.Range.{IsWithin};
+
 use std::alloc::{AllocError, Global};
 use tetri_num::{Frac, Past, gcd, lcm};
 use tetri_tables::{Tally, halves};
 
-fn number(text: &str) -> i128 {
+fn number(text: &str) -> i128
+    ensures { IsWithin result }
+{
     text.parse::<i128>().unwrap_or(0).max(-i128::MAX)
 }
 

@@ -49,18 +49,8 @@ fn available_told(
     format!(in alloc; "{}", available(inst, &parts, part, slot))
 }
 
-fn within_told(alloc: Global, inst: &Instance, part: u32, set: u32) -> Result<String, AllocError>
-    requires { IsSound (space inst.now) }
-{
-    let parts = find_partitions(alloc, inst)?;
-    if inst.sets.len() <= set {
-        return String::from_str(alloc, "no such set");
-    }
-    format!(in alloc; "{} {:?}", parts.in_set(part, set), parts.parts_in(set))
-}
-
 /// What is told of an instance: `free NODE SLOT`, `tops`, `total GRANTS`, `lawful GRANTS`, `partitions` with how many jobs have
-/// live leaves, `available PARTITION SLOT`, `within PARTITION SET`, or of its program.
+/// live leaves, `available PARTITION SLOT`, or of its program.
 pub fn told(alloc: Global, inst: &Instance, word: &str, rest: &str) -> Result<String, AllocError>
     requires { IsSound (space inst.now) }
 {
@@ -84,7 +74,6 @@ pub fn told(alloc: Global, inst: &Instance, word: &str, rest: &str) -> Result<St
             groups_told(alloc, &parts)
         }
         "available" => available_told(alloc, inst, first, second),
-        "within" => within_told(alloc, inst, first, second),
         _ => programs::told(alloc, inst, word, rest),
     }
 }
