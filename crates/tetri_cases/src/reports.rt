@@ -51,6 +51,7 @@ fn cycle_told(alloc: Global, cycle: &Cycle) -> Result<String, AllocError> {
     let mut out = format!(in alloc; "cycle {}", cycle.number)?;
     add_pieces(&mut out, "end", &cycle.happened.ended)?;
     add_jobs(&mut out, "cancel", &cycle.happened.cancelled)?;
+    add_jobs(&mut out, "fail", &cycle.happened.failed)?;
     add_pieces(&mut out, "over", &cycle.happened.over)?;
     add_jobs(&mut out, "expire", &cycle.happened.expired)?;
     let (value, bound, mark, nodes) = (cycle.value, cycle.bound, cycle.mark, cycle.nodes);

@@ -59,6 +59,7 @@ fn happened_told(alloc: Global, happened: &Happened) -> Result<String, AllocErro
     let mut out = String::new(alloc);
     pieces_told(&mut out, "end", &happened.ended)?;
     jobs_told(&mut out, "cancel", &happened.cancelled)?;
+    jobs_told(&mut out, "fail", &happened.failed)?;
     pieces_told(&mut out, "over", &happened.over)?;
     jobs_told(&mut out, "expire", &happened.expired)?;
     Ok(out)
