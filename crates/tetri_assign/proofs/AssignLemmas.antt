@@ -5,10 +5,10 @@ use Rattle.std.specs.List.{list_all, range_with_len}
 use Rattle.tetri_strl.specs.Tree.{leaves}
 use Rattle.tetri_strl.specs.WellMade.{IsSound}
 use Rattle.tetri_strl.proofs.PartsApart.{AreApart}
-use Rattle.tetri_space.specs.Lists.{sum_of, has, Each, EachPair, Ascends}
+use Rattle.tetri_base.specs.Lists.{sum_of, has, Each, EachPair, Ascends}
 use Rattle.tetri_space.specs.Partitions.{part_at, set_at, asked, live_bids, partitions}
 use Rattle.tetri_space.specs.Space.{Bid, Space, leaf_in}
-use Rattle.tetri_space.proofs.ListLemmas.{Each-map, Each-all, Each-append, Each-across, EachPair-append, range-ascends, filter-ascends, EachPair-filter}
+use Rattle.tetri_base.proofs.ListLaws.{Each-map, Each-all, Each-append, Each-across, EachPair-append, range-ascends, filter-ascends, EachPair-filter}
 use Rattle.tetri_compile.specs.declared.outline.Tally.{Tally}
 use Rattle.tetri_compile.specs.Draft.{bid_tallies, draft}
 use Rattle.tetri_compile.specs.Walk.{width}

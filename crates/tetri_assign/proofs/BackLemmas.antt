@@ -5,11 +5,11 @@ use Rattle.std.proofs.lemmas.Bool.{and_parts, cases_eq}
 use Rattle.std.proofs.lemmas.Bool.Decides.{nat_tests}
 use Rattle.std.proofs.lemmas.List.{get_or-set_same, get_or-set_other, length-set}
 use Rattle.std.proofs.lemmas.List.FromFn.{get_or-map-range_with_len}
-use Rattle.tetri_space.specs.Lists.{sum_of, has, Each, EachPair}
+use Rattle.tetri_base.specs.Lists.{sum_of, has, Each, EachPair}
 use Rattle.tetri_space.specs.Partitions.{is_free, part_at}
 use Rattle.tetri_space.specs.Space.{Space}
 use Rattle.tetri_space.proofs.GroupLemmas.{filter-same}
-use Rattle.tetri_space.proofs.ListLemmas.{Each-map, has-filter, sum_of-append, test_from_eq, test_from_ne}
+use Rattle.tetri_base.proofs.ListLaws.{Each-map, has-filter, sum_of-append, test_from_eq, test_from_ne}
 use Rattle.tetri_compile.specs.declared.outline.Tally.{Tally}
 use Rattle.tetri_compile.specs.Sizes.{covers}
 use Rattle.tetri_assign.specs.Assigned.{Piece, is_taken, spare, piece, pieces, held, all_held}

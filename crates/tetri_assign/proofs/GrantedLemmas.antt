@@ -8,10 +8,10 @@ use Rattle.tetri_strl.specs.Tree.{Tree, one, join, scale, barrier, Trees, none, 
 use Rattle.tetri_strl.specs.WellMade.{IsSound}
 use Rattle.tetri_strl.specs.Worth.{granted, worth_at, leaf_worth}
 use Rattle.tetri_strl.proofs.PartsApart.{AreApart}
-use Rattle.tetri_space.specs.Lists.{sum_of, bit, has, Each, EachPair}
+use Rattle.tetri_base.specs.Lists.{sum_of, bit, has, Each, EachPair}
 use Rattle.tetri_space.specs.Partitions.{part_at}
 use Rattle.tetri_space.specs.Space.{Bid, Space}
-use Rattle.tetri_space.proofs.ListLemmas.{eq_from_test, test_from_eq, test_from_ne, sum_of-eq, sum_of-zero, sum_of-one, sum_of-append, Each-map, Each-all, Each-append, Each-both, Each-at, Each-from}
+use Rattle.tetri_base.proofs.ListLaws.{eq_from_test, test_from_eq, test_from_ne, sum_of-eq, sum_of-zero, sum_of-one, sum_of-append, Each-map, Each-all, Each-append, Each-both, Each-at, Each-from}
 use Rattle.tetri_compile.specs.declared.outline.Tally.{Tally}
 use Rattle.tetri_compile.specs.Draft.{tallies, bid_uppers, objective, bid_rows, bid_tallies}
 use Rattle.tetri_compile.specs.Forms.{at_point, run, AreMet, Within}
@@ -19,7 +19,7 @@ use Rattle.tetri_compile.specs.Walk.{own_uppers, uppers, width, form, rows}
 use Rattle.tetri_compile.proofs.FormLemmas.{at_point-append, Within-split, AreMet-split}
 use Rattle.tetri_compile.proofs.TallyLemmas.{IsOf, tallies_leaf}
 use Rattle.tetri_assign.specs.Assigned.{Piece, piece, pieces, all_held, held_before, gathered}
-use Rattle.tetri_assign.specs.Order.{in_order}
+use Rattle.tetri_base.specs.Order.{in_order}
 use Rattle.tetri_assign.proofs.Counted.{AtLeaves, AtLeavesOf, IsCounted}
 use Rattle.tetri_assign.proofs.FormBelow.{form_le}
 use Rattle.tetri_assign.proofs.LeafSums.{EachLeaf-at, AtLeaves-map, tree_sum, number_sum, few}

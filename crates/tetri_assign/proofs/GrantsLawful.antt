@@ -8,10 +8,10 @@ use Rattle.tetri_strl.specs.declared.expr.Leaf.{Leaf}
 use Rattle.tetri_strl.specs.declared.grants.Grant.{Grant}
 use Rattle.tetri_strl.specs.Tree.{leaves}
 use Rattle.tetri_strl.specs.Worth.{granted}
-use Rattle.tetri_space.specs.Lists.{has, Each, EachPair, Ascends}
+use Rattle.tetri_base.specs.Lists.{has, Each, EachPair, Ascends}
 use Rattle.tetri_space.specs.Partitions.{part_at, set_at, is_free}
 use Rattle.tetri_space.specs.Space.{Bid, Space, leaf_in, Covers, set_of}
-use Rattle.tetri_space.proofs.ListLemmas.{eq_from_test, test_from_eq, Each-map, Each-append, Each-passed, Each-both, Each-at, Each-from, Each-across, EachPair-append, EachPair-with, from_all}
+use Rattle.tetri_base.proofs.ListLaws.{eq_from_test, test_from_eq, Each-map, Each-append, Each-passed, Each-both, Each-at, Each-from, Each-across, EachPair-append, EachPair-with, from_all}
 use Rattle.tetri_compile.specs.declared.outline.Tally.{Tally}
 use Rattle.std.proofs.lemmas.Option.{same_Some}
 use Rattle.tetri_compile.specs.Sizes.{covers}

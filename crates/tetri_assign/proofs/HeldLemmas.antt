@@ -5,14 +5,14 @@ use Rattle.std.proofs.lemmas.Bool.{cond_both, and_parts}
 use Rattle.std.proofs.lemmas.Bool.Decides.{nat_tests}
 use Rattle.tetri_strl.specs.declared.grants.Grant.{Grant}
 use Rattle.tetri_strl.specs.Worth.{granted}
-use Rattle.tetri_space.specs.Lists.{sum_of, Each, EachPair, Ascends}
-use Rattle.tetri_space.proofs.ListLemmas.{eq_from_test, sum_of-eq, sum_of-zero, sum_of-one, sum_of-map, sum_of-append, Each-map, Each-all, Each-both, Each-at, Each-from}
+use Rattle.tetri_base.specs.Lists.{sum_of, Each, EachPair, Ascends}
+use Rattle.tetri_base.proofs.ListLaws.{eq_from_test, sum_of-eq, sum_of-zero, sum_of-one, sum_of-map, sum_of-append, Each-map, Each-all, Each-both, Each-at, Each-from}
 use Rattle.tetri_compile.specs.Allotted.{suits}
 use Rattle.tetri_compile.proofs.FairLemmas.{granted_total}
 use Rattle.tetri_assign.specs.Assigned.{Piece, held, all_held, held_before, give, gathered, grant}
-use Rattle.tetri_assign.specs.Order.{in_order}
+use Rattle.tetri_base.specs.Order.{in_order}
 use Rattle.tetri_assign.specs.declared.held.Held.{Held}
-use Rattle.tetri_assign.proofs.Sorting.{NotAfter, IsOrder, sum_of-in_order, Each-in_order, EachPair-in_order, in_order-rises}
+use Rattle.tetri_base.proofs.OrderLaws.{NotAfter, IsOrder, sum_of-in_order, Each-in_order, EachPair-in_order, in_order-rises}
 
 -- the leaf got the node
 abbrev pub goes_to : ℕ → ℕ → Held → Bool

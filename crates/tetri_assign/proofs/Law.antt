@@ -18,7 +18,7 @@ use Rattle.tetri_space.specs.Sound.{IsSound}
 use Rattle.tetri_space.specs.Space.{Bid, Space, leaf_in}
 use Rattle.tetri_space.specs.Total.{total_in}
 use Rattle.tetri_space.proofs.LeafLemmas.{leaf_in-found}
-use Rattle.tetri_space.proofs.ListLemmas.{Each-at}
+use Rattle.tetri_base.proofs.ListLaws.{Each-at}
 use Rattle.tetri_space.proofs.PrunedLemmas.{IsLeafOf, AllLeavesOf, lefts_good, lefts_jobs, lefts_leaves}
 use Rattle.tetri_compile.specs.Draft.{draft}
 use Rattle.tetri_compile.specs.Flat.{FlatProgram, FlatRow, coefficient, plain, program_of}

@@ -6,8 +6,8 @@ use Rattle.tetri_strl.specs.declared.expr.Leaf.{Leaf}
 use Rattle.tetri_strl.specs.Aligned.{EachLeaf, EachLeafOf}
 use Rattle.tetri_strl.specs.Tree.{greatest, least, added, Tree, one, join, scale, barrier, Trees, none, more, leaves, leaves_of, numbers, numbers_of}
 use Rattle.tetri_strl.proofs.PartsApart.{AreApart, AreApartOf}
-use Rattle.tetri_space.specs.Lists.{sum_of, Each}
-use Rattle.tetri_space.proofs.ListLemmas.{test_from_eq, test_from_ne, sum_of-eq, sum_of-zero, sum_of-append, Each-map}
+use Rattle.tetri_base.specs.Lists.{sum_of, Each}
+use Rattle.tetri_base.proofs.ListLaws.{test_from_eq, test_from_ne, sum_of-eq, sum_of-zero, sum_of-append, Each-map}
 use Rattle.tetri_compile.specs.declared.outline.Tally.{Tally}
 use Rattle.tetri_compile.specs.Draft.{leaf_tallies, tallies, tallies_of}
 use Rattle.tetri_compile.specs.Forms.{share, at_point, run, limit, AreMet, Within}

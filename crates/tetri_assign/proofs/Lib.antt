@@ -12,9 +12,7 @@ pub mod LawfulFacts
 pub mod LeafSums
 pub mod MarkLemmas
 pub mod Meeting
-pub mod Orders
 pub mod Pieces
-pub mod Sorting
 pub mod StepLemmas
 pub mod Turns
 pub mod Wanting

@@ -7,10 +7,10 @@ use Rattle.std.proofs.lemmas.Bool.{and_from, cases_eq, cases_lt}
 use Rattle.std.proofs.lemmas.Bool.Decides.{nat_tests}
 use Rattle.std.proofs.lemmas.List.{take-append-drop, take_more, get_or-set_same, get_or-set_other, get_or-replicate, length-replicate, length-set, take_all, get_or-drop, get_or_default}
 use Rattle.std.proofs.lemmas.List.Elements.{filter-append, All-filter, All-take, All-drop, All-contains}
-use Rattle.tetri_space.specs.Lists.{has, Each}
+use Rattle.tetri_base.specs.Lists.{has, Each}
 use Rattle.tetri_space.specs.Partitions.{alike, asked, leads, live_bids, nodes_of, part_at, partitions}
 use Rattle.tetri_space.specs.Space.{Space}
-use Rattle.tetri_space.proofs.ListLemmas.{Each-map, Each-append, Each-both, Each-from, Each-get, Each-filter, has-filter, range_from}
+use Rattle.tetri_base.proofs.ListLaws.{Each-map, Each-append, Each-both, Each-from, Each-get, Each-filter, has-filter, range_from}
 use Rattle.tetri_assign.specs.Taking.{AreMarks, IsMark, held_by, hold, may_use, ready, taken_from}
 use Rattle.tetri_assign.specs.declared.held.Held.{Held}
 use Rattle.tetri_assign.specs.declared.backs.Mark.{Mark}

@@ -6,10 +6,10 @@ use Rattle.std.proofs.lemmas.Bool.{and_parts, and_from, or_cases, or_right, fals
 use Rattle.std.proofs.lemmas.Bool.Decides.{nat_tests}
 use Rattle.std.proofs.lemmas.List.{length-take-le}
 use Rattle.tetri_strl.specs.declared.expr.Leaf.{Leaf}
-use Rattle.tetri_space.specs.Lists.{sum_of, bit, count, has, Each, EachPair, Ascends}
+use Rattle.tetri_base.specs.Lists.{sum_of, bit, count, has, Each, EachPair, Ascends}
 use Rattle.tetri_space.specs.Partitions.{part_at, is_free, available}
 use Rattle.tetri_space.specs.Space.{Space}
-use Rattle.tetri_space.proofs.ListLemmas.{test_from_eq, bit-le, bit_or-le, common-le, sum_of-le, sum_of-eq, sum_of-plus, sum_of-zero, sum_of-swap, Each-map, Each-all, Each-both, Each-at, Each-from, any_from, has-filter, filter-ascends}
+use Rattle.tetri_base.proofs.ListLaws.{test_from_eq, bit-le, bit_or-le, common-le, sum_of-le, sum_of-eq, sum_of-plus, sum_of-zero, sum_of-swap, Each-map, Each-all, Each-both, Each-at, Each-from, any_from, has-filter, filter-ascends}
 use Rattle.tetri_compile.specs.declared.outline.Tally.{Tally}
 use Rattle.tetri_compile.specs.Draft.{is_held}
 use Rattle.tetri_compile.proofs.FairLemmas.{lt_from_test, le_from_test}

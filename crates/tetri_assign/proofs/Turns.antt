@@ -4,18 +4,18 @@ use Rattle.std.specs.Prelude.{nat_lt}
 use Rattle.std.specs.List.{list_any, filter}
 use Rattle.std.proofs.lemmas.Bool.{cases_order, cases_lt, and_parts, and_from}
 use Rattle.std.proofs.lemmas.Bool.Decides.{nat_tests}
-use Rattle.tetri_space.specs.Lists.{sum_of, has, Each, EachPair, Ascends}
+use Rattle.tetri_base.specs.Lists.{sum_of, has, Each, EachPair, Ascends}
 use Rattle.tetri_space.specs.Partitions.{alike, leads, groups, part_at, nodes_of}
 use Rattle.tetri_space.specs.Space.{Space}
-use Rattle.tetri_space.proofs.ListLemmas.{sum_of-filter, Each-all, Each-filter, Each-passed, Each-both, Each-get, EachPair-with, any_from, has-filter, range_contains, range_from, range-ascends, filter-ascends}
+use Rattle.tetri_base.proofs.ListLaws.{sum_of-filter, Each-all, Each-filter, Each-passed, Each-both, Each-get, EachPair-with, any_from, has-filter, range_contains, range_from, range-ascends, filter-ascends}
 use Rattle.tetri_compile.specs.declared.outline.Tally.{Tally}
 use Rattle.tetri_compile.specs.Draft.{is_held, tally_form, supply_row, part_supply, supply}
 use Rattle.tetri_compile.specs.Forms.{at_point, AreMet}
 use Rattle.tetri_compile.proofs.FormLemmas.{AreMet-split}
 use Rattle.tetri_space.proofs.PartitionLemmas.{alike_trans, alike_sym}
 use Rattle.tetri_assign.specs.Assigned.{turn_before}
-use Rattle.tetri_assign.specs.Order.{in_order}
-use Rattle.tetri_assign.proofs.Sorting.{NotAfter, IsOrder, in_order-rises}
+use Rattle.tetri_base.specs.Order.{in_order}
+use Rattle.tetri_base.proofs.OrderLaws.{NotAfter, IsOrder, in_order-rises}
 
 -- ---- partitions
 module _ {X : Type 0} (R : X → X → Type 0) where

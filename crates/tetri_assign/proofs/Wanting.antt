@@ -6,21 +6,21 @@ use Rattle.std.specs.Option.{option_map}
 use Rattle.std.specs.Ordering.{is_lt, nat_cmp, ordering_then}
 use Rattle.std.proofs.lemmas.Bool.Decides.{nat_tests}
 use lib.IntN.{ℤ}
-use Rattle.tetri_space.specs.Lists.{sum_of, Each, EachPair}
+use Rattle.tetri_base.specs.Lists.{sum_of, Each, EachPair}
 use Rattle.tetri_space.specs.Space.{Bid, leaf_in}
-use Rattle.tetri_space.proofs.ListLemmas.{sum_of-map}
+use Rattle.tetri_base.proofs.ListLaws.{sum_of-map}
 use Rattle.tetri_compile.specs.declared.outline.Tally.{Tally}
 use Rattle.tetri_compile.specs.declared.taking.Taken.{Taken}
 use Rattle.tetri_compile.specs.Counting.{taken, taken_at}
 use Rattle.tetri_compile.specs.Flat.{count_of}
 use Rattle.tetri_assign.specs.Assigned.{count_at, held_before, turn_before}
-use Rattle.tetri_assign.specs.Order.{in_order}
+use Rattle.tetri_base.specs.Order.{in_order}
 use Rattle.tetri_assign.specs.Taking.{want, want_of, wants_from}
 use Rattle.tetri_assign.specs.declared.held.Held.{Held}
 use Rattle.tetri_assign.specs.declared.wants.Want.{Want}
 use Rattle.tetri_assign.proofs.HeldLemmas.{held_order, same_held}
-use Rattle.tetri_assign.proofs.Orders.{by_then, order_then, order_by, tied_first, tied_last, tied_rest, test_then, test_last}
-use Rattle.tetri_assign.proofs.Sorting.{NotAfter, IsOrder, sum_of-in_order, EachPair-in_order, in_order-rises, sorted_is}
+use Rattle.tetri_base.proofs.KeyOrderLaws.{by_then, order_then, order_by, tied_first, tied_last, tied_rest, test_then, test_last}
+use Rattle.tetri_base.proofs.OrderLaws.{NotAfter, IsOrder, sum_of-in_order, EachPair-in_order, in_order-rises, sorted_is}
 use Rattle.tetri_assign.proofs.Turns.{turn_order}
 
 -- ---- what counts above 0 want

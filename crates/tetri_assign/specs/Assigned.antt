@@ -4,14 +4,14 @@ use Rattle.std.specs.List.{list_any, filter}
 use lib.IntN.{ℤ}
 use Rattle.tetri_strl.specs.declared.grants.Grant.{Grant}
 use Rattle.tetri_ip.specs.Points.{number_at}
-use Rattle.tetri_space.specs.Lists.{has}
+use Rattle.tetri_base.specs.Lists.{has}
 use Rattle.tetri_space.specs.Partitions.{is_free, part_at, partitions}
 use Rattle.tetri_space.specs.Space.{Space}
 use Rattle.tetri_compile.specs.declared.outline.Tally.{Tally}
 use Rattle.tetri_compile.specs.Draft.{draft}
 use Rattle.tetri_compile.specs.Sizes.{covers}
 use Rattle.tetri_assign.specs.declared.held.Held.{Held}
-use Rattle.tetri_assign.specs.Order.{in_order}
+use Rattle.tetri_base.specs.Order.{in_order}
 
 -- what a count took
 pub record Piece : Type 0 where

@@ -3,7 +3,7 @@ use Rattle.std.specs.Prelude.{◌≡◌, ℕ, Bool, ◌&&◌, ◌==◌, if◌the
 use lib.IntN.{ℤ}
 use Rattle.tetri_strl.specs.declared.grants.Grant.{Grant}
 use Rattle.tetri_strl.specs.Worth.{granted}
-use Rattle.tetri_space.specs.Lists.{sum_of}
+use Rattle.tetri_base.specs.Lists.{sum_of}
 use Rattle.tetri_space.specs.Partitions.{part_at, partitions}
 use Rattle.tetri_space.specs.Space.{Space}
 use Rattle.tetri_compile.specs.declared.outline.Tally.{Tally}

@@ -1,5 +1,4 @@
 pub mod Assigned
 pub mod Gathering
 pub mod Granting
-pub mod Order
 pub mod Taking

@@ -8,7 +8,7 @@ use Rattle.std.proofs.lemmas.List.Elements.{All-cons, All-append}
 use Rattle.std.proofs.lemmas.List.Splits.{slice_split_none, slice_split_at, join_with_byte-slice_split}
 use Rattle.tetri_io.specs.Words.{parts_at}
 use Rattle.tetri_io.proofs.NumberLemmas.{Avoids}
-use Rattle.tetri_cert.specs.Numbers.{◌>>=◌}
+use Rattle.tetri_base.specs.OptionSteps.{◌>>=◌}
 use Rattle.tetri_cert.specs.Lists.{list_text, Ascend, entries_from, list_in}
 use Rattle.tetri_cert.proofs.NumbersBack.{same_bytes, bind_some, cond_else, other}
 

@@ -22,7 +22,8 @@ use Rattle.tetri_num.specs.Range.{IsWithin, is_within}
 use Rattle.tetri_num.specs.declared.fractions.Frac.{Frac}
 use Rattle.tetri_num.proofs.Fracs.{same_frac}
 use Rattle.tetri_cert.specs.NumbersLowest.{is_lowest}
-use Rattle.tetri_cert.specs.Numbers.{◌>>=◌, small_number, negative_number, whole_number, frac_text, frac_by_test, frac_of, frac_of_parts, frac_in}
+use Rattle.tetri_cert.specs.Numbers.{small_number, negative_number, whole_number, frac_text, frac_by_test, frac_of, frac_of_parts, frac_in}
+use Rattle.tetri_base.specs.OptionSteps.{◌>>=◌}
 
 -- ---- optional values
 pub bind_some : {A B : Type 0} (o : Option A) (f : A → Option B) (y : B) → (o >>= f) ≡ Some y → (x : A) × (o ≡ Some x) × (f x ≡ Some y)

@@ -14,7 +14,8 @@ use Rattle.tetri_io.proofs.NumberLemmas.{Avoids, numeral, number_below-only}
 use Rattle.tetri_io.proofs.TextLemmas.{parts_of_joined}
 use Rattle.tetri_ip.specs.declared.programs.Weight.{Weight}
 use Rattle.tetri_num.specs.declared.fractions.Frac.{Frac}
-use Rattle.tetri_cert.specs.Numbers.{◌>>=◌, small_number, whole_number, frac_in, frac_text}
+use Rattle.tetri_cert.specs.Numbers.{small_number, whole_number, frac_in, frac_text}
+use Rattle.tetri_base.specs.OptionSteps.{◌>>=◌}
 use Rattle.tetri_cert.specs.Pairs.{pair_text, IsPair, pair_of_parts, pair_in, weight_text, IsPlainWeight, weight_in, cell_text, IsPlainCell, cell_in, frac_cell_text, IsPlainFracCell, frac_cell_of_parts, frac_cell_in}
 use Rattle.tetri_cert.specs.declared.marks.Cell.{Cell}
 use Rattle.tetri_cert.specs.declared.marks.FracCell.{FracCell}

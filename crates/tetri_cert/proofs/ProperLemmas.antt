@@ -23,7 +23,8 @@ use Rattle.tetri_cert.specs.declared.faults.TreeWhy.TheVariants as why
 use Rattle.tetri_cert.specs.Cells.{AreOfColumns, are_of_columns, is_point, is_same, is_whole_point, point_of}
 use Rattle.tetri_cert.specs.declared.marks.Mark.{Mark}
 use Rattle.tetri_cert.specs.declared.marks.Mark.TheVariants.{Split, Close, Whole, Rest}
-use Rattle.tetri_cert.specs.NodeBounds.{◌>>=◌, capped, high_side, is_negative, is_unknown_row, low_side, node_bound, quotient_at, refuse, sides_before, weights_bound, where_weighed}
+use Rattle.tetri_cert.specs.NodeBounds.{capped, high_side, is_negative, is_unknown_row, low_side, node_bound, quotient_at, refuse, sides_before, weights_bound, where_weighed}
+use Rattle.tetri_base.specs.ResultSteps.{◌>>=◌}
 use Rattle.tetri_cert.specs.ProperTrees.{AreProper, BoundsProperTrees, IsEnd, IsProper, IsWorth, Tree, end_bound, ends, floor_of, greatest, preorder, splits}
 use Rattle.tetri_cert.specs.Trees.{fills, if_fills, tree_bound, tree_from}
 use Rattle.tetri_cert.proofs.Covers.{bind_ok, length_sides, not_false, not_negative, refused, same_ok, shape_ok, weighed_is}

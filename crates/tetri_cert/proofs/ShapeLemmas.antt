@@ -19,7 +19,8 @@ use Rattle.tetri_cert.specs.declared.faults.TreeWhy.TheVariants as why
 use Rattle.tetri_cert.specs.Cells.{is_whole_point}
 use Rattle.tetri_cert.specs.declared.marks.Mark.{Mark}
 use Rattle.tetri_cert.specs.declared.marks.Mark.TheVariants.{Split, Close, Whole, Rest}
-use Rattle.tetri_cert.specs.NodeBounds.{◌>>=◌, capped, is_negative, is_unknown_row, node_bound, quotient_at, refuse, sides_before, split_bound, weights_bound, where_weighed}
+use Rattle.tetri_cert.specs.NodeBounds.{capped, is_negative, is_unknown_row, node_bound, quotient_at, refuse, sides_before, split_bound, weights_bound, where_weighed}
+use Rattle.tetri_base.specs.ResultSteps.{◌>>=◌}
 use Rattle.tetri_cert.specs.ProperTrees.{IsLeaf, IsShaped, ShapeIsOfTrees, Tree, ends, preorder, splits}
 use Rattle.tetri_cert.specs.Trees.{fills, if_fills, places_behind, tree_bound, tree_from}
 use Rattle.tetri_cert.proofs.ProperLemmas.{append_nil, preorders}

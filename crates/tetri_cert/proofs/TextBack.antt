@@ -22,7 +22,8 @@ use Rattle.tetri_cert.specs.declared.marks.Mark.{Mark}
 use Rattle.tetri_cert.specs.declared.marks.Mark.TheVariants.{Split, Close, Whole, Rest}
 use Rattle.tetri_cert.specs.declared.marks.Licence.{Licence}
 use Rattle.tetri_cert.specs.declared.marks.Licence.TheVariants as licences
-use Rattle.tetri_cert.specs.Numbers.{◌>>=◌, small_number, whole_number}
+use Rattle.tetri_cert.specs.Numbers.{small_number, whole_number}
+use Rattle.tetri_base.specs.OptionSteps.{◌>>=◌}
 use Rattle.tetri_cert.specs.Lists.{list_text}
 use Rattle.tetri_cert.specs.Pairs.{weight_key, weight_text, weight_in, IsPlainWeight, cell_key, cell_text, cell_in, IsPlainCell, frac_cell_key, frac_cell_text, frac_cell_in, IsPlainFracCell}
 use Rattle.tetri_cert.specs.NodeText.{kind_text, licence_text, node_text, ArePlainWeights, IsPlainPoint, IsPlainLicence, IsPlain, weights_in, cells_in, frac_cells_in, kind_in, point_in, past_in, long_in, licence_by_tag, split_in, close_in, whole_in, rest_in, node_by_tag, node_of_words, node_in, ReadsBack, ReadsNoOther}

@@ -1,7 +1,7 @@
 -- Comma lists, in ascending order of a key.
 use Rattle.std.specs.Prelude.{ℕ, ◌+◌, ◌≤◌, List, [], ◌∷◌, ◌++◌, flat_map, nat_lt, Option, Some, None, if◌then◌else◌, bytes_eq, codes}
 use Rattle.tetri_io.specs.Words.{parts_at}
-use Rattle.tetri_cert.specs.Numbers.{◌>>=◌}
+use Rattle.tetri_base.specs.OptionSteps.{◌>>=◌}
 
 -- a dash, or the entries with commas between
 abbrev pub list_text : {E : Type 0} → (E → List ℕ) → List E → List ℕ

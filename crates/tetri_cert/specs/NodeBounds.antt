@@ -16,11 +16,7 @@ use Rattle.tetri_cert.specs.declared.faults.TreeFault.TheVariants.{Bad, Past}
 use Rattle.tetri_cert.specs.Cells.{is_whole_point}
 use Rattle.tetri_cert.specs.declared.marks.Mark.{Mark}
 use Rattle.tetri_cert.specs.declared.marks.Mark.TheVariants.{Split, Close, Whole, Rest}
-
-infixl 10 ◌>>=◌
-abbrev pub ◌>>=◌ : {A B : Type 0} → Result A TreeFault → (A → Result B TreeFault) → Result B TreeFault
-(Ok x) >>= f = f x
-(Err e) >>= f = Err e
+use Rattle.tetri_base.specs.ResultSteps.{◌>>=◌}
 
 -- the fault where the test is true, else the answer
 abbrev pub refuse : Bool → TreeFault → Result ℕ TreeFault → Result ℕ TreeFault

@@ -13,7 +13,8 @@ use Rattle.tetri_cert.specs.declared.marks.Mark.{Mark}
 use Rattle.tetri_cert.specs.declared.marks.Mark.TheVariants.{Split, Close, Whole, Rest}
 use Rattle.tetri_cert.specs.declared.marks.Licence.{Licence}
 use Rattle.tetri_cert.specs.declared.marks.Licence.TheVariants as licences
-use Rattle.tetri_cert.specs.Numbers.{◌>>=◌, small_number, whole_number}
+use Rattle.tetri_cert.specs.Numbers.{small_number, whole_number}
+use Rattle.tetri_base.specs.OptionSteps.{◌>>=◌}
 use Rattle.tetri_cert.specs.Lists.{list_text, list_in, Ascend}
 use Rattle.tetri_cert.specs.Pairs.{weight_key, weight_text, weight_in, IsPlainWeight, cell_key, cell_text, cell_in, IsPlainCell, frac_cell_key, frac_cell_text, frac_cell_in, IsPlainFracCell}
 

@@ -7,10 +7,7 @@ use Rattle.tetri_io.specs.Numbers.{number_below}
 use Rattle.tetri_io.specs.Words.{parts_at}
 use Rattle.tetri_num.specs.declared.fractions.Frac.{Frac}
 use Rattle.tetri_cert.specs.NumbersLowest.{is_lowest, lowest_from}
-
-infixl 10 ◌>>=◌
-abbrev pub ◌>>=◌ : {A B : Type 0} → Option A → (A → Option B) → Option B
-o >>= f = option_and_then f o
+use Rattle.tetri_base.specs.OptionSteps.{◌>>=◌}
 
 -- the number of a row, a column or a step
 abbrev pub small_number : List ℕ → Option ℕ

@@ -5,7 +5,8 @@ use lib.IntN.{ℤ, pos}
 use Rattle.tetri_io.specs.Words.{parts_at}
 use Rattle.tetri_ip.specs.declared.programs.Weight.{Weight}
 use Rattle.tetri_num.specs.Range.{IsWithin}
-use Rattle.tetri_cert.specs.Numbers.{◌>>=◌, small_number, whole_number, frac_in, frac_text}
+use Rattle.tetri_cert.specs.Numbers.{small_number, whole_number, frac_in, frac_text}
+use Rattle.tetri_base.specs.OptionSteps.{◌>>=◌}
 use Rattle.tetri_cert.specs.declared.marks.Cell.{Cell}
 use Rattle.tetri_cert.specs.declared.marks.FracCell.{FracCell}
 

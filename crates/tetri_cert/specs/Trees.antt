@@ -8,7 +8,8 @@ use Rattle.tetri_cert.specs.declared.faults.TreeFault.{TreeFault}
 use Rattle.tetri_cert.specs.declared.faults.TreeFault.TheVariants.{Bad, Past, NoMemory}
 use Rattle.tetri_cert.specs.declared.marks.Mark.{Mark}
 use Rattle.tetri_cert.specs.declared.marks.Mark.TheVariants.{Split, Close, Whole, Rest}
-use Rattle.tetri_cert.specs.NodeBounds.{◌>>=◌, node_bound, sides_before}
+use Rattle.tetri_cert.specs.NodeBounds.{node_bound, sides_before}
+use Rattle.tetri_base.specs.ResultSteps.{◌>>=◌}
 
 -- how many subtrees are still to come behind a node, where k others were to come
 abbrev pub places_behind : Mark → ℕ → ℕ

@@ -3,11 +3,11 @@ ghost use Rattle.std.specs.Prelude.{◌≡◌, ◌++◌, IfOk, OnOk, flat_map, s
 ghost use Rattle.tetri_cert.specs.NodeText.{node_line};
 ghost use Rattle.tetri_cert.specs.Text.{certificate_text};
 
-use crate::items::Items;
 use crate::marks::Mark;
 use crate::text::print_mark;
 use std::alloc::{AllocError, Global};
 use std::fmt::Write;
+use tetri_base::Items;
 
 /// Why no plan is worth more than the bound.
 #[derive(Drop)]

@@ -1,6 +1,7 @@
-use crate::{Certificate, Items, Mark, PlanMark, count_nodes, print, print_onto, read_mark};
+use crate::{Certificate, Mark, PlanMark, count_nodes, print, print_onto, read_mark};
 use std::alloc::{AllocError, Global};
 use std::test::Fail;
+use tetri_base::Items;
 
 #[test]
 fn marks_are_words(rt: HostRuntime) -> Result<(), Fail> {

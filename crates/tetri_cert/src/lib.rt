@@ -4,7 +4,6 @@
 
 mod certificate;
 mod faults;
-mod items;
 mod laws;
 mod lists;
 mod marks;
@@ -19,7 +18,6 @@ mod words;
 
 pub use certificate::{Certificate, print, print_onto};
 pub use faults::{TreeFault, TreeWhy};
-pub use items::Items;
 pub use laws::{
     faults_name_nodes, proper_trees_have_bounds, same_programs_answer_same, shape_is_of_trees,
     tree_bounds_points,

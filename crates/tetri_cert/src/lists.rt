@@ -17,11 +17,11 @@ ghost use Rattle.tetri_cert.specs.Pairs.{
 };
 ghost use Rattle.tetri_cert.specs.NodeText.{cells_in, frac_cells_in, weights_in};
 
-use crate::items::Items;
 use crate::words::{frac_in, small_number, whole_number};
 use crate::{Cell, FracCell};
 use std::alloc::{AllocError, Global};
 use std::fmt::Write;
+use tetri_base::Items;
 use tetri_io::parts_at;
 use tetri_ip::Weight;
 

@@ -1,5 +1,5 @@
 // The marks of a certificate tree.
-use crate::items::Items;
+use tetri_base::Items;
 use tetri_ip::Weight;
 use tetri_num::{Frac, Place};
 

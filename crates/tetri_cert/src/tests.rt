@@ -4,9 +4,10 @@ ghost use Rattle.tetri_ip.specs.declared.programs.Row.{Row};
 ghost use Rattle.tetri_ip.specs.declared.programs.Term.{Term};
 ghost use Rattle.tetri_ip.specs.Points.{IsFit};
 
-use crate::{Cell, Items, Licence, Mark, TreeFault, TreeWhy, Walk, bound};
+use crate::{Cell, Licence, Mark, TreeFault, TreeWhy, Walk, bound};
 use std::alloc::{AllocError, Global};
 use std::test::Fail;
+use tetri_base::Items;
 use tetri_ip::{Program, Row, Term, Weight};
 
 const NEGATIVE: TreeFault = TreeFault::Bad {

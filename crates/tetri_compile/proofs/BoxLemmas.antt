@@ -7,10 +7,10 @@ use Rattle.tetri_strl.specs.Tree.{Operator, greatest, least, added, Tree, one, j
 use Rattle.tetri_strl.specs.WellMade.{IsGoodLeaf}
 use Rattle.tetri_strl.specs.Worth.{worth_of, worth_by, worths_by}
 use Rattle.tetri_strl.proofs.WorthLemmas.{AreBelow, EachLeaf-from, EachLeaf-both, each_good}
-use Rattle.tetri_space.specs.Lists.{count, has, Each}
+use Rattle.tetri_base.specs.Lists.{count, has, Each}
 use Rattle.tetri_space.specs.Partitions.{part_at}
 use Rattle.tetri_space.specs.Space.{Bid, Space}
-use Rattle.tetri_space.proofs.ListLemmas.{sum_of-le, bit-le, Each-from, Each-all}
+use Rattle.tetri_base.proofs.ListLaws.{sum_of-le, bit-le, Each-from, Each-all}
 use Rattle.tetri_compile.specs.Allotted.{suits, granted_in, values_of_bids}
 use Rattle.tetri_compile.specs.declared.outline.Tally.{Tally}
 use Rattle.tetri_compile.specs.Draft.{bid_uppers}

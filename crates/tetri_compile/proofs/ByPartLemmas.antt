@@ -3,7 +3,7 @@ use Rattle.std.proofs.Common.{◌≡◌, ℕ, zero, suc, ◌+◌, ◌<◌, ◌==
 use Rattle.std.specs.List.{filter}
 use Rattle.std.proofs.lemmas.Bool.{cases_eq}
 use Rattle.std.proofs.lemmas.List.{append_assoc, length-map, get_or-map, get_or-set_same, get_or-set_other, map-set, drop_more}
-use Rattle.tetri_space.proofs.ListLemmas.{test_from_eq, test_from_ne}
+use Rattle.tetri_base.proofs.ListLaws.{test_from_eq, test_from_ne}
 use Rattle.tetri_compile.specs.declared.outline.Tally.{Tally}
 use Rattle.tetri_compile.specs.ByPart.{list_at}
 

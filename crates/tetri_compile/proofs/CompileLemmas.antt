@@ -5,11 +5,11 @@ use Rattle.std.proofs.lemmas.List.{append-nil}
 use lib.IntN.{pos}
 use Rattle.tetri_strl.specs.WellMade.{IsSound}
 use Rattle.tetri_strl.specs.Aligned.{EachLeaf}
-use Rattle.tetri_space.specs.Lists.{Each}
+use Rattle.tetri_base.specs.Lists.{Each}
 use Rattle.tetri_space.specs.Partitions.{ArePartitionsOf, Parts, live_bids, partitions}
 use Rattle.tetri_space.specs.Sound.{IsSound as IsSoundSpace}
 use Rattle.tetri_space.specs.Space.{Bid, Space}
-use Rattle.tetri_space.proofs.ListLemmas.{Each-append, Each-map}
+use Rattle.tetri_base.proofs.ListLaws.{Each-append, Each-map}
 use Rattle.tetri_compile.specs.declared.outline.Outline.{Outline}
 use Rattle.tetri_compile.specs.declared.outline.Tally.{Tally}
 use Rattle.tetri_compile.specs.Draft.{Draft, bid_rows, bid_tallies, bid_uppers, draft, objective, supply}

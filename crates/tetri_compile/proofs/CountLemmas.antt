@@ -10,9 +10,9 @@ use Rattle.tetri_ip.specs.Points.{number_at}
 use Rattle.tetri_strl.specs.declared.expr.Leaf.{Leaf}
 use Rattle.tetri_strl.specs.Tree.{Tree, one, join, scale, barrier, Trees, none, more}
 use Rattle.tetri_strl.specs.WellMade.{IsSound, AreSound}
-use Rattle.tetri_space.specs.Lists.{Each, EachPair, Ascends}
+use Rattle.tetri_base.specs.Lists.{Each, EachPair, Ascends}
 use Rattle.tetri_space.specs.Space.{Bid}
-use Rattle.tetri_space.proofs.ListLemmas.{Each-across, Each-append, Each-map, EachPair-append}
+use Rattle.tetri_base.proofs.ListLaws.{Each-across, Each-append, Each-map, EachPair-append}
 use Rattle.tetri_compile.specs.declared.compiling.Count.{Count}
 use Rattle.tetri_compile.specs.declared.outline.Tally.{Tally}
 use Rattle.tetri_compile.specs.Counting.{AreCountsOf}

@@ -14,10 +14,10 @@ use Rattle.tetri_strl.specs.Worth.{granted, worth_at, leaf_worth, worth_of}
 use Rattle.tetri_strl.proofs.PartsApart.{AreApart}
 use Rattle.tetri_strl.proofs.TrimThrift.{ungranted}
 use Rattle.tetri_strl.proofs.WorthLemmas.{EachLeaf-from, EachLeaf-both, each_good}
-use Rattle.tetri_space.specs.Lists.{sum_of, count, has, Each, EachPair, Ascends}
+use Rattle.tetri_base.specs.Lists.{sum_of, count, has, Each, EachPair, Ascends}
 use Rattle.tetri_space.specs.Partitions.{set_at, part_at, parts_in, is_free, available}
 use Rattle.tetri_space.specs.Space.{Bid, Space}
-use Rattle.tetri_space.proofs.ListLemmas.{eq_from_test, Each-at, Each-from, Each-map, Each-all, Each-append, Each-filter, Each-passed, Each-across, Each-both, EachPair-append, EachPair-filter, EachPair-with, sum_of-le, sum_of-filter-le, filter-ascends, range-ascends}
+use Rattle.tetri_base.proofs.ListLaws.{eq_from_test, Each-at, Each-from, Each-map, Each-all, Each-append, Each-filter, Each-passed, Each-across, Each-both, EachPair-append, EachPair-filter, EachPair-with, sum_of-le, sum_of-filter-le, filter-ascends, range-ascends}
 use Rattle.tetri_compile.specs.Allotted.{suits, granted_in, values_of_bids}
 use Rattle.tetri_compile.specs.declared.outline.Tally.{Tally}
 use Rattle.tetri_compile.specs.Draft.{is_held, tally_form, supply_row, objective, bid_rows, bid_tallies, part_supply, supply, draft_of}

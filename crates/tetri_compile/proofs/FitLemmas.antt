@@ -14,7 +14,7 @@ use Rattle.tetri_ip.specs.declared.programs.Row.{Row}
 use Rattle.tetri_ip.specs.declared.programs.Term.{Term}
 use Rattle.tetri_ip.specs.Points.{IsFit, IsFitRow, IsWithin, column_at, cost_reach, number_at, reach, right_of, size_at, term_at, terms_of}
 use Rattle.tetri_strl.specs.WellMade.{PEAK}
-use Rattle.tetri_space.specs.Lists.{Each}
+use Rattle.tetri_base.specs.Lists.{Each}
 use Rattle.tetri_compile.specs.Draft.{Draft}
 use Rattle.tetri_compile.specs.Flat.{FlatProgram, FlatRow, coefficient, flat, flat_row, plain, plain_row, terms_at}
 use Rattle.tetri_compile.specs.Forms.{Form, Limit}

@@ -12,8 +12,8 @@ use Rattle.tetri_algebra.specs.Sums.{dot}
 use Rattle.tetri_ip.specs.declared.programs.Row.{Row}
 use Rattle.tetri_ip.specs.Points.{number_at, left_side, MeetsRows}
 use Rattle.tetri_strl.proofs.WorthLemmas.{AreBelow}
-use Rattle.tetri_space.specs.Lists.{sum_of}
-use Rattle.tetri_space.proofs.ListLemmas.{test_from_eq, test_from_ne, eq_from_test, sum_of-plus, sum_of-eq, sum_of-zero, Each-all}
+use Rattle.tetri_base.specs.Lists.{sum_of}
+use Rattle.tetri_base.proofs.ListLaws.{test_from_eq, test_from_ne, eq_from_test, sum_of-plus, sum_of-eq, sum_of-zero, Each-all}
 use Rattle.tetri_compile.specs.Draft.{Draft}
 use Rattle.tetri_compile.specs.Flat.{FlatRow, plain_row, coefficient, terms_at, flat_row, flat}
 use Rattle.tetri_compile.specs.Forms.{Form, at_point, Limit, AreMet, Reads}

@@ -1,8 +1,8 @@
 -- Forms and rows at a point.
 use Rattle.std.proofs.Common.{◌≡◌, ℕ, ◌+◌, ◌*◌, List, [], ◌∷◌, ◌++◌, length, map, refl, sym, subst, arith}
 use Rattle.std.proofs.Math.Nat.{mul-zero}
-use Rattle.tetri_space.specs.Lists.{sum_of}
-use Rattle.tetri_space.proofs.ListLemmas.{sum_of-append}
+use Rattle.tetri_base.specs.Lists.{sum_of}
+use Rattle.tetri_base.proofs.ListLaws.{sum_of-append}
 use Rattle.tetri_compile.specs.Forms.{Form, at_point, times, run, Limit, AreMet, Reads, Within}
 
 module _ (x : ℕ → ℕ) where

@@ -9,10 +9,10 @@ use Rattle.tetri_strl.specs.Tree.{greatest, least, added, Tree, one, join, scale
 use Rattle.tetri_strl.specs.WellMade.{peak, peaks, IsSound, AreSound}
 use Rattle.tetri_strl.specs.Worth.{greatest_of, added_of}
 use Rattle.tetri_strl.proofs.WorthLemmas.{worth_le_peak}
-use Rattle.tetri_space.specs.Lists.{Each}
+use Rattle.tetri_base.specs.Lists.{Each}
 use Rattle.tetri_compile.specs.Forms.{share, Form, times, run}
 use Rattle.tetri_compile.specs.Walk.{ones, best, uppers, uppers_of, width, form, forms}
-use Rattle.tetri_space.proofs.ListLemmas.{Each-map, Each-append}
+use Rattle.tetri_base.proofs.ListLaws.{Each-map, Each-append}
 
 pub run_small : {X : Type 0} (b m n : ℕ) (xs : List X) → b ≤ m → Each (λ s. s.by ≤ m) (run b n xs)
 run_small b m n [] le = tt

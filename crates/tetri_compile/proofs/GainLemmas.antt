@@ -13,9 +13,9 @@ use Rattle.tetri_strl.specs.Tree.{greatest, least, added, Tree, one, join, scale
 use Rattle.tetri_strl.specs.WellMade.{peak, peaks, PEAK, IsSound, AreSound}
 use Rattle.tetri_strl.specs.Worth.{greatest_of, added_of}
 use Rattle.tetri_strl.proofs.WorthLemmas.{worth_le_peak}
-use Rattle.tetri_space.specs.Lists.{Each, sum_of}
+use Rattle.tetri_base.specs.Lists.{Each, sum_of}
 use Rattle.tetri_space.specs.Space.{Bid}
-use Rattle.tetri_space.proofs.ListLemmas.{Each-all, Each-append, Each-map, sum_of-le}
+use Rattle.tetri_base.proofs.ListLaws.{Each-all, Each-append, Each-map, sum_of-le}
 use Rattle.tetri_compile.specs.Draft.{Draft, bid_uppers, objective}
 use Rattle.tetri_compile.specs.Flat.{FlatProgram, coefficient, flat, plain}
 use Rattle.tetri_compile.specs.Forms.{Form, Reads, at_point, run, share, times}

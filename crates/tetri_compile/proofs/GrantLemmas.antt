@@ -5,8 +5,8 @@ use Rattle.std.proofs.lemmas.Bool.{and_parts, or_cases}
 use Rattle.tetri_strl.specs.declared.grants.Grant.{Grant}
 use Rattle.tetri_strl.specs.Worth.{granted}
 use Rattle.tetri_compile.specs.Allotted.{suits, granted_in}
-use Rattle.tetri_space.specs.Lists.{sum_of, bit, count, has, Each, EachPair, Ascends}
-use Rattle.tetri_space.proofs.ListLemmas.{common-le, sum_of-swap, sum_of-eq, sum_of-le, sum_of-plus, sum_of-zero, sum_of-one, Each-map, Each-all}
+use Rattle.tetri_base.specs.Lists.{sum_of, bit, count, has, Each, EachPair, Ascends}
+use Rattle.tetri_base.proofs.ListLaws.{common-le, sum_of-swap, sum_of-eq, sum_of-le, sum_of-plus, sum_of-zero, sum_of-one, Each-map, Each-all}
 
 -- ---- over partitions that cover
 module _ (job leaf : ℕ) (part : ℕ → List ℕ) (ps : List ℕ) where

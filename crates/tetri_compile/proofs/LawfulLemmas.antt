@@ -23,7 +23,7 @@ use Rattle.tetri_strl.proofs.WorthLemmas.{EachLeaf-from}
 use Rattle.tetri_space.specs.Free.{IsFree}
 use Rattle.tetri_space.specs.Lawful.{HasRightNodes, MayBeGranted, IsLawfulGrant, IsLawful}
 use Rattle.tetri_space.specs.Lawful.{AreApart as GrantsApart}
-use Rattle.tetri_space.specs.Lists.{has, Each, EachPair, Ascends}
+use Rattle.tetri_base.specs.Lists.{has, Each, EachPair, Ascends}
 use Rattle.tetri_space.specs.Partitions.{with_left, bids_left, live_bids, asked, partitions, set_at, is_free}
 use Rattle.tetri_space.specs.Sound.{IsSoundBid, IsSound}
 use Rattle.tetri_space.specs.Space.{Bid, Space, leaf_in, Covers}
@@ -31,7 +31,7 @@ use Rattle.tetri_space.specs.Total.{bid_worth, total_in}
 use Rattle.tetri_space.proofs.FreeLemmas.{free_decides}
 use Rattle.tetri_space.proofs.LawLemmas.{dead_granted}
 use Rattle.tetri_space.proofs.LeafLemmas.{find-by_key, leaf_in-found}
-use Rattle.tetri_space.proofs.ListLemmas.{eq_from_test, test_from_eq, Each-all, Each-at, Each-from, EachPair-from, EachPair-with, any_from, sum_of-filter-le}
+use Rattle.tetri_base.proofs.ListLaws.{eq_from_test, test_from_eq, Each-all, Each-at, Each-from, EachPair-from, EachPair-with, any_from, sum_of-filter-le}
 use Rattle.tetri_space.proofs.PartitionLemmas.{covered}
 use Rattle.tetri_space.proofs.PrunedLemmas.{IsLeftOf, each_left_of, OfLeft, AreFrom, IsGood, OtherJob, asked_has, left_leaves, lefts_good, lefts_jobs}
 use Rattle.tetri_compile.specs.Allotted.{suits, earning, trimmed_for}

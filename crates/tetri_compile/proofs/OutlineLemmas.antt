@@ -13,8 +13,8 @@ use Rattle.tetri_strl.proofs.WorthLemmas.{worth_by-le, EachLeaf-both}
 use Rattle.std.specs.List.{list_all, range_with_len}
 use Rattle.tetri_space.specs.Partitions.{parts_in, part_at, set_at}
 use Rattle.tetri_space.specs.Space.{Space}
-use Rattle.tetri_space.specs.Lists.{has}
-use Rattle.tetri_space.proofs.ListLemmas.{Each-get, Each-filter, range_from}
+use Rattle.tetri_base.specs.Lists.{has}
+use Rattle.tetri_base.proofs.ListLaws.{Each-get, Each-filter, range_from}
 use Rattle.tetri_compile.specs.declared.outline.Outline.{Outline}
 use Rattle.tetri_compile.specs.declared.outline.Inequality.{Inequality}
 use Rattle.tetri_compile.specs.declared.outline.Share.{Share}

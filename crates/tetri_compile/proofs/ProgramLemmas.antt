@@ -12,9 +12,9 @@ use mir.Val.{to_z, of_z}
 use Rattle.tetri_ip.specs.declared.programs.Row.{Row}
 use Rattle.tetri_ip.specs.declared.programs.Term.{Term}
 use Rattle.tetri_strl.specs.WellMade.{PEAK}
-use Rattle.tetri_space.specs.Lists.{Each}
+use Rattle.tetri_base.specs.Lists.{Each}
 use Rattle.std.proofs.lemmas.Bool.Decides.{nat_tests}
-use Rattle.tetri_space.proofs.ListLemmas.{eq_from_test, test_from_eq, test_from_ne}
+use Rattle.tetri_base.proofs.ListLaws.{eq_from_test, test_from_eq, test_from_ne}
 use Rattle.tetri_compile.specs.declared.outline.Inequality.{Inequality}
 use Rattle.tetri_compile.specs.declared.outline.Outline.{Outline}
 use Rattle.tetri_compile.specs.declared.outline.Share.{Share}

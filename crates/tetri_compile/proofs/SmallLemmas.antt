@@ -7,11 +7,11 @@ use Rattle.std.proofs.lemmas.List.FromFn.{length-range_with_len}
 use Rattle.tetri_strl.specs.declared.expr.Leaf.{Leaf}
 use Rattle.tetri_strl.specs.Tree.{greatest, least, added, Tree, one, join, scale, barrier, Trees, none, more}
 use Rattle.tetri_strl.specs.WellMade.{peak, PEAK, IsSound, AreSound}
-use Rattle.tetri_space.specs.Lists.{Each, count}
+use Rattle.tetri_base.specs.Lists.{Each, count}
 use Rattle.tetri_space.specs.Partitions.{alike, asked, available, is_free, leads, live_bids, part_at, partitions}
 use Rattle.tetri_space.specs.Sound.{IsSound as IsSoundSpace}
 use Rattle.tetri_space.specs.Space.{Bid, Space}
-use Rattle.tetri_space.proofs.ListLemmas.{Each-append, Each-filter, Each-map, bit-le}
+use Rattle.tetri_base.proofs.ListLaws.{Each-append, Each-filter, Each-map, bit-le}
 use Rattle.tetri_space.proofs.PartsLemmas.{filter_shorter}
 use Rattle.tetri_compile.specs.declared.outline.Tally.{Tally}
 use Rattle.tetri_compile.specs.Draft.{bid_rows, bid_tallies, bid_uppers, is_held, leaf_tallies, objective, part_supply, supply, supply_row, tallies, tallies_of, tally_form}

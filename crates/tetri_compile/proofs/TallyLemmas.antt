@@ -7,14 +7,14 @@ use Rattle.tetri_strl.specs.Tree.{numbers, numbers_of}
 use Rattle.tetri_strl.specs.Tree.{leaves, leaves_of}
 use Rattle.tetri_compile.specs.declared.outline.Tally.{Tally}
 use Rattle.tetri_compile.specs.Draft.{leaf_tallies, tallies, tallies_of}
-use Rattle.tetri_space.specs.Lists.{Each, EachPair, Ascends}
+use Rattle.tetri_base.specs.Lists.{Each, EachPair, Ascends}
 use Rattle.tetri_compile.specs.Marks.{own_values, values, values_of}
 use Rattle.tetri_compile.specs.Forms.{Reads}
 use Rattle.tetri_compile.specs.Walk.{own_uppers, width}
 use Rattle.tetri_strl.proofs.PartsApart.{AreApart, AreApartOf}
 use Rattle.tetri_compile.proofs.WalkLemmas.{length-own, length-values}
 use Rattle.tetri_compile.proofs.FormLemmas.{Reads-split}
-use Rattle.tetri_space.proofs.ListLemmas.{EachPair-append, Each-across, Each-from, Each-map, Each-append}
+use Rattle.tetri_base.proofs.ListLaws.{EachPair-append, Each-across, Each-from, Each-map, Each-append}
 
 -- a leaf's number is among the numbers
 mutual

@@ -16,11 +16,11 @@ use Rattle.tetri_strl.specs.Prune.{starts_in}
 use Rattle.tetri_strl.specs.WellMade.{IsSound, AreSound, IsGoodLeaf, HasChild, depth, depth_of, peak}
 use Rattle.tetri_strl.proofs.PartsApart.{the_one}
 use Rattle.tetri_strl.proofs.WorthLemmas.{EachLeaf-from, each_good}
-use Rattle.tetri_space.specs.Lists.{bit, count, has, sum_of, Each}
+use Rattle.tetri_base.specs.Lists.{bit, count, has, sum_of, Each}
 use Rattle.tetri_space.specs.Partitions.{Parts, ArePartitionsOf, parts_found, parts_in, partitions, live_bids, part_at, set_at, available, asked, alike, leads}
 use Rattle.tetri_space.specs.Sound.{IsSound as IsSoundSpace, IsSoundBid}
 use Rattle.tetri_space.specs.Space.{Bid, Space, IsLive}
-use Rattle.tetri_space.proofs.ListLemmas.{Each-get, Each-at, Each-from, Each-all, Each-filter, sum_of-eq, sum_of-swap, range_from}
+use Rattle.tetri_base.proofs.ListLaws.{Each-get, Each-at, Each-from, Each-all, Each-filter, sum_of-eq, sum_of-swap, range_from}
 use Rattle.tetri_space.proofs.PartsLemmas.{filter_shorter}
 use Rattle.tetri_space.proofs.PrunedLemmas.{AreFrom, left_leaves, OfLeft, IsLess, IsLeftOf, IsSmaller, each_left_of, left_smaller, left_sound, sets_in_has, bids_left-shorter}
 use Rattle.tetri_compile.specs.declared.outline.Tally.{Tally}

@@ -5,7 +5,7 @@ use lib.IntN.{ℤ}
 use Rattle.tetri_strl.specs.declared.grants.Grant.{Grant}
 use Rattle.tetri_strl.specs.Trim.{trimmed}
 use Rattle.tetri_strl.specs.Worth.{leaf_worth, worth_of}
-use Rattle.tetri_space.specs.Lists.{sum_of, count, has}
+use Rattle.tetri_base.specs.Lists.{sum_of, count, has}
 use Rattle.tetri_space.specs.Partitions.{live_bids, partitions, part_at, parts_in}
 use Rattle.tetri_space.specs.Space.{Bid, Space}
 use Rattle.tetri_compile.specs.Marks.{mark, values}

@@ -3,7 +3,7 @@ use Rattle.std.specs.Prelude.{ℕ, ◌<◌, ◌==◌, if◌then◌else◌, List,
 use lib.IntN.{ℤ}
 use Rattle.tetri_ip.specs.declared.programs.Program.{Program}
 use Rattle.tetri_ip.specs.Points.{number_at}
-use Rattle.tetri_space.specs.Lists.{Each, Ascends}
+use Rattle.tetri_base.specs.Lists.{Each, Ascends}
 use Rattle.tetri_compile.specs.declared.compiling.Count.{Count}
 use Rattle.tetri_compile.specs.declared.taking.Taken.{Taken}
 

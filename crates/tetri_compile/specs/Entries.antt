@@ -1,7 +1,7 @@
 -- The entries of a row: how many times its columns stand on its two sides.
 use Rattle.std.specs.Prelude.{◌≡◌, ℕ, ◌≤◌, ◌==◌, if◌then◌else◌, List, [], ◌∷◌, ◌-ℤ◌, pos}
 use Rattle.tetri_ip.specs.declared.programs.Term.{Term}
-use Rattle.tetri_space.specs.Lists.{EachPair, sum_of}
+use Rattle.tetri_base.specs.Lists.{EachPair, sum_of}
 use Rattle.tetri_compile.specs.declared.outline.Share.{Share}
 use Rattle.tetri_compile.specs.declared.terms.Entry.{Entry}
 use Rattle.tetri_compile.specs.Flat.{coefficient}

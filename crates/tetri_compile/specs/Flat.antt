@@ -5,7 +5,7 @@ use lib.IntN.{ℤ}
 use Rattle.tetri_ip.specs.declared.programs.Program.{Program}
 use Rattle.tetri_ip.specs.declared.programs.Row.{Row}
 use Rattle.tetri_ip.specs.declared.programs.Term.{Term}
-use Rattle.tetri_space.specs.Lists.{sum_of}
+use Rattle.tetri_base.specs.Lists.{sum_of}
 use Rattle.tetri_space.specs.Space.{Space}
 use Rattle.tetri_compile.specs.declared.compiling.Compiled.{Compiled}
 use Rattle.tetri_compile.specs.declared.compiling.Count.{Count}

@@ -1,6 +1,6 @@
 -- Forms and limits over the columns of a program, in natural numbers, and what they are at a point.
 use Rattle.std.specs.Prelude.{◌≡◌, ℕ, ◌+◌, ◌*◌, ◌≤◌, List, [], ◌∷◌}
-use Rattle.tetri_space.specs.Lists.{sum_of}
+use Rattle.tetri_base.specs.Lists.{sum_of}
 use Rattle.tetri_compile.specs.declared.outline.Inequality.{Inequality}
 use Rattle.tetri_compile.specs.declared.outline.Share.{Share}
 

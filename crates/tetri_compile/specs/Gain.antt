@@ -4,7 +4,7 @@ use Rattle.std.specs.List.{range_with_len}
 use lib.Signed.{lt_z}
 use Rattle.tetri_ip.specs.declared.programs.Program.{Program}
 use Rattle.tetri_ip.specs.Points.{number_at}
-use Rattle.tetri_space.specs.Lists.{sum_of}
+use Rattle.tetri_base.specs.Lists.{sum_of}
 
 -- a column's cost times its upper bound, where the cost is above 0
 abbrev pub gain_at : Program → ℕ → ℕ

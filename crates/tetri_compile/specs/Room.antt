@@ -2,7 +2,7 @@
 use Rattle.std.specs.Prelude.{◌≡◌, ℕ, ◌<◌, nat_le, length}
 use Rattle.std.specs.List.Sorted.{IsNonDecreasing}
 use Rattle.tetri_space.specs.Finding.{list_at}
-use Rattle.tetri_space.specs.Lists.{count}
+use Rattle.tetri_base.specs.Lists.{count}
 use Rattle.tetri_space.specs.Partitions.{available, partitions}
 use Rattle.tetri_space.specs.Space.{Space}
 use Rattle.tetri_compile.specs.declared.rooms.Rooms.{Rooms}

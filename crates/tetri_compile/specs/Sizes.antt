@@ -3,7 +3,7 @@ use Rattle.std.specs.Prelude.{ℕ, ◌+◌, ◌<◌, ◌≤◌, ◌^◌, All, le
 use Rattle.std.specs.List.{list_any}
 use Rattle.tetri_strl.specs.declared.expr.Leaf.{Leaf}
 use Rattle.tetri_strl.specs.Tree.{greatest, least, added, Tree, one, join, scale, barrier, Trees, none, more, leaves}
-use Rattle.tetri_space.specs.Lists.{has}
+use Rattle.tetri_base.specs.Lists.{has}
 use Rattle.tetri_space.specs.Partitions.{Parts, parts_found}
 use Rattle.tetri_space.specs.Space.{Bid}
 

@@ -1,7 +1,7 @@
 -- Forms and limits with few and small numbers.
 use Rattle.std.specs.Prelude.{ℕ, ◌<◌, ◌≤◌, length}
 use Rattle.tetri_strl.specs.WellMade.{PEAK}
-use Rattle.tetri_space.specs.Lists.{Each}
+use Rattle.tetri_base.specs.Lists.{Each}
 use Rattle.tetri_compile.specs.Forms.{Form, Limit}
 
 -- over n columns

@@ -5,7 +5,7 @@ ghost use Rattle.tetri_strl.specs.WellMade.{IsSound};
 ghost use Rattle.tetri_strl.specs.declared.grants.Grant.{Grant};
 ghost use Rattle.tetri_ip.specs.Points.{IsFit, IsPoint, box_of, objective as worth_at};
 ghost use Rattle.tetri_space.specs.Lawful.{IsLawful};
-ghost use Rattle.tetri_space.specs.Lists.{Each};
+ghost use Rattle.tetri_base.specs.Lists.{Each};
 ghost use Rattle.tetri_space.specs.Partitions.{ArePartitionsOf, parts_of};
 ghost use Rattle.tetri_space.specs.Sound.{IsSound as IsSoundSpace};
 ghost use Rattle.tetri_space.specs.Space.{space};

@@ -1,7 +1,7 @@
 // The program by columns.
 ghost use Rattle.std.specs.Prelude.{◌≡◌, ◌<◌, ◌≤◌, ◌+◌, ◌^◌, ℕ, length, map, pos, slice_index_or, IfOk};
 ghost use Rattle.std.specs.List.{range_with_len};
-ghost use Rattle.tetri_space.specs.Lists.{Each};
+ghost use Rattle.tetri_base.specs.Lists.{Each};
 ghost use Rattle.tetri_compile.specs.Flat.{coefficient, count_of, flat, flat_row, plain, plain_row};
 ghost use Rattle.tetri_compile.specs.Forms.{plain_limit};
 ghost use Rattle.tetri_compile.specs.Small.{IsSmallForm, IsSmallLimit};

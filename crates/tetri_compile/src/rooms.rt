@@ -1,7 +1,7 @@
 // How many nodes of a partition are free in a slot, without a scan of its nodes.
 ghost use Rattle.std.specs.Prelude.{◌≡◌, ◌<◌, ℕ, false, length, nat_le, IfNone, IfOk, IfSome};
 ghost use Rattle.std.specs.List.Sorted.{IsNonDecreasing};
-ghost use Rattle.tetri_space.specs.Lists.{count};
+ghost use Rattle.tetri_base.specs.Lists.{count};
 ghost use Rattle.tetri_space.specs.Partitions.{ArePartitionsOf, available, is_free, partitions, parts_of};
 ghost use Rattle.tetri_space.specs.Sound.{IsSound};
 ghost use Rattle.tetri_space.specs.Space.{space};

@@ -3,7 +3,7 @@ ghost use Rattle.std.specs.Prelude.{◌≡◌, ◌<◌, ◌≤◌, ◌+◌, ◌&
 ghost use Rattle.std.specs.List.{list_any, range_with_len};
 ghost use Rattle.tetri_strl.specs.Aligned.{EachLeaf};
 ghost use Rattle.tetri_strl.specs.Tree.{leaves, tree};
-ghost use Rattle.tetri_space.specs.Lists.{count, has, sum_of};
+ghost use Rattle.tetri_base.specs.Lists.{count, has, sum_of};
 ghost use Rattle.tetri_space.specs.Partitions.{ArePartitionsOf, parts_found, parts_of};
 ghost use Rattle.tetri_space.specs.Sound.{IsSound};
 ghost use Rattle.tetri_space.specs.Space.{space};

@@ -3,7 +3,7 @@ ghost use Rattle.std.specs.Prelude.{◌≡◌, ◌<◌, ◌≤◌, ◌+◌, ◌*
 ghost use Rattle.tetri_strl.specs.Aligned.{EachLeaf, EachLeafOf};
 ghost use Rattle.tetri_strl.specs.Tree.{tree, trees};
 ghost use Rattle.tetri_strl.specs.WellMade.{AreSound, IsGoodLeaf, IsSound};
-ghost use Rattle.tetri_space.specs.Lists.{Each};
+ghost use Rattle.tetri_base.specs.Lists.{Each};
 ghost use Rattle.tetri_space.specs.Partitions.{ArePartitionsOf, parts_found, parts_of};
 ghost use Rattle.tetri_space.specs.Sound.{IsSound as IsSoundSpace};
 ghost use Rattle.tetri_space.specs.Space.{space};

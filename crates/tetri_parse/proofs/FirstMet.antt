@@ -11,7 +11,7 @@ use Rattle.tetri_parse.specs.declared.fault.Fault.{Fault}
 use Rattle.tetri_parse.specs.declared.fault.Fault.TheVariants.{Uneven, Mixed, TooRich, TooDeep, TooManyLeaves, Trailing}
 use Rattle.tetri_parse.specs.declared.fault.Miss.{Miss}
 use Rattle.tetri_parse.specs.declared.syntax.LeafText.{LeafText}
-use Rattle.tetri_parse.specs.Answers.{◌>>=◌}
+use Rattle.tetri_base.specs.ResultSteps.{◌>>=◌}
 use Rattle.tetri_parse.specs.Faults.{fault_if, added_faults, set_faults, sets_with, sets_behind, starts_below, leaf_faults, sets_past, sets_past_all, all_faults, faults_of_all, IsFirstOf, MeetsFirst}
 use Rattle.tetri_parse.specs.Grammar.{Rest, leaf_at, part_with_number, goes_on_to_child, children_at, body_at, expr_at, whole_at}
 use Rattle.tetri_parse.specs.Phrase.{Phrase, Phrases, asked, joined, scaled, barred, nothing, followed, line_up, operator}

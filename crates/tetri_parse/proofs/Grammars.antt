@@ -6,7 +6,7 @@ use Rattle.tetri_parse.specs.declared.syntax.LeafText.{LeafText}
 use Rattle.tetri_parse.specs.declared.syntax.Syntax.{Syntax, Syntax-F, fold-roll-Syntax}
 use Rattle.tetri_parse.specs.declared.syntax.Syntax.TheVariants as variant
 use Rattle.tetri_parse.specs.declared.syntax.Syntax.TheVariants.{rolls-Leaf, rolls-Join, rolls-Scale, rolls-Barrier}
-use Rattle.tetri_parse.specs.Answers.{◌>>=◌}
+use Rattle.tetri_base.specs.ResultSteps.{◌>>=◌}
 use Rattle.tetri_parse.specs.Tokens.{skip_blanks, word_at}
 use Rattle.tetri_parse.specs.Grammar.{Rest, body_at, expr_at}
 use Rattle.tetri_parse.specs.Phrase.{Phrase, asked, joined, scaled, barred, line_up, operator, node_phrase, phrase, phrases}

@@ -5,7 +5,8 @@ use Rattle.tetri_parse.specs.declared.fault.Fault.TheVariants.{Ended}
 use Rattle.tetri_parse.specs.declared.fault.Miss.{Miss}
 use Rattle.tetri_parse.specs.declared.fault.Stop.{Stop}
 use Rattle.tetri_parse.specs.declared.fault.Stop.TheVariants as stops
-use Rattle.tetri_parse.specs.Answers.{◌>>=◌, Stops}
+use Rattle.tetri_parse.specs.Answers.{Stops}
+use Rattle.tetri_base.specs.ResultSteps.{◌>>=◌}
 use Rattle.tetri_parse.specs.Rows.{row_at}
 
 -- what is made of the items before, and of those that are still read

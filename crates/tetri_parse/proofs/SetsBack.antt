@@ -13,7 +13,7 @@ use Rattle.tetri_cluster.specs.Names.{differ, is_among, is_name, number_of}
 use Rattle.tetri_cluster.specs.Cluster.{names_of, name_at}
 use Rattle.tetri_cluster.proofs.NamesBack.{number_back}
 use Rattle.tetri_parse.specs.declared.token.Class.TheVariants.{Named}
-use Rattle.tetri_parse.specs.Answers.{◌>>=◌}
+use Rattle.tetri_base.specs.ResultSteps.{◌>>=◌}
 use Rattle.tetri_parse.specs.Printing.{after_comma, with_commas, is_every, set_text, HasNames}
 use Rattle.tetri_parse.specs.Rows.{row_at}
 use Rattle.tetri_parse.specs.SetText.{Part, every, listed, part_at, listed_first, numbers_of, narrowed, set_at, IsNodeSet}

@@ -12,7 +12,7 @@ use Rattle.tetri_strl.specs.Tree.{Operator, greatest, least, added, Tree, one, j
 use Rattle.tetri_strl.specs.WellMade.{peak, peaks, peak_joined, HasChild, IsSound, AreSound, depth, depth_of}
 use Rattle.tetri_parse.specs.declared.fault.Fault.TheVariants.{Mixed, Uneven}
 use Rattle.tetri_parse.specs.declared.syntax.LeafText.{LeafText}
-use Rattle.tetri_parse.specs.Answers.{◌>>=◌}
+use Rattle.tetri_base.specs.ResultSteps.{◌>>=◌}
 use Rattle.tetri_parse.specs.Phrase.{Phrase, Phrases, asked, joined, scaled, barred, nothing, followed}
 use Rattle.tetri_parse.specs.TextTree.{AreWithin, IsTextTree}
 use Rattle.tetri_parse.specs.Settling.{first_start_of, wanted_below, is_mixed, settled_set, unless_rich, made_of, peak_of, peaks_of, leaf_with, settled_value, settled_leaf, settled, settled_all}

@@ -5,7 +5,7 @@ use Rattle.tetri_strl.specs.WellMade.{PEAK}
 use Rattle.tetri_cluster.specs.Sets.{set_added}
 use Rattle.tetri_parse.specs.declared.fault.Fault.TheVariants.{TooRich}
 use Rattle.tetri_parse.specs.declared.fault.Miss.{Miss}
-use Rattle.tetri_parse.specs.Answers.{◌>>=◌}
+use Rattle.tetri_base.specs.ResultSteps.{◌>>=◌}
 use Rattle.tetri_parse.specs.Settling.{unless_rich, made_of, settled_set, set_in}
 
 pub both : {A B : Type 0} (r : Result A Miss) (f : A → Result B Miss) (y : B) → (r >>= f) ≡ Ok y → (x : A) × (r ≡ Ok x) × (f x ≡ Ok y)

@@ -16,7 +16,7 @@ use Rattle.tetri_cluster.specs.Names.{differ}
 use Rattle.tetri_cluster.specs.Sets.{AreSets}
 use Rattle.tetri_parse.specs.declared.fault.Fault.TheVariants.{TooRich}
 use Rattle.tetri_parse.specs.declared.fault.Miss.{Miss}
-use Rattle.tetri_parse.specs.Answers.{◌>>=◌}
+use Rattle.tetri_base.specs.ResultSteps.{◌>>=◌}
 use Rattle.tetri_parse.specs.Expression.{expression, expression_left}
 use Rattle.tetri_parse.specs.Grammar.{part_with_number, goes_on_to_child, children_at, body_at, expr_at, whole_at}
 use Rattle.tetri_parse.specs.Phrase.{Phrase, asked, joined, scaled, barred, line_up}

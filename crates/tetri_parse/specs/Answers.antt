@@ -7,11 +7,6 @@ use Rattle.tetri_parse.specs.declared.fault.Stop.TheVariants as stops
 use Rattle.tetri_parse.specs.declared.fault.ParseFault.{ParseFault}
 use Rattle.tetri_parse.specs.declared.fault.ParseFault.TheVariants as faults
 
-infixl 10 ◌>>=◌
-abbrev pub ◌>>=◌ : {A B E : Type 0} → Result A E → (A → Result B E) → Result B E
-(Ok x) >>= f = f x
-(Err e) >>= f = Err e
-
 -- where reading stopped it was missed, unless memory ran out
 abbrev pub Stops : {Y : Type 0} → Stop → Result Y Miss → Type 0
 Stops (stops.Missed miss) reading = reading ≡ Err miss

@@ -5,7 +5,7 @@ use Rattle.tetri_cluster.specs.declared.cluster.NodeText.{NodeText}
 use Rattle.tetri_parse.specs.declared.fault.Fault.{Fault}
 use Rattle.tetri_parse.specs.declared.fault.Fault.TheVariants.{Trailing}
 use Rattle.tetri_parse.specs.declared.fault.Miss.{Miss}
-use Rattle.tetri_parse.specs.Answers.{◌>>=◌}
+use Rattle.tetri_base.specs.ResultSteps.{◌>>=◌}
 use Rattle.tetri_parse.specs.Tokens.{skip_blanks, missed}
 use Rattle.tetri_parse.specs.SetText.{set_at}
 use Rattle.tetri_parse.specs.Grammar.{whole_at}

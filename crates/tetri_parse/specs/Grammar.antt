@@ -7,7 +7,7 @@ use Rattle.tetri_parse.specs.declared.fault.Miss.{Miss}
 use Rattle.tetri_parse.specs.declared.syntax.LeafText.{LeafText}
 use Rattle.tetri_parse.specs.declared.token.Word.{Word}
 use Rattle.tetri_parse.specs.declared.token.Word.TheVariants as word
-use Rattle.tetri_parse.specs.Answers.{◌>>=◌}
+use Rattle.tetri_base.specs.ResultSteps.{◌>>=◌}
 use Rattle.tetri_parse.specs.Rows.{row_at}
 use Rattle.tetri_parse.specs.SetText.{set_at}
 use Rattle.tetri_parse.specs.Phrase.{Phrase, asked, joined, scaled, barred, line_up, operator}

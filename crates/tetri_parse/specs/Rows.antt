@@ -1,6 +1,6 @@
 -- Items one after the other.
 use Rattle.std.specs.Prelude.{ℕ, zero, suc, Bool, if◌then◌else◌, List, [], ◌∷◌, Result, Ok, Err}
-use Rattle.tetri_parse.specs.Answers.{◌>>=◌}
+use Rattle.tetri_base.specs.ResultSteps.{◌>>=◌}
 use Rattle.tetri_parse.specs.declared.fault.Fault.TheVariants.{Ended}
 use Rattle.tetri_parse.specs.declared.fault.Miss.{Miss}
 

@@ -8,7 +8,7 @@ use Rattle.tetri_cluster.specs.Cluster.{names_of, tags_at, knows_tag}
 use Rattle.tetri_parse.specs.declared.fault.Miss.{Miss}
 use Rattle.tetri_parse.specs.declared.set_text.Part as code
 use Rattle.tetri_parse.specs.declared.set_text.Part.TheVariants as parts
-use Rattle.tetri_parse.specs.Answers.{◌>>=◌}
+use Rattle.tetri_base.specs.ResultSteps.{◌>>=◌}
 use Rattle.tetri_parse.specs.Rows.{row_at}
 use Rattle.tetri_parse.specs.Tokens.{skip_blanks, missing, name_at, goes_on_at}
 

@@ -6,7 +6,8 @@ use Rattle.tetri_trace.specs.Scenario.{Scenario}
 use Rattle.tetri_trace.specs.Sound.{IsSound}
 use Rattle.tetri_report.specs.Block.{Block}
 use Rattle.tetri_report.specs.Line.{line_in}
-use Rattle.tetri_report.specs.Reading.{Reading, ◌>>=◌, answer_to, behind_line, block_before, ends_block, fitting, is_certified, line_answer, may_follow, onto_blocks, reading_behind, report_from, stage_behind, unless_refused, with_line, with_read}
+use Rattle.tetri_report.specs.Reading.{Reading, answer_to, behind_line, block_before, ends_block, fitting, is_certified, line_answer, may_follow, onto_blocks, reading_behind, report_from, stage_behind, unless_refused, with_line, with_read}
+use Rattle.tetri_base.specs.ResultSteps.{◌>>=◌}
 use Rattle.tetri_report.specs.declared.cycle.Summary.{Summary}
 use Rattle.tetri_report.specs.declared.line.ReportLine.{ReportLine}
 use Rattle.tetri_report.specs.declared.line.Stage.{Stage}

@@ -13,10 +13,7 @@ use Rattle.tetri_report.specs.declared.line.Kind.{Kind}
 use Rattle.tetri_report.specs.declared.line.Kind.TheVariants as kinds
 use Rattle.tetri_report.specs.declared.line.ReportLine.{ReportLine}
 use Rattle.tetri_report.specs.declared.line.ReportLine.TheVariants as lines
-
-infixl 10 ◌>>=◌
-abbrev pub ◌>>=◌ : {A B : Type 0} → Option A → (A → Option B) → Option B
-o >>= f = option_and_then f o
+use Rattle.tetri_base.specs.OptionSteps.{◌>>=◌}
 
 -- numbers of jobs, leaves, slots and cycles; worths and counts; the worth of a whole run
 abbrev pub small_number : List ℕ → Option ℕ

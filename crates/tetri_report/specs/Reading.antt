@@ -14,6 +14,7 @@ use Rattle.tetri_report.specs.declared.line.ReportLine.{ReportLine}
 use Rattle.tetri_report.specs.declared.line.ReportLine.TheVariants as lines
 use Rattle.tetri_report.specs.declared.line.Stage.{Stage}
 use Rattle.tetri_report.specs.declared.line.Stage.TheVariants as stages
+use Rattle.tetri_base.specs.ResultSteps.{◌>>=◌}
 
 -- the block that has no lines but its first one
 abbrev pub block_of : ℕ → Block
@@ -185,11 +186,6 @@ end_answer r = unless_refused r.fault (λ n. Err n) (ok_or r.summary (r.lines + 
 abbrev pub onto_blocks : Option Block → List Block → List Block
 onto_blocks None bs = bs
 onto_blocks (Some b) bs = b ∷ bs
-
-infixl 10 ◌>>=◌
-abbrev pub ◌>>=◌ : {A B E : Type 0} → Result A E → (A → Result B E) → Result B E
-(Ok x) >>= f = f x
-(Err e) >>= f = Err e
 
 -- the blocks and the summary that further lines make
 abbrev pub report_from : Scenario → Reading → List (List ℕ) → Result (List Block × Summary) ℕ

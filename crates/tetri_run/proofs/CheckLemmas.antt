@@ -11,7 +11,8 @@ use Rattle.tetri_report.specs.Block.{Block}
 use Rattle.tetri_report.specs.BlockLines.{block_lines}
 use Rattle.tetri_report.specs.PlanOf.{planned}
 use Rattle.tetri_report.specs.Line.{line_in}
-use Rattle.tetri_report.specs.Reading.{Reading, ◌>>=◌, answer_to, behind_line, block_before, end_answer, ends_block, fitting, is_between, is_certified, line_answer, may_follow, onto_blocks, opened, reading_behind, report_from, stage_behind, unless_refused, with_read}
+use Rattle.tetri_report.specs.Reading.{Reading, answer_to, behind_line, block_before, end_answer, ends_block, fitting, is_between, is_certified, line_answer, may_follow, onto_blocks, opened, reading_behind, report_from, stage_behind, unless_refused, with_read}
+use Rattle.tetri_base.specs.ResultSteps.{◌>>=◌}
 use Rattle.tetri_report.specs.Reading as reading
 use Rattle.tetri_report.specs.declared.cycle.Summary.{Summary}
 use Rattle.tetri_report.specs.declared.line.ReportLine.{ReportLine}

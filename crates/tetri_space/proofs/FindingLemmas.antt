@@ -18,14 +18,14 @@ use Rattle.tetri_strl.specs.Prune.{pruned}
 use Rattle.tetri_strl.specs.Aligned.{EachLeaf}
 use Rattle.tetri_strl.proofs.WorthLemmas.{EachLeaf-from}
 use Rattle.tetri_space.specs.Finding.{has_some, firsts, grouped, list_at}
-use Rattle.tetri_space.specs.Lists.{has, Each}
+use Rattle.tetri_base.specs.Lists.{has, Each}
 use Rattle.tetri_space.specs.Partitions.{with_left, bids_left, sets_in}
 use Rattle.tetri_space.specs.Space.{bid}
 use Rattle.tetri_space.specs.declared.instance.Offer.{Offer}
 use Rattle.tetri_space.proofs.BidLemmas.{next_bid}
 use Rattle.tetri_space.proofs.GroupLemmas.{range_next, group_empty, group_joined, group_new}
 use Rattle.tetri_space.proofs.PrunedLemmas.{sets_in_has}
-use Rattle.tetri_space.proofs.ListLemmas.{any_from, Each-at, Each-from, EachPair-from, none_from, Each-map, test_from_ne}
+use Rattle.tetri_base.proofs.ListLaws.{any_from, Each-at, Each-from, EachPair-from, none_from, Each-map, test_from_ne}
 
 -- ---- a number put last in one of several lists
 put_at : (vs : List (Vec ℕ Global)) (i j x : ℕ) (old new : Vec ℕ Global) → i < length vs → old ≡ get_or vs i old → new.items ≡ old.items ++ x ∷ [] →
@@ -65,7 +65,7 @@ put_next vs ps k j x old new rising lt within is grown =
     ∙ ap (λ ys. list_at vs j ++ cond (has ys j) (x ∷ []) []) (sym (drop_more ps k 0 lt))
   where
     eq_of : (m n : ℕ) → (m == n) ≡ true → m ≡ n
-    eq_of = Rattle.tetri_space.proofs.ListLemmas.eq_from_test
+    eq_of = Rattle.tetri_base.proofs.ListLaws.eq_from_test
 
     once : (b c : Bool) → (b ≡ true → c ≡ false) → cond b (x ∷ []) [] ++ cond c (x ∷ []) [] ≡ cond (b || c) (x ∷ []) []
     once true true h = absurd (true≢false (h refl))

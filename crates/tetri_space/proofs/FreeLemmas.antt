@@ -6,7 +6,7 @@ use Rattle.std.proofs.lemmas.Bool.{and_parts, and_from}
 use Rattle.std.proofs.lemmas.Bool.Decides.{nat_tests}
 use Rattle.std.proofs.lemmas.List.{drop_more}
 use Rattle.tetri_space.specs.Free.{IsFree}
-use Rattle.tetri_space.specs.Lists.{bit, count}
+use Rattle.tetri_base.specs.Lists.{bit, count}
 use Rattle.tetri_space.specs.Partitions.{is_free}
 use Rattle.tetri_space.specs.Space.{Space}
 

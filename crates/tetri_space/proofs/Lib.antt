@@ -7,7 +7,6 @@ pub mod JobLemmas
 pub mod LawLemmas
 pub mod LawfulLemmas
 pub mod LeafLemmas
-pub mod ListLemmas
 pub mod NodeLemmas
 pub mod PartitionLemmas
 pub mod PartsLemmas

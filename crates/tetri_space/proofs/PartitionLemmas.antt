@@ -4,10 +4,10 @@ use Rattle.std.specs.Prelude.{nat_lt}
 use Rattle.std.specs.List.{list_any, list_all, filter, range_with_len}
 use Rattle.std.proofs.lemmas.Bool.{cases_Bool, cases_lt, cases_order, and_parts, and_from, false_from_ne_true}
 use Rattle.std.proofs.lemmas.Bool.Decides.{nat_tests}
-use Rattle.tetri_space.specs.Lists.{bit, count, has, same, Each}
+use Rattle.tetri_base.specs.Lists.{bit, count, has, same, Each}
 use Rattle.tetri_space.specs.Partitions.{alike, leads, groups, set_at, nodes_of, part_at, parts_in}
 use Rattle.tetri_space.specs.Space.{Space}
-use Rattle.tetri_space.proofs.ListLemmas.{Each-map, Each-passed, Each-all, Each-at, all_from, from_all, any_from, none_from, has-filter, has-range, range_contains, sum_of-eq, sum_of-filter, sum_of-map, sum_of-range}
+use Rattle.tetri_base.proofs.ListLaws.{Each-map, Each-passed, Each-all, Each-at, all_from, from_all, any_from, none_from, has-filter, has-range, range_contains, sum_of-eq, sum_of-filter, sum_of-map, sum_of-range}
 
 -- ---- nodes in exactly the same sets
 same-true : (b c : Bool) → same b c ≡ true → b ≡ c

@@ -15,12 +15,12 @@ use Rattle.std.proofs.lemmas.Slice.Eq.{bytes_eq-Decides}
 use Rattle.tetri_strl.specs.declared.expr.Leaf.{Leaf}
 use Rattle.tetri_strl.specs.Tree.{leaves}
 use Rattle.tetri_space.specs.Finding.{AreSignatures, has_some, is_first, firsts, grouped, list_at}
-use Rattle.tetri_space.specs.Lists.{has, same, Each}
+use Rattle.tetri_base.specs.Lists.{has, same, Each}
 use Rattle.tetri_space.specs.Partitions.{live_bids, sets_in, asked, alike, leads, partitions, set_at, part_at, parts_in}
 use Rattle.tetri_space.specs.Sound.{IsSound, IsSoundBid, HasKnownSet}
 use Rattle.tetri_space.specs.Space.{Bid, Space}
 use Rattle.tetri_space.proofs.GroupLemmas.{filter-same, map-same, range_next}
-use Rattle.tetri_space.proofs.ListLemmas.{Each-filter, Each-at, Each-from, all_from, from_all, any_from, has-filter, has-range, range_from, eq_from_test, test_from_eq}
+use Rattle.tetri_base.proofs.ListLaws.{Each-filter, Each-at, Each-from, all_from, from_all, any_from, has-filter, has-range, range_from, eq_from_test, test_from_eq}
 use Rattle.tetri_space.proofs.PrunedLemmas.{AllLeavesOf, lefts_leaves, in_map}
 
 -- ---- the sets of the live leaves are known

@@ -10,10 +10,10 @@ use Rattle.tetri_strl.specs.Tree.{Operator, greatest, least, added, Tree, one, j
 use Rattle.tetri_strl.specs.WellMade.{peak, peaks, peak_joined, PEAK, HasChild, IsSound, AreSound, depth, depth_of}
 use Rattle.tetri_strl.specs.Worth.{greatest_of, added_of}
 use Rattle.tetri_strl.proofs.PartsApart.{AreApart, AreApartOf}
-use Rattle.tetri_space.specs.Lists.{Each, EachPair}
+use Rattle.tetri_base.specs.Lists.{Each, EachPair}
 use Rattle.tetri_space.specs.Partitions.{with_left, bids_left, set_at, sets_in, asked}
 use Rattle.tetri_space.specs.Space.{Bid, Space}
-use Rattle.tetri_space.proofs.ListLemmas.{Each-map}
+use Rattle.tetri_base.proofs.ListLaws.{Each-map}
 
 -- a fact of what is left, if anything is
 abbrev pub OfLeft : (Tree → Type 0) → Option Tree → Type 0

@@ -3,7 +3,7 @@ use Rattle.std.specs.Prelude.{◌≡◌, ℕ, ◌<◌, ◌≤◌, All, Contains,
 use Rattle.std.specs.List.{list_any, filter, range_with_len}
 use Rattle.std.specs.List.Sorted.{IsStrictlyIncreasing}
 use Rattle.std.specs.declared.alloc.Global.{Global}
-use Rattle.tetri_space.specs.Lists.{has}
+use Rattle.tetri_base.specs.Lists.{has}
 use Rattle.tetri_space.specs.Partitions.{live_bids, partitions, parts_in, sets_in}
 use Rattle.tetri_space.specs.Space.{Space}
 

@@ -2,7 +2,6 @@ pub mod Broken
 pub mod Finding
 pub mod Free
 pub mod Lawful
-pub mod Lists
 pub mod Partitions
 pub mod Sound
 pub mod Space

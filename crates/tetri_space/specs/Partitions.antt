@@ -3,7 +3,7 @@ use Rattle.std.specs.Prelude.{◌≡◌, ℕ, ◌+◌, ◌<◌, Bool, true, ◌&
 use Rattle.std.specs.List.{list_any, list_all, filter, range_with_len}
 use Rattle.tetri_strl.specs.Prune.{pruned}
 use Rattle.tetri_strl.specs.Tree.{Tree, leaves}
-use Rattle.tetri_space.specs.Lists.{has, same, count}
+use Rattle.tetri_base.specs.Lists.{has, same, count}
 use Rattle.tetri_space.specs.Space.{Bid, Space, bid}
 use Rattle.tetri_space.specs.declared.parts.Partitions as made
 

@@ -4,7 +4,7 @@ ghost use Rattle.std.specs.List.{filter, range_with_len};
 ghost use Rattle.std.specs.List.Sorted.{IsStrictlyIncreasing};
 ghost use Rattle.tetri_strl.specs.Aligned.{EachLeaf};
 ghost use Rattle.tetri_strl.specs.Tree.{leaves, tree};
-ghost use Rattle.tetri_space.specs.Lists.{has};
+ghost use Rattle.tetri_base.specs.Lists.{has};
 ghost use Rattle.tetri_space.specs.Finding.{AreSignatures, firsts, grouped, list_at};
 ghost use Rattle.tetri_space.specs.Partitions.{live_bids, partitions, set_at, sets_in};
 ghost use Rattle.tetri_space.specs.Sound.{IsSound};

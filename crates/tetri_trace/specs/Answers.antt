@@ -10,11 +10,6 @@ use Rattle.tetri_trace.specs.declared.fault.TraceFault.TheVariants as faults
 use Rattle.tetri_trace.specs.declared.trace.Trace.{Trace}
 use Rattle.tetri_trace.specs.Scenario.{Scenario, scenario}
 
-infixl 10 ◌>>=◌
-abbrev pub ◌>>=◌ : {A B E : Type 0} → Result A E → (A → Result B E) → Result B E
-(Ok x) >>= f = f x
-(Err e) >>= f = Err e
-
 -- the fault of a text is the fault of its line
 abbrev pub in_text : {A : Type 0} → Result A (ℕ × Fault) → Result A TraceWhy
 in_text (Ok x) = Ok x

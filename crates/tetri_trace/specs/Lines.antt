@@ -6,7 +6,8 @@ use Rattle.tetri_io.specs.Lines.{lines_from}
 use Rattle.tetri_cluster.specs.Names.{is_among, number_of}
 use Rattle.tetri_cluster.specs.Cluster.{names_of}
 use Rattle.tetri_parse.specs.Expression.{expression}
-use Rattle.tetri_trace.specs.Answers.{◌>>=◌, at_line, in_text}
+use Rattle.tetri_trace.specs.Answers.{at_line, in_text}
+use Rattle.tetri_base.specs.ResultSteps.{◌>>=◌}
 use Rattle.tetri_trace.specs.Fields.{object_in}
 use Rattle.tetri_trace.specs.Objects.{Notice, arrives, cancels, drains, undrains, event_in, header_in}
 use Rattle.tetri_trace.specs.Scenario.{Scenario, Submission, strl, job_names}

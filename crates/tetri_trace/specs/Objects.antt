@@ -5,7 +5,7 @@ use Rattle.serde_json.specs.Find.{get, as_array, as_str}
 use Rattle.tetri_cluster.specs.Names.{first_repeated}
 use Rattle.tetri_cluster.specs.Cluster.{names_of}
 use Rattle.tetri_cluster.specs.declared.cluster.NodeText.{NodeText}
-use Rattle.tetri_trace.specs.Answers.{◌>>=◌}
+use Rattle.tetri_base.specs.ResultSteps.{◌>>=◌}
 use Rattle.tetri_trace.specs.Fields.{required, has_key, optional, name_in, slot_in, number_in, unit_of, late_of, nodes_in}
 use Rattle.tetri_trace.specs.Scenario.{Scenario}
 use Rattle.tetri_trace.specs.declared.event.EventKey.{EventKey}

@@ -1,7 +1,7 @@
 use Rattle.std.proofs.Common.{◌≡◌, All, List, length, map, refl, sym, ap, ◌∙◌, subst}
 use Rattle.std.specs.Prelude.{pos}
 use lib.IntN.{ℤ}
-use Rattle.tetri_space.specs.Lists.{Each}
+use Rattle.tetri_base.specs.Lists.{Each}
 use Rattle.tetri_space.specs.Partitions.{live_bids, parts_of}
 use Rattle.tetri_space.specs.Space.{space}
 use Rattle.tetri_compile.specs.Draft.{Draft, draft}

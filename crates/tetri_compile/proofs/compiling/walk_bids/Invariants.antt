@@ -1,7 +1,7 @@
 use Rattle.std.proofs.Common.{◌≡◌, ◌+◌, ◌++◌, ◌<◌, ◌^◌, length, drop, map}
 use Rattle.tetri_strl.specs.Aligned.{EachLeaf}
 use Rattle.tetri_strl.specs.WellMade.{IsSound}
-use Rattle.tetri_space.specs.Lists.{Each}
+use Rattle.tetri_base.specs.Lists.{Each}
 use Rattle.tetri_space.specs.Partitions.{parts_of}
 use Rattle.tetri_space.specs.Space.{bid, space}
 use Rattle.tetri_compile.specs.Draft.{bid_rows, bid_tallies, bid_uppers, objective}

@@ -1,7 +1,7 @@
 use Rattle.std.proofs.Common.{◌<◌, length, slice_index_or, ◌∙◌, arith}
 use Rattle.std.proofs.lemmas.List.{get_or_default}
 use Rattle.tetri_compile.specs.declared.outline.Share.{Share}
-use Rattle.tetri_space.proofs.ListLemmas.{Each-get}
+use Rattle.tetri_base.proofs.ListLaws.{Each-get}
 use Rattle.tetri_compile.proofs.ProgramLemmas.{coefficient_here}
 use Rattle.tetri_compile.proofs.flattening.add_form.Goals as goal
 

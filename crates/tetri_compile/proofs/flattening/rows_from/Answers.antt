@@ -1,7 +1,7 @@
 use Rattle.std.proofs.Common.{◌<◌, ◌^◌, List, length, map, ap, ◌∙◌, sym, subst, arith}
 use Rattle.std.specs.List.{range_with_len}
 use lib.IntN.{pos}
-use Rattle.tetri_space.specs.Lists.{Each, sum_of}
+use Rattle.tetri_base.specs.Lists.{Each, sum_of}
 use Rattle.tetri_compile.specs.declared.outline.Inequality.{Inequality}
 use Rattle.tetri_compile.specs.declared.outline.Share.{Share}
 use Rattle.tetri_compile.specs.Flat.{terms_at}

@@ -3,7 +3,7 @@ use Rattle.std.specs.Prelude.{nat_le}
 use Rattle.std.specs.List.Sorted.{IsNonDecreasing}
 use Rattle.std.proofs.lemmas.List.Sorted.{IsPartitionPoint-from_clause, IsPartitionedBy-leb}
 use Rattle.tetri_space.specs.Finding.{list_at}
-use Rattle.tetri_space.specs.Lists.{count}
+use Rattle.tetri_base.specs.Lists.{count}
 use Rattle.tetri_space.specs.Space.{space}
 use Rattle.tetri_space.proofs.FindingLemmas.{list_is}
 use Rattle.tetri_compile.proofs.RoomLemmas.{count_point}

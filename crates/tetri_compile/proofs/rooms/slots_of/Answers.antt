@@ -2,7 +2,7 @@ use Rattle.std.proofs.Common.{ℕ, Vec, Global, ap, sym, ◌∙◌, arith, add-z
 use Rattle.std.specs.Prelude.{nat_le}
 use Rattle.std.proofs.lemmas.List.{drop_all}
 use Rattle.std.proofs.lemmas.List.Sorted.{IsNonDecreasingBy-from_sort}
-use Rattle.tetri_space.specs.Lists.{bit, count}
+use Rattle.tetri_base.specs.Lists.{bit, count}
 use Rattle.tetri_space.specs.Partitions.{is_free}
 use Rattle.tetri_space.specs.Space.{space}
 use Rattle.tetri_space.proofs.FreeLemmas.{count_next}

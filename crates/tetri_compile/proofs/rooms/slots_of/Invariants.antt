@@ -1,6 +1,6 @@
 use Rattle.std.proofs.Common.{◌≡◌, ◌+◌, ℕ, drop}
 use Rattle.std.specs.Prelude.{nat_le}
-use Rattle.tetri_space.specs.Lists.{count}
+use Rattle.tetri_base.specs.Lists.{count}
 use Rattle.tetri_space.specs.Partitions.{is_free}
 use Rattle.tetri_space.specs.Space.{space}
 use Rattle.tetri_compile.proofs.rooms.slots_of.Given as goal

@@ -1,5 +1,5 @@
 use Rattle.std.proofs.Common.{◌≡◌, ◌+◌, ◌≤◌, drop}
-use Rattle.tetri_space.specs.Lists.{count}
+use Rattle.tetri_base.specs.Lists.{count}
 use Rattle.tetri_compile.proofs.sizes.count_marked.Given as goal
 
 abbrev pub invariant-loop-mark : goal.invariant-loop-mark

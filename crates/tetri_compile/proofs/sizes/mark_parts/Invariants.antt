@@ -1,5 +1,5 @@
 use Rattle.std.proofs.Common.{◌≡◌, ℕ, ◌||◌, false, drop, slice_index_or}
-use Rattle.tetri_space.specs.Lists.{has}
+use Rattle.tetri_base.specs.Lists.{has}
 use Rattle.tetri_compile.proofs.sizes.mark_parts.Given as goal
 
 abbrev pub invariant-loop-part : goal.invariant-loop-part

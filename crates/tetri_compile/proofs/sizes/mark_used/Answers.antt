@@ -1,5 +1,5 @@
 use Rattle.std.proofs.Common.{◌≡◌, ◌&&◌, ◌||◌, ℕ, List, Bool, true, false, slice_index_or, ap, ◌∙◌, refl}
-use Rattle.tetri_space.specs.Lists.{has}
+use Rattle.tetri_base.specs.Lists.{has}
 use Rattle.tetri_space.specs.Partitions.{parts_found, parts_of}
 use Rattle.tetri_space.proofs.FindingLemmas.{and_true, and_false}
 use Rattle.tetri_compile.proofs.SizeLemmas.{used_next}

@@ -1,6 +1,6 @@
 use Rattle.std.proofs.Common.{◌≡◌, ◌+◌, ◌<◌, ◌≤◌, All, List, length, subst, sym, ap, ◌∙◌, arith}
 use Rattle.std.proofs.lemmas.List.{length-map}
-use Rattle.tetri_space.specs.Lists.{sum_of}
+use Rattle.tetri_base.specs.Lists.{sum_of}
 use Rattle.tetri_space.specs.Partitions.{parts_found, parts_of}
 use Rattle.tetri_space.specs.Space.{Bid, space}
 use Rattle.tetri_compile.specs.Sizes.{leaves_in, row_total, width_by}

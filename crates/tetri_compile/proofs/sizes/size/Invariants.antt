@@ -1,5 +1,5 @@
 use Rattle.std.proofs.Common.{◌≡◌, ◌+◌, drop, length, map}
-use Rattle.tetri_space.specs.Lists.{sum_of}
+use Rattle.tetri_base.specs.Lists.{sum_of}
 use Rattle.tetri_space.specs.Partitions.{parts_found, parts_of}
 use Rattle.tetri_space.specs.Space.{bid}
 use Rattle.tetri_compile.specs.Sizes.{row_total, width_by}

@@ -1,7 +1,7 @@
 use Rattle.std.proofs.Common.{◌≡◌, ◌+◌, ◌-◌, ℕ, length, sym, ap, ◌∙◌, arith}
 use Rattle.std.specs.List.{range_with_len}
 use Rattle.std.proofs.lemmas.List.FromFn.{length-range_with_len}
-use Rattle.tetri_space.specs.Lists.{count, sum_of}
+use Rattle.tetri_base.specs.Lists.{count, sum_of}
 use Rattle.tetri_space.specs.Partitions.{parts_found, parts_of}
 use Rattle.tetri_compile.specs.Sizes.{is_used, leaves_in}
 use Rattle.tetri_compile.proofs.SizeLemmas.{count_most, sum_range_next}

@@ -1,6 +1,6 @@
 use Rattle.std.proofs.Common.{◌≡◌, ◌-◌, ◌*◌, ◌≤◌, length}
 use Rattle.std.specs.List.{range_with_len}
-use Rattle.tetri_space.specs.Lists.{count, sum_of}
+use Rattle.tetri_base.specs.Lists.{count, sum_of}
 use Rattle.tetri_space.specs.Partitions.{parts_found, parts_of}
 use Rattle.tetri_compile.specs.Sizes.{is_used, leaves_in}
 use Rattle.tetri_compile.proofs.sizes.supply_rows.Given as goal

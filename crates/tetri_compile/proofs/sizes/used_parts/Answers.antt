@@ -1,6 +1,6 @@
 use Rattle.std.proofs.Common.{◌≡◌, ◌≤◌, ◌&&◌, ◌==◌, ℕ, false, length, take, slice_index_or, sym, ap, ◌∙◌, arith}
 use Rattle.std.specs.List.{list_any, range_with_len}
-use Rattle.tetri_space.specs.Lists.{count, has}
+use Rattle.tetri_base.specs.Lists.{count, has}
 use Rattle.tetri_space.specs.Partitions.{parts_found, parts_of}
 use Rattle.tetri_compile.specs.Sizes.{IsUsable, covers, is_used, leaves_in}
 use Rattle.tetri_compile.proofs.SizeLemmas.{any_test, marked_is, false_at, named_leaf, used_is, count_front, count_same}

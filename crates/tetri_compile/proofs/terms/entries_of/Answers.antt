@@ -1,8 +1,8 @@
 use Rattle.std.proofs.Common.{◌≤◌, ◌==◌, List, cond, ap, ◌∙◌, rules, arith}
 use Rattle.std.specs.List.Sorted.{IsNonDecreasingBy}
 use Rattle.std.proofs.lemmas.List.Sorted.{IsNonDecreasingBy-from_sort_by_key}
-use Rattle.tetri_space.specs.Lists.{sum_of}
-use Rattle.tetri_space.proofs.ListLemmas.{EachPair-from}
+use Rattle.tetri_base.specs.Lists.{sum_of}
+use Rattle.tetri_base.proofs.ListLaws.{EachPair-from}
 use Rattle.tetri_compile.specs.declared.terms.Entry.{Entry}
 use Rattle.tetri_compile.specs.Entries.{times_in}
 use Rattle.tetri_compile.proofs.EntryLemmas.{both_plus, both_minus, all_plus, all_minus, sum_of-moved, below_moved}

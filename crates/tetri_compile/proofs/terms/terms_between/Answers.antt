@@ -1,5 +1,5 @@
 use Rattle.std.proofs.Common.{◌<◌, sym, subst}
-use Rattle.tetri_space.specs.Lists.{Each}
+use Rattle.tetri_base.specs.Lists.{Each}
 use Rattle.tetri_compile.specs.declared.terms.Entry.{Entry}
 use Rattle.tetri_compile.specs.Entries.{AreEntriesOf}
 use Rattle.tetri_compile.proofs.terms.terms_between.Goals as goal

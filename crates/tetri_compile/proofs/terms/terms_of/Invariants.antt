@@ -1,5 +1,5 @@
 use Rattle.std.proofs.Common.{◌≡◌, ◌+◌, ◌≤◌, ◌++◌, drop}
-use Rattle.tetri_space.specs.Lists.{sum_of}
+use Rattle.tetri_base.specs.Lists.{sum_of}
 use Rattle.tetri_compile.proofs.EntryLemmas.{terms_after}
 use Rattle.tetri_compile.proofs.terms.terms_of.Given as goal
 

@@ -8,10 +8,10 @@ use Rattle.tetri_strl.specs.Tree.{Tree, join, least, added, scale, barrier, more
 use Rattle.tetri_strl.specs.WellMade.{peak, IsSound, AreSound}
 use Rattle.tetri_strl.proofs.TreeLemmas.{tree-Min, tree-Sum, tree-Scale, tree-Barrier}
 use Rattle.tetri_strl.proofs.WorthLemmas.{EachLeaf-both}
-use Rattle.tetri_space.specs.Lists.{Each}
+use Rattle.tetri_base.specs.Lists.{Each}
 use Rattle.tetri_space.specs.Partitions.{parts_of}
 use Rattle.tetri_space.specs.Space.{space}
-use Rattle.tetri_space.proofs.ListLemmas.{Each-map}
+use Rattle.tetri_base.proofs.ListLaws.{Each-map}
 use Rattle.tetri_compile.specs.declared.outline.Inequality.{Inequality}
 use Rattle.tetri_compile.specs.declared.outline.Outline.{Outline}
 use Rattle.tetri_compile.specs.declared.outline.Share.{Share}

@@ -1,7 +1,7 @@
 use Rattle.std.proofs.Common.{◌≡◌, ◌++◌, ◌∷◌, [], true, false, Ok, length, refl, sym, ap, ◌∙◌}
 use Rattle.std.proofs.lemmas.Result.{err_from_is_err_and}
 use Rattle.std.proofs.lemmas.List.{map_push}
-use Rattle.tetri_parse.specs.Answers.{◌>>=◌}
+use Rattle.tetri_base.specs.ResultSteps.{◌>>=◌}
 use Rattle.tetri_parse.specs.Rows.{row_at}
 use Rattle.tetri_parse.specs.Tokens.{goes_on_at}
 use Rattle.tetri_parse.specs.Grammar.{expr_at, goes_on_to_child}

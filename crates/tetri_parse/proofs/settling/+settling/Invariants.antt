@@ -1,6 +1,6 @@
 use Rattle.std.proofs.Common.{◌≡◌, ◌++◌, map, drop, take, length, Ok}
 use Rattle.tetri_strl.specs.Tree.{tree}
-use Rattle.tetri_parse.specs.Answers.{◌>>=◌}
+use Rattle.tetri_base.specs.ResultSteps.{◌>>=◌}
 use Rattle.tetri_parse.specs.Phrase.{phrases, line_up}
 use Rattle.tetri_parse.specs.Settling.{settled_all}
 use Rattle.tetri_parse.specs.Written.{AreWritten}

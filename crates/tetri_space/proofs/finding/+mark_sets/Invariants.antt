@@ -1,7 +1,7 @@
 use Rattle.std.proofs.Common.{◌≡◌, ℕ, ◌<◌, ◌||◌, false, length, drop, map, slice_index_or}
 use Rattle.tetri_strl.specs.Aligned.{EachLeafOf}
 use Rattle.tetri_strl.specs.Tree.{leaves, leaves_of, tree, trees}
-use Rattle.tetri_space.specs.Lists.{has}
+use Rattle.tetri_base.specs.Lists.{has}
 use Rattle.tetri_space.proofs.finding.+mark_sets.Given as goal
 
 abbrev pub invariant-loop-part : goal.invariant-loop-part

@@ -1,5 +1,5 @@
 use Rattle.std.proofs.Common.{◌≡◌, ℕ, ◌||◌, false, length, drop, map, slice_index_or}
-use Rattle.tetri_space.specs.Lists.{has}
+use Rattle.tetri_base.specs.Lists.{has}
 use Rattle.tetri_space.specs.Partitions.{sets_in}
 use Rattle.tetri_space.specs.Space.{bid}
 use Rattle.tetri_space.proofs.finding.used_sets.Given as goal

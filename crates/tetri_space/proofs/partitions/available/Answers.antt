@@ -1,5 +1,5 @@
 use Rattle.std.proofs.Common.{◌≡◌, ◌<◌, ℕ, List, length, get_or, true, ap, ◌∙◌, arith}
-use Rattle.tetri_space.specs.Lists.{bit, count}
+use Rattle.tetri_base.specs.Lists.{bit, count}
 use Rattle.tetri_space.specs.Partitions.{is_free, part_at, partitions}
 use Rattle.tetri_space.specs.Space.{space}
 use Rattle.tetri_space.proofs.FreeLemmas.{free_answer, count_next, count_rest-le}

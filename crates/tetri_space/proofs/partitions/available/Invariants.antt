@@ -1,5 +1,5 @@
 use Rattle.std.proofs.Common.{◌≡◌, ◌+◌, drop}
-use Rattle.tetri_space.specs.Lists.{count}
+use Rattle.tetri_base.specs.Lists.{count}
 use Rattle.tetri_space.specs.Partitions.{available, is_free, partitions}
 use Rattle.tetri_space.specs.Space.{space}
 use Rattle.tetri_space.proofs.partitions.available.Given as goal

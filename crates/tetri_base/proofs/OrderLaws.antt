@@ -6,9 +6,9 @@ use Rattle.std.proofs.lemmas.Bool.{cond_both}
 use Rattle.std.proofs.lemmas.List.Sorted.{sum_by-IsPermutation}
 use Rattle.std.proofs.lemmas.List.Sums.{sum_by-cons}
 use native.Mathlib.Numerals.{unary_clauses}
-use Rattle.tetri_space.specs.Lists.{sum_of, Each, EachPair}
-use Rattle.tetri_space.proofs.ListLemmas.{Each-map}
-use Rattle.tetri_assign.specs.Order.{put, in_order}
+use Rattle.tetri_base.specs.Lists.{sum_of, Each, EachPair}
+use Rattle.tetri_base.proofs.ListLaws.{Each-map}
+use Rattle.tetri_base.specs.Order.{put, in_order}
 
 pub sum_of-sum_by : {X : Type 0} (f : X → ℕ) (xs : List X) → sum_of f xs ≡ sum_by f xs
 sum_of-sum_by f [] = refl

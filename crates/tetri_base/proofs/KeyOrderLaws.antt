@@ -2,7 +2,7 @@
 use Rattle.std.proofs.Common.{◌≡◌, ℕ, ◌==◌, ◌&&◌, ◌||◌, nat_lt, Bool, true, false, Ordering, Less, Equal, Greater, refl, arith, true≢false}
 use Rattle.std.specs.Ordering.{is_lt, nat_cmp, ordering_then}
 use Rattle.std.proofs.lemmas.Bool.Decides.{nat_tests}
-use Rattle.tetri_assign.proofs.Sorting.{IsOrder}
+use Rattle.tetri_base.proofs.OrderLaws.{IsOrder}
 
 module _ {X : Type 0} (f : X → ℕ) where
   -- by this number, and then by the rest

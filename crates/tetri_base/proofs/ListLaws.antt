@@ -3,7 +3,7 @@ use Rattle.std.proofs.Common.{◌≡◌, ◌⊎◌, ℕ, zero, suc, ◌+◌, ◌
 use Rattle.std.specs.List.{list_any, list_all, filter, range_with_len}
 use Rattle.std.proofs.lemmas.Bool.{cond_both, and_from, and_parts, or_right, cases_order}
 use Rattle.std.proofs.lemmas.Bool.Decides.{nat_tests}
-use Rattle.tetri_space.specs.Lists.{sum_of, bit, count, has, Each, EachPair, Ascends}
+use Rattle.tetri_base.specs.Lists.{sum_of, bit, count, has, Each, EachPair, Ascends}
 
 pub eq_from_test : (m n : ℕ) → (m == n) ≡ true → m ≡ n
 eq_from_test m n e = grind (arith, nat_tests)

@@ -1,0 +1,3 @@
+pub mod KeyOrderLaws
+pub mod ListLaws
+pub mod OrderLaws

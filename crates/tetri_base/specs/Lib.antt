@@ -1,0 +1,4 @@
+pub mod Lists
+pub mod OptionSteps
+pub mod Order
+pub mod ResultSteps
