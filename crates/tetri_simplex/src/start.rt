@@ -10,10 +10,10 @@ ghost use Rattle.tetri_num.specs.Frac.{value};
 ghost use Rattle.tetri_num.specs.Range.{IsWithin};
 ghost use Rattle.tetri_ip.specs.Points.{IsFit, IsFitRow, IsInBox, bounds_of, coefficient, left_side, number_at};
 ghost use Rattle.tetri_simplex.specs.Fractions.{values, rows_of};
-ghost use Rattle.tetri_simplex.specs.Full.{IsTableOf, table_of};
+ghost use Rattle.tetri_simplex.specs.Full.{IsShaped, table_of};
 ghost use Rattle.tetri_simplex.specs.Start.{IsStart, corner, direction, start_at, slack_from, slack_row, minus_one_at, bound_rows, objective_row, first_table};
 
-use crate::table::Full;
+use crate::full::Full;
 use std::alloc::{AllocError, Global};
 use tetri_ip::{Program, Region, Row, coefficient_of, left_side};
 use tetri_num::Frac;
@@ -195,7 +195,7 @@ pub(crate) fn first_table(alloc: Global, p: &Program, r: &Region) -> Result<Full
     requires fit { IsFit p.now }
     requires in_box { IsInBox p.now (bounds_of r.now) }
     ensures table { IfOk result (λ t. table_of t ≡ first_table p.now (bounds_of r.now)) }
-    ensures shape { IfOk result (λ t. IsTableOf p.now t) }
+    ensures shape { IfOk result (λ t. IsShaped t) }
 {
     let start = corner(alloc, p, r)?;
     let slacks = slack_rows(alloc, p, &start)?;
