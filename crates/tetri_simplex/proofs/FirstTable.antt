@@ -29,7 +29,7 @@ append_nil : {B : Type 0} → (ys : List B) → ys ++ [] ≡ ys
 append_nil [] = refl
 append_nil (y ∷ ys) = ap (λ zs. y ∷ zs) (append_nil ys)
 
-map_append : {A B : Type 0} → (f : A → B) (xs ys : List A) → map f (xs ++ ys) ≡ map f xs ++ map f ys
+pub map_append : {A B : Type 0} → (f : A → B) (xs ys : List A) → map f (xs ++ ys) ≡ map f xs ++ map f ys
 map_append f [] ys = refl
 map_append f (x ∷ xs) ys = ap (λ zs. f x ∷ zs) (map_append f xs ys)
 
@@ -122,7 +122,7 @@ first_long p b =
     (long_append (length cs) (map (slack_row cs s) p.rows.items) (bound_rows 0 cs b.lower b.upper) (slacks_long p.rows.items cs s) (bounds_long 0 cs b.lower b.upper))
     (one_more _ _ (length-map cs (λ c. c *ℤ direction c)), tt)
 
-first_count : (p : Program) (b : Bounds) → IsInBox p b → length (first_rows p b) ≡ (length p.rows.items + length p.costs.items) + 1
+pub first_count : (p : Program) (b : Bounds) → IsInBox p b → length (first_rows p b) ≡ (length p.rows.items + length p.costs.items) + 1
 first_count p b i =
     let cs = p.costs.items in
     let s = corner cs b.lower b.upper in

@@ -50,6 +50,9 @@ coefficient_read t i j r x h g re xe =
     sym (coefficient_at (row_at (table_of t) i) j ∙ ap (λ (xs : List ℚ). get_or xs (suc j) zero_ℚ) (sym (row_read t i i r r.items refl h re refl)) ∙ value_at_next r.items j x g xe)
 
 -- ---- the pivot
+pub items_are : {A : Type 0} → (v : Vec A) (new : List A) → length new ≡ length v.items → (with_items v new).items ≡ new
+items_are v new h = ap (λ n. take n (new ++ drop (length new) v.items)) (v.ok.0 ∙ sym h) ∙ take_front new (drop (length new) v.items)
+
 rows_written : (v : Vec (Vec Frac)) (new : List (Vec Frac)) → length new ≡ length v.items → (with_items v new).items ≡ new
 rows_written v new h =
     ap (λ n. take n (new ++ drop (length new) v.items)) (v.ok.0 ∙ sym h) ∙ take_front new (drop (length new) v.items)

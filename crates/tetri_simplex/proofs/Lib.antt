@@ -34,3 +34,9 @@ pub mod WeighedForms
 pub mod RunHolds
 pub mod RelaxedPoints
 pub mod EndFacts
+pub mod SparseRows
+pub mod SparseWalks
+pub mod SparsePivots
+pub mod SparseChoices
+pub mod SparseStart
+pub mod SparseTables
