@@ -9,6 +9,3 @@ mod held;
 mod wants;
 
 pub use assigning::assign;
-
-#[cfg(test)]
-mod tests;

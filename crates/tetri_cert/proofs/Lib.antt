@@ -18,4 +18,3 @@ pub mod ListsBack
 pub mod PairsBack
 pub mod TextBack
 pub mod TextShort
-mod Rows

@@ -28,10 +28,3 @@ pub use points::objective_at;
 pub use text::{MarkFault, marks_are_short_lines, marks_read_back, print_mark, read_mark};
 pub use text_words::mark_of_words;
 pub use walk::{Walk, bound, count_nodes};
-
-#[cfg(test)]
-mod certificate_tests;
-#[cfg(test)]
-mod tests;
-#[cfg(test)]
-mod text_tests;

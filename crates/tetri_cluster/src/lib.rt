@@ -12,6 +12,3 @@ pub use lists::{NameList, NodeSet};
 pub use name::{Name, NameFault, is_name};
 pub use sets::{Sets, SetsFault};
 pub use table::NameTable;
-
-#[cfg(test)]
-mod tests;

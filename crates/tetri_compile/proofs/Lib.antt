@@ -14,7 +14,6 @@ pub mod GrantLemmas
 pub mod KidLemmas
 pub mod LawLemmas
 pub mod LawfulLemmas
-pub mod ManyJobs
 pub mod OutlineLemmas
 pub mod ProgramLemmas
 pub mod RoomLemmas

@@ -16,6 +16,3 @@ mod walking;
 pub use compiling::{Compiled, Count, compile};
 pub use sizes::size;
 pub use taking::{Taken, counts_of};
-
-#[cfg(test)]
-mod tests;

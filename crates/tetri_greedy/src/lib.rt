@@ -8,6 +8,3 @@ mod held;
 pub use fits::fit;
 pub use fitted::Placements;
 pub use held::HeldSlots;
-
-#[cfg(test)]
-mod tests;

@@ -6,4 +6,3 @@ pub mod Formed
 pub mod Sides
 pub mod IndexLemmas
 pub mod MergeLemmas
-pub mod FitTests

@@ -10,8 +10,6 @@ mod laws;
 mod points;
 mod programs;
 mod range;
-#[cfg(test)]
-mod tests;
 mod weighing;
 
 pub use by_column::weigh_by;

@@ -9,8 +9,6 @@ mod fractions;
 mod laws;
 mod places;
 mod range;
-#[cfg(test)]
-mod tests;
 
 pub use divisors::{gcd, lcm};
 pub use fractions::{Frac, Op, Past};

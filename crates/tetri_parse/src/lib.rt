@@ -19,6 +19,3 @@ pub use fault::{Fault, ParseFault};
 pub use laws::reading_meets_the_first_fault;
 pub use print::print_expr;
 pub use read::{read_expr, read_set};
-
-#[cfg(test)]
-mod tests;

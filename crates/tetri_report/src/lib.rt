@@ -18,6 +18,3 @@ pub use line::{PlanLine, ReportLine, Stage};
 pub use print::print_cycle;
 pub use ranges::cycle_is_in_range;
 pub use summary::print_summary;
-
-#[cfg(test)]
-mod tests;

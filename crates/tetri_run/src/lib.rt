@@ -19,8 +19,3 @@ pub use spoken::{SayFault, say};
 pub use status::Status;
 pub use top::{run, run_check, run_plan};
 pub use why::Why;
-
-#[cfg(test)]
-mod check_tests;
-#[cfg(test)]
-mod tests;

@@ -16,8 +16,6 @@ mod run;
 mod sparse;
 mod start;
 mod start_lines;
-#[cfg(test)]
-mod tests;
 mod weights;
 
 pub use choices::Candidate;

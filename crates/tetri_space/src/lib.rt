@@ -23,6 +23,3 @@ pub use parts::Partitions;
 pub use rules::{Rule, Unlawful, lawful};
 pub use runs::{ascends_by_job, run_len};
 pub use totals::{tops, total};
-
-#[cfg(test)]
-mod tests;

@@ -25,6 +25,3 @@ pub use laws::{
 pub use pieces::Piece;
 pub use prepared::Prepared;
 pub use state::State;
-
-#[cfg(test)]
-mod tests;

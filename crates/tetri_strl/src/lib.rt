@@ -22,6 +22,3 @@ pub use tops::top_in;
 pub use trimming::{idle_leaves, trim};
 pub use wasting::{waste, waste_among};
 pub use worths::{worth, worth_among};
-
-#[cfg(test)]
-mod tests;

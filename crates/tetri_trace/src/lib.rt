@@ -18,6 +18,3 @@ pub use find::job_of;
 pub use jobs::Jobs;
 pub use read::read_trace;
 pub use trace::{Event, Happening, Header, Job, Trace, Work};
-
-#[cfg(test)]
-mod tests;

@@ -1,0 +1,237 @@
+// Runs over memory: what they write, and what is said of them.
+ghost use Rattle.std.specs.Prelude.{◌<◌};
+
+use crate::table::Given;
+use std::alloc::{AllocError, Global};
+use tetri_io::{MemShelf, MemSink};
+use tetri_run::{Status, run, say};
+use tetri_tables::{Tally, edited, halves};
+use tetri_trace::{Field, TraceWhy};
+
+// How a run is served: the bytes of a read and of a write at most, the bytes that there is room for, and the reads and writes
+// that fail.
+#[derive(Drop)]
+struct Service {
+    read_most: usize,
+    write_most: usize,
+    room: usize,
+    reads: Vec<u64>,
+    writes: Vec<u64>,
+    ghost reads_some: { 0 < read_most },
+    ghost writes_some: { 0 < write_most },
+}
+
+impl Service {
+    fn new(alloc: Global) -> Service {
+        Service {
+            read_most: 64,
+            write_most: 7,
+            room: 100_000,
+            reads: Vec::new(alloc),
+            writes: Vec::new(alloc),
+        }
+    }
+
+    // Takes a word of a row.
+    fn set(&mut self, word: &str, number: u64) -> Result<(), AllocError> {
+        let size = usize::try_from(number).unwrap_or(1);
+        match word {
+            "piece" => self.read_most = size.max(1),
+            "width" => self.write_most = size.max(1),
+            "room" => self.room = size.min(100_000),
+            "read" => self.reads.push(number)?,
+            "write" => self.writes.push(number)?,
+            _ => {}
+        }
+        Ok(())
+    }
+}
+
+// What was written, and what is said of the status.
+#[derive(Drop)]
+struct Outcome {
+    written: String,
+    said: String,
+}
+
+fn text_of(alloc: Global, bytes: &[u8]) -> Result<String, AllocError> {
+    match str::from_utf8(bytes) {
+        Ok(text) => String::from_str(alloc, text),
+        Err(_) => String::from_str(alloc, "not text"),
+    }
+}
+
+fn words_of(alloc: Global, line: &str) -> Result<Vec<String>, AllocError> {
+    let mut words = Vec::new(alloc);
+    for word in line.split(' ') {
+        words.push(String::from_str(alloc, word)?)?;
+    }
+    Ok(words)
+}
+
+/// The line that is said of a status, without its line feed.
+pub fn said_of(alloc: Global, status: &Status) -> Result<String, AllocError> {
+    let mut sink = MemSink::new(alloc, 7, 1000, &[])?;
+    match say(alloc, status, &mut sink) {
+        Ok(()) => {
+            let line = text_of(alloc, sink.written())?;
+            String::from_str(alloc, line.as_str().trim_end_matches('\n'))
+        }
+        Err(_) => String::from_str(alloc, "cannot say it"),
+    }
+}
+
+fn run_words(
+    alloc: Global,
+    given: &Given,
+    service: &Service,
+    line: &str,
+) -> Result<Outcome, AllocError> {
+    let mut shelf = MemShelf::new(alloc, service.read_most, &service.reads)?;
+    shelf.put("trace", given.trace.as_bytes())?;
+    shelf.put("report", given.report.as_bytes())?;
+    let mut sink = MemSink::new(alloc, service.write_most, service.room, &service.writes)?;
+    let words = words_of(alloc, line)?;
+    let status = run(alloc, words.as_slice(), &mut shelf, &mut sink);
+    Ok(Outcome {
+        written: text_of(alloc, sink.written())?,
+        said: said_of(alloc, &status)?,
+    })
+}
+
+// What a run writes and says, one behind the other.
+fn answer(alloc: Global, given: &Given, line: &str) -> Result<String, AllocError> {
+    let outcome = run_words(alloc, given, &Service::new(alloc), line)?;
+    format!(in alloc; "{}{}", outcome.written, outcome.said)
+}
+
+fn check_answer(alloc: Global, given: &Given) -> Result<String, AllocError> {
+    let answer = answer(alloc, given, "check trace report")?;
+    String::from_str(alloc, answer.as_str().trim_end_matches('\n'))
+}
+
+/// The trace is planned, and its report is the text, which is then accepted by a check.
+pub fn plan(
+    alloc: Global,
+    given: &mut Given,
+    tally: &mut Tally,
+    body: &str,
+) -> Result<(), AllocError> {
+    let wanted = format!(in alloc; "{body}\n")?;
+    let found = answer(alloc, given, "plan trace")?;
+    tally.expect(given.trace.as_str(), found.as_str(), wanted.as_str())?;
+    let mut cycles = 0usize;
+    for line in body.lines() {
+        if line.starts_with("cycle ") {
+            cycles = cycles.saturating_add(1);
+        }
+    }
+    given.report = wanted;
+    let accepted = format!(in alloc; "accepted {cycles}")?;
+    check(alloc, given, tally, accepted.as_str())
+}
+
+/// The trace is not planned: nothing is written, and this is said.
+pub fn no_plan(
+    alloc: Global,
+    given: &Given,
+    tally: &mut Tally,
+    wanted: &str,
+) -> Result<(), AllocError> {
+    let found = answer(alloc, given, "plan trace")?;
+    tally.expect(given.trace.as_str(), found.as_str(), wanted)
+}
+
+/// This is the answer to a check of the report against the trace.
+pub fn check(
+    alloc: Global,
+    given: &Given,
+    tally: &mut Tally,
+    wanted: &str,
+) -> Result<(), AllocError> {
+    let found = check_answer(alloc, given)?;
+    tally.expect(given.report.as_str(), found.as_str(), wanted)
+}
+
+/// Rows `EDITS => ANSWER`: the answer to a check of the changed report.
+pub fn forged(
+    alloc: Global,
+    given: &mut Given,
+    tally: &mut Tally,
+    body: &str,
+) -> Result<(), AllocError> {
+    let report = given.report.clone()?;
+    for row in body.lines() {
+        let (edits, wanted) = halves(row);
+        given.report = edited(alloc, report.as_str(), edits)?;
+        let found = check_answer(alloc, given)?;
+        tally.expect(row, found.as_str(), wanted)?;
+    }
+    given.report = report;
+    Ok(())
+}
+
+/// Rows `WORDS; WORD NUMBER; .. => SAID; WRITTEN`: what a run of the words says and writes, with `|` for a line feed, where
+/// reads and writes of these numbers fail.
+pub fn failing(
+    alloc: Global,
+    given: &Given,
+    tally: &mut Tally,
+    body: &str,
+) -> Result<(), AllocError> {
+    for row in body.lines() {
+        let (how, wanted) = halves(row);
+        let (words, limits) = how.split_once("; ").unwrap_or((how, ""));
+        let mut service = Service::new(alloc);
+        for limit in limits.split("; ") {
+            let (word, number) = limit.split_once(' ').unwrap_or((limit, ""));
+            service.set(word, number.parse::<u64>().unwrap_or(0))?;
+        }
+        let outcome = run_words(alloc, given, &service, words)?;
+        let mut found = format!(in alloc; "{}; ", outcome.said)?;
+        for line in outcome.written.as_str().split_inclusive('\n') {
+            match line.strip_suffix('\n') {
+                Some(line) => write!(found, "{line}|")?,
+                None => found.push_str(line)?,
+            }
+        }
+        tally.expect(row, found.as_str(), wanted)?;
+    }
+    Ok(())
+}
+
+/// What is said where there is no memory, and then of each field that may be missing, one in each line.
+pub fn words(alloc: Global, tally: &mut Tally, body: &str) -> Result<(), AllocError> {
+    let fields = [
+        Field::Nodes,
+        Field::Window,
+        Field::Budget,
+        Field::Until,
+        Field::Unit,
+        Field::At,
+        Field::Arrive,
+        Field::Cancel,
+        Field::Drain,
+        Field::Undrain,
+        Field::Late,
+        Field::Strl,
+        Field::Ask,
+        Field::K,
+        Field::Set,
+        Field::Dur,
+        Field::Value,
+        Field::Deadline,
+        Field::Prefer,
+        Field::PreferSet,
+        Field::PreferDur,
+        Field::Class,
+        Field::Elastic,
+    ];
+    let mut found = said_of(alloc, &Status::NoMemory)?;
+    for field in fields {
+        let why = TraceWhy::MissingField(field);
+        let line = said_of(alloc, &Status::BadTrace { line: 1, why })?;
+        write!(found, "\n{line}")?;
+    }
+    tally.expect("words", found.as_str(), body)
+}

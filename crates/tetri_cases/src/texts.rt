@@ -1,0 +1,126 @@
+// Texts by their first faults, and expressions that are printed and read back.
+ghost use Rattle.std.specs.Prelude.{◌≤◌};
+
+use crate::runs::said_of;
+use crate::table::Given;
+use crate::traces::answer;
+use std::alloc::{AllocError, Global};
+use tetri_cluster::{Cluster, Sets};
+use tetri_parse::{ParseFault, print_expr, read_expr};
+use tetri_run::Status;
+use tetri_tables::{Tally, expand, halves, tell_expr};
+use tetri_trace::TraceWhy;
+
+/// The words of a fault: how many bytes stand before it, and its cause.
+pub fn fault_told(alloc: Global, fault: ParseFault) -> Result<String, AllocError> {
+    match fault {
+        ParseFault::At { offset, fault } => {
+            let why = TraceWhy::BadStrl { offset, fault };
+            let said = said_of(alloc, &Status::BadTrace { line: 1, why })?;
+            let words = said.as_str().split_once("bad-strl ").unwrap_or(("", ""));
+            String::from_str(alloc, words.1)
+        }
+        ParseFault::NoMemory => String::from_str(alloc, "no memory"),
+    }
+}
+
+// What is read of a text, or its fault.
+fn told(
+    alloc: Global,
+    cluster: &Cluster,
+    unit: u64,
+    arrival: u32,
+    text: &[u8],
+) -> Result<String, AllocError> {
+    if unit == 0 || 1_000_000 < unit || 10_000 < arrival {
+        return String::from_str(alloc, "no such unit or arrival");
+    }
+    let mut sets = Sets::new(alloc);
+    match read_expr(alloc, text, unit, arrival, cluster, &mut sets) {
+        Ok(e) => {
+            let mut out = String::new(alloc);
+            tell_expr(&mut out, &e)?;
+            Ok(out)
+        }
+        Err(fault) => fault_told(alloc, fault),
+    }
+}
+
+/// Rows `TEXT => TOLD`: what a text says over the nodes of the trace, or its fault; `read` is any expression. Behind the
+/// kind stand the unit and the arrival, 1 and 0 if none do.
+pub fn texts(
+    alloc: Global,
+    given: &Given,
+    tally: &mut Tally,
+    limits: &str,
+    body: &str,
+) -> Result<(), AllocError> {
+    let Ok(trace) = answer(alloc, given.trace.as_bytes())? else {
+        return tally.expect("a trace", "refused", "read");
+    };
+    let (unit, arrival) = limits.split_once(' ').unwrap_or(("1", "0"));
+    let unit = unit.parse::<u64>().unwrap_or(0);
+    let arrival = arrival.parse::<u32>().unwrap_or(0);
+    for row in body.lines() {
+        let (text, wanted) = halves(row);
+        let text = expand(alloc, text)?;
+        let found = told(alloc, &trace.cluster, unit, arrival, &text)?;
+        if wanted == "read" && found.as_str().contains("nCk(") {
+            tally.expect(row, "read", wanted)?;
+        } else {
+            tally.expect(row, found.as_str(), wanted)?;
+        }
+    }
+    Ok(())
+}
+
+// The text of what a text says, for a job of this arrival.
+fn printed(
+    alloc: Global,
+    text: &[u8],
+    arrival: u32,
+    cluster: &Cluster,
+) -> Result<Vec<u8>, AllocError>
+    requires { arrival ≤ 10000 }
+{
+    let mut sets = Sets::new(alloc);
+    match read_expr(alloc, text, 1, arrival, cluster, &mut sets) {
+        Ok(e) => print_expr(alloc, &e, arrival, cluster, &sets),
+        Err(_) => Vec::from_slice(alloc, b"not read"),
+    }
+}
+
+fn expect_printed(
+    alloc: Global,
+    tally: &mut Tally,
+    cluster: &Cluster,
+    row: &str,
+    arrival: u32,
+) -> Result<(), AllocError>
+    requires { arrival ≤ 10000 }
+{
+    let (text, wanted) = halves(row);
+    let once = printed(alloc, text.as_bytes(), arrival, cluster)?;
+    let twice = printed(alloc, &once, arrival, cluster)?;
+    tally.expect(row, str::from_utf8(&once).unwrap_or(""), wanted)?;
+    tally.expect(row, str::from_utf8(&twice).unwrap_or(""), wanted)
+}
+
+/// Rows `TEXT => PRINTED`: how what a text says is printed, over the nodes of the trace, whatever the arrival. The printed
+/// text is printed so, too.
+pub fn printed_texts(
+    alloc: Global,
+    given: &Given,
+    tally: &mut Tally,
+    body: &str,
+) -> Result<(), AllocError> {
+    let Ok(trace) = answer(alloc, given.trace.as_bytes())? else {
+        return tally.expect("a trace", "refused", "read");
+    };
+    for row in body.lines() {
+        for arrival in [0, 7, 10_000] {
+            expect_printed(alloc, tally, &trace.cluster, row, arrival)?;
+        }
+    }
+    Ok(())
+}

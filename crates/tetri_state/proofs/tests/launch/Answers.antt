@@ -1,5 +1,0 @@
-use Rattle.tetri_trace.specs.Scenario.{scenario}
-use Rattle.tetri_state.proofs.tests.launch.Goals as goal
-
-pub returns : goal.returns
-returns g c = c.apply.ensures.reached (scenario c.args.trace.now) c.in_ok-plan.plan c.requires.reached c.in_ok-prepared.ensures.launch

@@ -1,0 +1,230 @@
+// Cycles of a run over a trace: what happens, what is carried and launched, what runs, and what is told of each instance.
+ghost use Rattle.std.specs.Prelude.{◌≡◌, ◌<◌, IsTrue, OnOk};
+ghost use Rattle.tetri_space.specs.Sound.{IsSound as IsSoundSpace};
+ghost use Rattle.tetri_space.specs.Space.{space};
+ghost use Rattle.tetri_state.specs.Planning.{AreThrifty, instance_of};
+ghost use Rattle.tetri_state.specs.Reached as moment;
+ghost use Rattle.tetri_state.specs.Reached.{IsReached};
+ghost use Rattle.tetri_trace.specs.Scenario.{scenario};
+ghost use Rattle.tetri_trace.specs.Sound.{IsSound};
+
+use crate::grants::{grants_in, grants_told};
+use crate::instances;
+use crate::table::answer;
+use std::alloc::{AllocError, Global};
+use tetri_space::{Instance, lawful};
+use tetri_state::{
+    Happened, PieceId, State, jobs_of_a_run_are_known, no_two_running_pieces_share_a_node,
+    nodes_of_running_pieces_are_taken, running_pieces_run_on_unless_told,
+};
+use tetri_strl::{Allotment, waste};
+use tetri_tables::{Tally, halves};
+use tetri_trace::Trace;
+
+// What is seen at the beginning of a cycle.
+#[derive(Drop)]
+struct Seen {
+    happened: Happened,
+    carry: Allotment,
+}
+
+fn is_thrifty(inst: &Instance, a: &Allotment) -> bool
+    requires { IsSoundSpace (space inst.now) }
+    ensures { IsTrue result → AreThrifty (space inst.entry.now) a.now }
+{
+    for offer in &inst.jobs {
+        if waste(&offer.expr, offer.job, a).is_some() {
+            return false;
+        }
+    }
+    true
+}
+
+fn pieces_told(out: &mut String, word: &str, pieces: &[PieceId]) -> Result<(), AllocError> {
+    for piece in pieces {
+        write!(out, "{word} {} {}; ", piece.job, piece.leaf)?;
+    }
+    Ok(())
+}
+
+fn jobs_told(out: &mut String, word: &str, jobs: &[u32]) -> Result<(), AllocError> {
+    for job in jobs {
+        write!(out, "{word} {job}; ")?;
+    }
+    Ok(())
+}
+
+fn happened_told(alloc: Global, happened: &Happened) -> Result<String, AllocError> {
+    let mut out = String::new(alloc);
+    pieces_told(&mut out, "end", &happened.ended)?;
+    jobs_told(&mut out, "cancel", &happened.cancelled)?;
+    pieces_told(&mut out, "over", &happened.over)?;
+    jobs_told(&mut out, "expire", &happened.expired)?;
+    Ok(out)
+}
+
+fn told(alloc: Global, inst: &Instance, seen: &Seen, what: &str) -> Result<String, AllocError>
+    requires { IsSoundSpace (space inst.now) }
+{
+    let (word, rest) = what.split_once(' ').unwrap_or((what, ""));
+    match word {
+        "happened" => happened_told(alloc, &seen.happened),
+        "pending" => format!(in alloc; "{}", inst.jobs.len()),
+        "busy" => format!(in alloc; "{:?}", inst.busy_until),
+        "drained" => format!(in alloc; "{:?}", inst.drained),
+        "carry" => grants_told(alloc, seen.carry.as_slice()),
+        _ => instances::told(alloc, inst, word, rest),
+    }
+}
+
+// The rows of a cycle but for those of its plan.
+fn expect_rows(
+    alloc: Global,
+    tally: &mut Tally,
+    inst: &Instance,
+    seen: &Seen,
+    rows: &str,
+) -> Result<(), AllocError>
+    requires { IsSoundSpace (space inst.now) }
+{
+    for row in rows.lines() {
+        let (what, wanted) = halves(row);
+        if !what.starts_with("plan") {
+            let found = told(alloc, inst, seen, what)?;
+            tally.expect(row, found.as_str(), wanted)?;
+        }
+    }
+    Ok(())
+}
+
+// The grants that are planned, and what they are to launch.
+fn plan_of(rows: &str) -> (&str, &str) {
+    for row in rows.lines() {
+        let (what, wanted) = halves(row);
+        if let Some(grants) = what.strip_prefix("plan ") {
+            return (grants, wanted);
+        }
+    }
+    ("", "[]")
+}
+
+fn launch(
+    alloc: Global,
+    tally: &mut Tally,
+    trace: &Trace,
+    state: &mut State,
+    inst: &Instance,
+    rows: &str,
+) -> Result<(), AllocError>
+    requires sound { IsSound (scenario trace.now) }
+    requires reached { IsReached (scenario trace.now) moment.begun state.old }
+    requires instance { space inst.now ≡ instance_of (scenario trace.now) state.old }
+    requires instance_sound { IsSoundSpace (space inst.now) }
+    ensures { OnOk result (IsReached (scenario trace.entry.now) moment.between state.new) }
+{
+    let (grants, wanted) = plan_of(rows);
+    let plan = grants_in(alloc, grants)?;
+    if lawful(inst, &plan).is_err() || !is_thrifty(inst, &plan) {
+        tally.expect(grants, "not lawful, or not thrifty", "a plan")?;
+        return Err(AllocError);
+    }
+    let prepared = state.prepare(alloc, trace, inst, &plan)?;
+    let launched = format!(in alloc; "{:?}", prepared.launched())?;
+    tally.expect(grants, launched.as_str(), wanted)?;
+    let kept = grants_told(alloc, prepared.grants().as_slice())?;
+    tally.expect("the last plan", kept.as_str(), grants)?;
+    state.apply(prepared);
+    Ok(())
+}
+
+fn cycle(
+    alloc: Global,
+    tally: &mut Tally,
+    trace: &Trace,
+    state: &mut State,
+    rows: &str,
+) -> Result<(), AllocError>
+    requires sound { IsSound (scenario trace.now) }
+    requires reached { IsReached (scenario trace.now) moment.between state.old }
+    ensures { OnOk result (IsReached (scenario trace.entry.now) moment.between state.new) }
+{
+    if trace.header.until <= state.now() {
+        tally.expect(rows, "past the end", "a slot")?;
+        return Err(AllocError);
+    }
+    let happened = state.begin_cycle(alloc, trace)?;
+    let inst = state.instance(alloc, trace)?;
+    let carry = state.carry(alloc, trace, &inst)?;
+    expect_rows(alloc, tally, &inst, &Seen { happened, carry }, rows)?;
+    launch(alloc, tally, trace, state, &inst, rows)
+}
+
+fn piece_told(alloc: Global, state: &State, place: usize) -> Result<String, AllocError> {
+    match state.piece(place) {
+        Some(piece) => {
+            let nodes = piece.nodes.as_slice();
+            let (started, expected, real) = (piece.started, piece.expected, piece.real);
+            format!(in alloc;
+                "{} {} {nodes:?} {started} {expected} {real}",
+                piece.job, piece.leaf
+            )
+        }
+        None => String::from_str(alloc, "none"),
+    }
+}
+
+fn state_told(alloc: Global, state: &State, what: &str) -> Result<String, AllocError> {
+    let (word, rest) = what.split_once(' ').unwrap_or((what, ""));
+    match word {
+        "now" => format!(in alloc; "{}", state.now()),
+        "launched" => format!(in alloc; "{}", state.launched_count()),
+        "ended" => format!(in alloc; "{}", state.ended_count()),
+        "cancelled" => format!(in alloc; "{}", state.cancelled_count()),
+        "expired" => format!(in alloc; "{}", state.expired_count()),
+        "piece" => piece_told(alloc, state, rest.parse::<usize>().unwrap_or(0)),
+        _ => String::from_str(alloc, "no such word"),
+    }
+}
+
+fn expect_state(
+    alloc: Global,
+    tally: &mut Tally,
+    state: &State,
+    rows: &str,
+) -> Result<(), AllocError> {
+    for row in rows.lines() {
+        let (what, wanted) = halves(row);
+        let found = state_told(alloc, state, what)?;
+        tally.expect(row, found.as_str(), wanted)?;
+    }
+    Ok(())
+}
+
+fn run(alloc: Global, tally: &mut Tally, trace: &Trace, body: &str) -> Result<(), AllocError>
+    requires { IsSound (scenario trace.now) }
+{
+    no_two_running_pieces_share_a_node(trace);
+    running_pieces_run_on_unless_told(trace);
+    nodes_of_running_pieces_are_taken(trace);
+    jobs_of_a_run_are_known(trace);
+    let mut state = State::open(alloc, trace)?;
+    for rows in body.split("\n\n") {
+        if rows.starts_with("now") {
+            expect_state(alloc, tally, &state, rows)?;
+        } else {
+            cycle(alloc, tally, trace, &mut state, rows)?;
+        }
+    }
+    Ok(())
+}
+
+/// Rows of a run over the trace, a block for each cycle with a blank line behind it. In a block stand what `happened`, how many
+/// jobs are `pending`, until when each node is `busy`, which are `drained`, what is the `carry`, rows of the instance, and
+/// `plan GRANTS => [LAUNCHED JOBS]`; without the last no grant is planned. A block that begins with `now` tells of the state
+/// between two cycles.
+pub fn cycles(alloc: Global, trace: &str, tally: &mut Tally, body: &str) -> Result<(), AllocError> {
+    match answer(alloc, trace.as_bytes())? {
+        Ok(trace) => run(alloc, tally, &trace, body),
+        Err(_) => tally.expect("a trace", "refused", "read"),
+    }
+}

@@ -1,0 +1,112 @@
+// Worths of expressions, and what is left of them and of their grants.
+ghost use Rattle.tetri_strl.specs.Tree.{tree};
+ghost use Rattle.tetri_strl.specs.WellMade.{IsWellMade};
+
+use crate::grants::{grants_in, grants_told};
+use crate::table::answer;
+use std::alloc::{AllocError, Global};
+use tetri_cluster::Sets;
+use tetri_parse::read_expr;
+use tetri_strl::{
+    Expr, aligned, copy_expr, copy_grants, idle_leaves, prune, thrifty_grants_start_together,
+    top_in, trim, waste, waste_among, worth, worth_among,
+};
+use tetri_tables::{Tally, halves, tell_expr};
+
+// The job whose grants count.
+const JOB: u32 = 1;
+
+fn worth_told(alloc: Global, e: &Expr, grants: &str) -> Result<String, AllocError>
+    requires { IsWellMade (tree e.now) }
+{
+    let a = grants_in(alloc, grants)?;
+    let among = worth_among(e, JOB, a.as_slice());
+    if worth(e, JOB, &a) != among {
+        return String::from_str(alloc, "two worths");
+    }
+    format!(in alloc; "{among}")
+}
+
+fn waste_told(alloc: Global, e: &Expr, grants: &str) -> Result<String, AllocError>
+    requires { IsWellMade (tree e.now) }
+{
+    let a = grants_in(alloc, grants)?;
+    let place = waste(e, JOB, &a);
+    if place != waste_among(e, JOB, a.as_slice()) {
+        return String::from_str(alloc, "two places");
+    }
+    format!(in alloc; "{place:?}")
+}
+
+fn expr_told(alloc: Global, e: Option<Expr>) -> Result<String, AllocError> {
+    match e {
+        Some(e) => {
+            let mut out = String::new(alloc);
+            tell_expr(&mut out, &e)?;
+            Ok(out)
+        }
+        None => String::from_str(alloc, "none"),
+    }
+}
+
+fn slots_in(text: &str) -> (u32, u32) {
+    let (from, to) = text.split_once(' ').unwrap_or((text, ""));
+    (
+        from.parse::<u32>().unwrap_or(0),
+        to.parse::<u32>().unwrap_or(0),
+    )
+}
+
+fn trimmed_told(alloc: Global, e: &Expr, grants: &str) -> Result<String, AllocError>
+    requires { IsWellMade (tree e.now) }
+{
+    let a = copy_grants(alloc, &grants_in(alloc, grants)?)?;
+    grants_told(alloc, trim(alloc, e, JOB, &a)?.as_slice())
+}
+
+fn told(alloc: Global, e: &Expr, what: &str) -> Result<String, AllocError>
+    requires { IsWellMade (tree e.now) }
+{
+    let (word, rest) = what.split_once(' ').unwrap_or((what, ""));
+    let (from, to) = slots_in(rest);
+    match word {
+        "worth" => worth_told(alloc, e, rest),
+        "top" => format!(in alloc; "{}", top_in(e, from, to)),
+        "aligned" => format!(in alloc; "{}", aligned(e)),
+        "copy" => expr_told(alloc, Some(copy_expr(alloc, e)?)),
+        "left" => expr_told(alloc, prune(alloc, e, from, to)?),
+        "waste" => waste_told(alloc, e, rest),
+        "trim" => trimmed_told(alloc, e, rest),
+        "idle" => {
+            let a = grants_in(alloc, rest)?;
+            format!(in alloc; "{:?}", idle_leaves(alloc, e, JOB, a.as_slice())?)
+        }
+        _ => String::from_str(alloc, "no such word"),
+    }
+}
+
+/// Rows of an expression over the nodes of the trace, whose grants are those of job 1: `worth GRANTS`, `top FROM TO`,
+/// `aligned`, `copy`, `left FROM TO` with what is left of it in these slots, `waste GRANTS` with the place of the first grant
+/// that earns nothing, `trim GRANTS` and `idle GRANTS`.
+pub fn expression(
+    alloc: Global,
+    trace: &str,
+    tally: &mut Tally,
+    text: &str,
+    body: &str,
+) -> Result<(), AllocError> {
+    let Ok(trace) = answer(alloc, trace.as_bytes())? else {
+        return tally.expect("a trace", "refused", "read");
+    };
+    let mut sets = Sets::new(alloc);
+    let Ok(e) = read_expr(alloc, text.as_bytes(), 1, 0, &trace.cluster, &mut sets) else {
+        return tally.expect(text, "refused", "read");
+    };
+    thrifty_grants_start_together(&e);
+    for row in body.lines() {
+        let (what, wanted) = halves(row);
+        let found = told(alloc, &e, what)?;
+        tally.expect(row, found.as_str(), wanted)?;
+    }
+    Ok(())
+}

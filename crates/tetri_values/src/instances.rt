@@ -1,0 +1,90 @@
+// Instances: free nodes, worths, lawfulness and partitions.
+ghost use Rattle.tetri_space.specs.Sound.{IsSound};
+ghost use Rattle.tetri_space.specs.Space.{space};
+
+use crate::grants::{grants_in, nodes_told};
+use crate::programs;
+use std::alloc::{AllocError, Global};
+use tetri_space::{
+    Instance, Partitions, Unlawful, available, find_partitions, free, lawful, tops,
+    tops_bound_every_lawful_total, total,
+};
+
+fn two_numbers(text: &str) -> (u32, u32) {
+    let (first, second) = text.split_once(' ').unwrap_or((text, ""));
+    (
+        first.parse::<u32>().unwrap_or(0),
+        second.parse::<u32>().unwrap_or(0),
+    )
+}
+
+fn lawful_told(alloc: Global, answer: Result<(), Unlawful>) -> Result<String, AllocError> {
+    match answer {
+        Ok(()) => String::from_str(alloc, "lawful"),
+        Err(unlawful) => format!(in alloc; "{} {:?}", unlawful.grant, unlawful.rule),
+    }
+}
+
+fn groups_told(alloc: Global, parts: &Partitions) -> Result<String, AllocError> {
+    let mut out = format!(in alloc; "{} offers", parts.offers().len())?;
+    for part in 0..parts.count() {
+        out.push_str("; ")?;
+        nodes_told(&mut out, parts.nodes_of(part).as_slice())?;
+    }
+    Ok(out)
+}
+
+fn available_told(
+    alloc: Global,
+    inst: &Instance,
+    part: u32,
+    slot: u32,
+) -> Result<String, AllocError>
+    requires { IsSound (space inst.now) }
+{
+    let parts = find_partitions(alloc, inst)?;
+    if parts.count() <= part {
+        return String::from_str(alloc, "no such partition");
+    }
+    format!(in alloc; "{}", available(inst, &parts, part, slot))
+}
+
+fn within_told(alloc: Global, inst: &Instance, part: u32, set: u32) -> Result<String, AllocError>
+    requires { IsSound (space inst.now) }
+{
+    let parts = find_partitions(alloc, inst)?;
+    if inst.sets.len() <= set {
+        return String::from_str(alloc, "no such set");
+    }
+    format!(in alloc; "{} {:?}", parts.in_set(part, set), parts.parts_in(set))
+}
+
+/// What is told of an instance: `free NODE SLOT`, `tops`, `total GRANTS`, `lawful GRANTS`, `partitions` with how many jobs have
+/// live leaves, `available PARTITION SLOT`, `within PARTITION SET`, or of its program.
+pub fn told(alloc: Global, inst: &Instance, word: &str, rest: &str) -> Result<String, AllocError>
+    requires { IsSound (space inst.now) }
+{
+    let (first, second) = two_numbers(rest);
+    match word {
+        "free" => format!(in alloc; "{}", free(inst, first, second)),
+        "tops" => {
+            tops_bound_every_lawful_total(inst);
+            format!(in alloc; "{}", tops(inst))
+        }
+        "total" => {
+            let a = grants_in(alloc, rest)?;
+            format!(in alloc; "{}", total(inst, &a))
+        }
+        "lawful" => {
+            let a = grants_in(alloc, rest)?;
+            lawful_told(alloc, lawful(inst, &a))
+        }
+        "partitions" => {
+            let parts = find_partitions(alloc, inst)?;
+            groups_told(alloc, &parts)
+        }
+        "available" => available_told(alloc, inst, first, second),
+        "within" => within_told(alloc, inst, first, second),
+        _ => programs::told(alloc, inst, word, rest),
+    }
+}

@@ -1,0 +1,27 @@
+//! Tries the cases of the tables that its arguments name, on the values of libraries, and prints what differs and how many cases
+//! there were. Tables are as those of tetri_cases; the README lists the kinds of sections. Some cases whose values no text says
+//! stand in the code.
+#![tactic(auto)]
+
+mod cycles;
+mod expressions;
+mod fractions;
+mod grants;
+mod instances;
+mod node_sets;
+mod programs;
+mod runs_of_programs;
+mod table;
+mod unaligned;
+
+use std::{env, fs, io};
+
+fn main(rt: HostRuntime) -> io::Result<()> {
+    for name in env::args(&rt)?.skip(1) {
+        let text = fs::read_to_string(&rt, name.as_str())?;
+        let tally = table::judge(rt.alloc(), text.as_str())?;
+        print!(rt; "{}", tally.differences)?;
+        println!(rt; "{name}: {} cases", tally.cases)?;
+    }
+    Ok(())
+}

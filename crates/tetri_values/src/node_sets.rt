@@ -1,0 +1,63 @@
+// Sets of nodes up to their limit.
+ghost use Rattle.std.specs.Prelude.{◌≡◌, ◌∷◌, [], ◌<◌, IfOk};
+
+use std::alloc::{AllocError, Global};
+use tetri_cluster::{NodeSet, Sets};
+use tetri_tables::Tally;
+
+fn pair(alloc: Global, first: u32, second: u32) -> Result<NodeSet, AllocError>
+    ensures { IfOk result (λ set. set ≡ first ∷ second ∷ []) }
+{
+    let mut set = NodeSet::new(alloc);
+    set.push(first)?;
+    set.push(second)?;
+    Ok(set)
+}
+
+// What a set of two nodes answers.
+fn found(alloc: Global, sets: &mut Sets, first: u32, second: u32) -> Result<String, AllocError> {
+    if second <= first {
+        return String::from_str(alloc, "not ascending");
+    }
+    let answer = sets.find_or_add(pair(alloc, first, second)?);
+    format!(in alloc; "{answer:?}")
+}
+
+fn expect_found(
+    alloc: Global,
+    tally: &mut Tally,
+    sets: &mut Sets,
+    first: u32,
+    second: u32,
+    wanted: &str,
+) -> Result<(), AllocError> {
+    let found = found(alloc, sets, first, second)?;
+    tally.expect("a set of two nodes", found.as_str(), wanted)
+}
+
+fn told(alloc: Global, sets: &Sets) -> Result<String, AllocError> {
+    if sets.len() <= 2 {
+        return String::from_str(alloc, "too few");
+    }
+    let nodes = sets.nodes_of(2).as_slice();
+    let (third, fourth) = (sets.holds(2, 3), sets.holds(2, 4));
+    format!(in alloc; "{} {nodes:?} {third} {fourth}", sets.len())
+}
+
+/// 4,096 sets of two nodes, one more, and fewer.
+pub fn numbered_sets(alloc: Global, tally: &mut Tally) -> Result<(), AllocError> {
+    let mut sets = Sets::new(alloc);
+    for first in 0..4096u32 {
+        let wanted = format!(in alloc; "Ok({first})")?;
+        expect_found(alloc, tally, &mut sets, first, first + 1, wanted.as_str())?;
+    }
+    expect_found(alloc, tally, &mut sets, 7, 8, "Ok(7)")?;
+    expect_found(alloc, tally, &mut sets, 7, 9, "Err(Full)")?;
+    sets.truncate(5000);
+    let all = told(alloc, &sets)?;
+    tally.expect("all sets", all.as_str(), "4096 [2, 3] true false")?;
+    sets.truncate(3);
+    let fewer = told(alloc, &sets)?;
+    tally.expect("three sets", fewer.as_str(), "3 [2, 3] true false")?;
+    expect_found(alloc, tally, &mut sets, 7, 9, "Ok(3)")
+}
