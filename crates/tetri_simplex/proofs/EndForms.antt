@@ -1,9 +1,8 @@
 -- The ends, as the code forms them.
-use Rattle.std.proofs.Common.{◌≡◌, ℕ, ◌+◌, ◌<◌, ◌≤◌, refl, sym, ap, ◌∙◌, subst, arith, List, [], ◌∷◌, ◌++◌, length, get_or, drop, Bool, true, false, cond, eqb, Option, Some, None, Result, Ok, Err, MatchOption, drop-cons}
+use Rattle.std.proofs.Common.{◌≡◌, ℕ, ◌+◌, ◌<◌, ◌≤◌, refl, sym, ap, ◌∙◌, arith, List, [], ◌∷◌, ◌++◌, length, get_or, drop, Bool, true, false, cond, eqb, Option, Some, None, Result, Ok, Err, MatchOption, drop-cons}
 use Rattle.std.specs.Prelude.{unsigned_abs, ◌<ℤ◌}
 use Prim.Native.Nat.{zero, suc}
 use Rattle.std.proofs.lemmas.Bool.{eqb-true, eq-eqb}
-use Rattle.std.proofs.lemmas.List.{length-map}
 use lib.IntN.{ℤ, pos}
 use lib.Signed.{lt_z}
 use Rattle.tetri_algebra.specs.Integers.{abs_of_positive}

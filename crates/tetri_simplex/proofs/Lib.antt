@@ -1,5 +1,4 @@
 pub mod Signed
-pub mod Sample
 pub mod Numbers
 pub mod Forming
 pub mod Entries

@@ -15,7 +15,6 @@ use Rattle.tetri_num.specs.Frac.{value}
 use Rattle.tetri_simplex.specs.declared.choices.Candidate.{Candidate}
 use Rattle.tetri_simplex.specs.declared.lines.Entry.{Entry}
 use Rattle.tetri_simplex.specs.declared.lines.Line.{Line}
-use Rattle.tetri_simplex.specs.Candidates.{candidate_of}
 use Rattle.tetri_simplex.specs.Choices.{entering_from, has_positive, leaving_from, lesser_place, lesser_ratio}
 use Rattle.tetri_simplex.specs.Sparse.{AreAscending, AreEntries, lines_of, line_of, number_at, number_of, numbers_from, place_at}
 use Rattle.tetri_simplex.specs.Steps.{place_at as the_place, or_place, then_ok}

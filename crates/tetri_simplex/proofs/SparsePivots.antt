@@ -1,7 +1,7 @@
 -- The rows of entries under a pivot.
-use Rattle.std.proofs.Common.{◌≡◌, ℕ, ◌+◌, ◌<◌, ◌≤◌, lit<, refl, sym, ap, ◌∙◌, subst, arith, List, [], ◌∷◌, length, get_or, set, take, map, cond, Bool, true, false, eqb, Option, Some, None, Result, Ok, Err, ⊎_elim}
+use Rattle.std.proofs.Common.{◌≡◌, ℕ, ◌+◌, ◌<◌, ◌≤◌, lit<, refl, sym, ap, ◌∙◌, subst, arith, List, [], ◌∷◌, length, get_or, set, map, cond, Bool, true, false, eqb, Option, Some, None, Result, Ok, Err}
 use Prim.Native.Nat.{zero, suc}
-use Rattle.std.proofs.lemmas.Bool.{cases_lt, eq-eqb, eqb-true, false≢true}
+use Rattle.std.proofs.lemmas.Bool.{eq-eqb, eqb-true, false≢true}
 use Rattle.std.proofs.lemmas.List.{length-map, length-set, map-set, set-get_or, get_or-map, get_or-set_same, get_or-set_other}
 use lib.IntN.{pos, negsuc}
 use Rattle.tetri_algebra.specs.Rational.{ℚ, whole_ℚ}
@@ -10,7 +10,7 @@ use Rattle.tetri_algebra.specs.RingSolver.{nil, minus, ring}
 use Rattle.tetri_num.specs.declared.places.Kind.TheVariants as Kind
 use Rattle.tetri_num.specs.declared.places.Place.{Place}
 use Rattle.tetri_num.specs.declared.fractions.Frac.{Frac}
-use Rattle.tetri_num.specs.Checked.{IsRepresentable, checked_sum, checked_product, checked_quotient}
+use Rattle.tetri_num.specs.Checked.{IsRepresentable, checked_sum, checked_quotient}
 use Rattle.tetri_num.specs.Frac.{value}
 use Rattle.tetri_num.specs.Range.{IsWithin}
 use Rattle.tetri_num.proofs.Fracs.{value_representable}
@@ -21,10 +21,10 @@ use Rattle.tetri_simplex.specs.declared.lines.Entry.{Entry}
 use Rattle.tetri_simplex.specs.declared.lines.Line.{Line}
 use Rattle.tetri_simplex.specs.Faults.{IsFault}
 use Rattle.tetri_simplex.specs.Pivots.{column_of, solved_entry, solved_row, replaced_entry, replaced_row, next_row, pivoted_rows}
-use Rattle.tetri_simplex.specs.Sparse.{AreAscending, AreEntries, AreLines, line_of, lines_of, number_at, number_of, numbers_from, place_at}
+use Rattle.tetri_simplex.specs.Sparse.{AreAscending, AreEntries, AreLines, line_of, lines_of, number_of, numbers_from, place_at}
 use Rattle.tetri_simplex.specs.Steps.{place_at as the_place, or_place, then_ok, each, each_pair}
 use Rattle.tetri_simplex.proofs.SparseRows.{coefficient_get, coefficients_err, coefficients_ok, entry_read, number_absent, number_found, numbers_cleared, numbers_length, pairs_err, pairs_ok}
-use Rattle.tetri_simplex.proofs.SparseWalks.{ArePlaces, Formed, IsWalked, IsZeroElsewhere, formed_before, walk_done, walk_to}
+use Rattle.tetri_simplex.proofs.SparseWalks.{ArePlaces, Formed, IsZeroElsewhere}
 use Rattle.tetri_simplex.proofs.TableRows.{rest_of, rest_next, rest_own, rest_stop, rest_done, other_row, own_row, pivoted_is, pivoted_stop}
 
 -- the solved row's coefficient at place q

@@ -1,9 +1,9 @@
 -- The first rows of entries.
-use Rattle.std.proofs.Common.{◌≡◌, ℕ, ◌+◌, ◌<◌, ◌≤◌, ◌^◌, refl, sym, ap, ◌∙◌, subst, arith, List, [], ◌∷◌, ◌++◌, append_assoc, length, get_or, drop, map, cond, Bool, true, false, eqb, Result, Ok}
+use Rattle.std.proofs.Common.{◌≡◌, ℕ, ◌+◌, ◌<◌, ◌≤◌, ◌^◌, refl, sym, ap, ◌∙◌, subst, arith, List, [], ◌∷◌, ◌++◌, append_assoc, length, get_or, map, cond, Bool, true, false, eqb, Result, Ok}
 use Rattle.std.specs.List.{range_with_len}
 use Prim.Native.Nat.{zero, suc}
 use Rattle.std.proofs.lemmas.Int.{ints}
-use Rattle.std.proofs.lemmas.List.{length-map, length-append}
+use Rattle.std.proofs.lemmas.List.{length-map}
 use Rattle.std.proofs.lemmas.List.FromFn.{length-range_with_len}
 use lib.IntN.{ℤ, pos, negsuc, ◌*ℤ◌, neg_ℤ}
 use Rattle.tetri_algebra.specs.Rational.{ℚ, whole_ℚ}
@@ -11,7 +11,6 @@ use Rattle.tetri_algebra.specs.RationalRing.{zero_ℚ}
 use Rattle.tetri_num.specs.declared.places.Place.{Place}
 use Rattle.tetri_num.specs.Frac.{value}
 use Rattle.tetri_ip.specs.declared.programs.Program.{Program}
-use Rattle.tetri_ip.specs.declared.programs.Row.{Row}
 use Rattle.tetri_ip.specs.declared.programs.Term.{Term}
 use Rattle.tetri_ip.specs.Points.{Bounds, IsFit, IsFitRow, IsInBox, coefficient, column_at, number_at, term_at}
 use Rattle.tetri_ip.proofs.Coefficients.{coefficient_absent, coefficient_at}
@@ -23,9 +22,8 @@ use Rattle.tetri_simplex.specs.Start.{bound_rows, corner, direction, first_rows,
 use Rattle.tetri_simplex.specs.Tables.{Table}
 use Rattle.tetri_simplex.proofs.Entries.{map_push}
 use Rattle.tetri_simplex.proofs.FirstTable.{first_count, map_append, wholes}
-use Rattle.tetri_simplex.proofs.PivotKeeps.{other}
-use Rattle.tetri_simplex.proofs.SparseRows.{coefficients_same, push_other, push_own}
-use Rattle.tetri_simplex.proofs.SparseWalks.{ArePlaces, Formed, formed_entries, formed_push, formed_skip}
+use Rattle.tetri_simplex.proofs.SparseRows.{coefficients_same}
+use Rattle.tetri_simplex.proofs.SparseWalks.{ArePlaces, Formed, formed_entries}
 
 -- a slack's coefficient at a column
 abbrev pub slack_is : List Term → List ℤ → ℕ → Result ℚ Place

@@ -1,8 +1,7 @@
 -- Sparse dictionaries beside their tables.
-use Rattle.std.proofs.Common.{◌≡◌, ℕ, ◌+◌, ◌^◌, ◌<◌, refl, sym, ap, ◌∙◌, subst, List, [], length, get_or, set, cond, true, Option, Some, None, Result, Ok, Err, IfOk, IfSome}
+use Rattle.std.proofs.Common.{◌≡◌, ℕ, ◌+◌, ◌^◌, ◌<◌, sym, ap, ◌∙◌, subst, List, length, get_or, set, true, Option, Some, None, Result, Ok, Err, IfOk, IfSome}
 use Rattle.std.specs.Global.{Vec}
 use Rattle.std.specs.Vec.{with_items}
-use Prim.Native.Nat.{suc}
 use Rattle.std.proofs.lemmas.List.{length-set}
 use Rattle.tetri_algebra.specs.Rational.{ℚ}
 use Rattle.tetri_algebra.specs.RationalRing.{zero_ℚ}
@@ -20,7 +19,7 @@ use Rattle.tetri_simplex.specs.Faults.{IsFault}
 use Rattle.tetri_simplex.specs.Pivots.{pivoted, pivoted_rows}
 use Rattle.tetri_simplex.specs.Sparse.{AreEntries, AreLines, IsSparse, line_of, lines_of, number_of, numbers_from, table_of}
 use Rattle.tetri_simplex.specs.Steps.{then_ok}
-use Rattle.tetri_simplex.specs.Tables.{Table, coefficients_of, constant_of, is_positive, objective_of, row_at}
+use Rattle.tetri_simplex.specs.Tables.{Table, coefficients_of, constant_of, is_positive, row_at}
 use Rattle.tetri_simplex.proofs.Choosing.{coefficient_at}
 use Rattle.tetri_simplex.proofs.FullTables.{items_are}
 use Rattle.tetri_simplex.proofs.SparsePivots.{line_at}

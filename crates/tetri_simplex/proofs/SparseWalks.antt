@@ -1,6 +1,6 @@
 -- Loops that form a row entry by entry, the places between the entries left out.
-use Rattle.std.proofs.Common.{◌≡◌, ℕ, ◌+◌, ◌<◌, ◌≤◌, refl, sym, ap, ◌∙◌, subst, arith, List, [], ◌∷◌, ◌++◌, length, get_or, map, Result, Ok, Err, ◌⊎◌, inl, inr, ⊎_elim}
-use Prim.Native.Nat.{zero, suc}
+use Rattle.std.proofs.Common.{◌≡◌, ℕ, ◌+◌, ◌<◌, ◌≤◌, sym, ap, ◌∙◌, subst, arith, List, [], ◌∷◌, ◌++◌, length, get_or, Result, Ok, ◌⊎◌, inl, inr, ⊎_elim}
+use Prim.Native.Nat.{suc}
 use Rattle.std.proofs.lemmas.Bool.{cases_lt}
 use Rattle.tetri_algebra.specs.Rational.{ℚ}
 use Rattle.tetri_algebra.specs.RationalRing.{zero_ℚ}

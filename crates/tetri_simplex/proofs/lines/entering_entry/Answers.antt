@@ -1,6 +1,4 @@
-use Rattle.std.proofs.Common.{◌≡◌, ◌+◌, ◌<◌, ℕ, Option, length, sym, ap, subst, ◌∙◌, IfSome}
-use Rattle.tetri_algebra.specs.Rational.{ℚ}
-use Rattle.tetri_num.specs.Frac.{value}
+use Rattle.std.proofs.Common.{◌+◌, ◌<◌, Option, length, sym, ap, subst, ◌∙◌, IfSome}
 use Rattle.tetri_simplex.specs.declared.choices.Candidate.{Candidate}
 use Rattle.tetri_simplex.specs.Candidates.{candidate_of}
 use Rattle.tetri_simplex.proofs.Choosing.{positive_not_zero}

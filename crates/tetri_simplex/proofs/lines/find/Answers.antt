@@ -1,4 +1,4 @@
-use Rattle.std.proofs.Common.{◌≡◌, ◌<◌, ◌+◌, ◌-◌, ◌/◌, arith, length, below_more}
+use Rattle.std.proofs.Common.{◌<◌, ◌+◌, ◌-◌, ◌/◌, arith, length, below_more}
 use Rattle.tetri_simplex.specs.Sparse.{place_at}
 use Rattle.tetri_simplex.proofs.SparseRows.{above_from, entry_read}
 use Rattle.tetri_simplex.proofs.lines.find.Goals as goal

@@ -1,4 +1,4 @@
-use Rattle.std.proofs.Common.{◌≡◌, ◌+◌, ◌<◌, ℕ, Option, length, drop, sym, ap, subst, ◌∙◌, arith, IfSome}
+use Rattle.std.proofs.Common.{◌+◌, ◌<◌, ℕ, Option, length, drop, sym, ap, subst, ◌∙◌, arith, IfSome}
 use Rattle.tetri_num.specs.Frac.{value}
 use Rattle.tetri_simplex.specs.declared.lines.Line.{Line}
 use Rattle.tetri_simplex.specs.Choices.{leaving_from}

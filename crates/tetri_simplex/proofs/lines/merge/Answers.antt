@@ -1,4 +1,4 @@
-use Rattle.std.proofs.Common.{◌≡◌, ◌+◌, ◌<◌, refl, sym, ap, ◌∙◌, Ok, Err}
+use Rattle.std.proofs.Common.{refl, ap, ◌∙◌, Ok}
 use Rattle.tetri_algebra.specs.Rational.{ℚ}
 use Rattle.tetri_num.specs.Frac.{value}
 use Rattle.tetri_simplex.proofs.SparsePivots.{merged_at, merged_done, merged_is, merged_stop, merged_zero}

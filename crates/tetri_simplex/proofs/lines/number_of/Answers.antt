@@ -1,4 +1,4 @@
-use Rattle.std.proofs.Common.{◌≡◌, ◌∙◌, sym, ap}
+use Rattle.std.proofs.Common.{◌∙◌, sym, ap}
 use Rattle.tetri_num.specs.Frac.{value}
 use Rattle.tetri_simplex.specs.declared.lines.Entry.{Entry}
 use Rattle.tetri_simplex.proofs.SparseRows.{entry_read, number_absent, number_found}

@@ -1,4 +1,4 @@
-use Rattle.std.proofs.Common.{sym, ap, ◌∙◌}
+use Rattle.std.proofs.Common.{ap, ◌∙◌}
 use Rattle.tetri_algebra.specs.Rational.{ℚ}
 use Rattle.tetri_simplex.proofs.SparsePivots.{lines_fault, lines_pivoted, lines_unsolved, pivot_read, sound_set}
 use Rattle.tetri_simplex.proofs.lines.pivot_lines.Goals as goal

@@ -1,6 +1,5 @@
 use Rattle.std.proofs.Common.{◌≡◌, ◌<◌, ℕ, List, length, refl, sym, ap, subst, ◌∙◌}
 use Rattle.std.specs.Global.{Vec}
-use Rattle.tetri_num.specs.Frac.{value}
 use Rattle.tetri_simplex.specs.declared.lines.Entry.{Entry}
 use Rattle.tetri_simplex.specs.Sparse.{AreEntries, place_at}
 use Rattle.tetri_simplex.proofs.SparsePivots.{found_entry, line_constant, line_done, line_fault, line_stays}

@@ -1,4 +1,4 @@
-use Rattle.std.proofs.Common.{◌≡◌, ◌+◌, ◌<◌, List, length, sym, ap, subst, ◌∙◌, arith}
+use Rattle.std.proofs.Common.{◌+◌, ◌<◌, List, length, sym, ap, subst, ◌∙◌, arith}
 use Rattle.tetri_simplex.specs.declared.lines.Line.{Line}
 use Rattle.tetri_simplex.specs.Pivots.{next_row}
 use Rattle.tetri_simplex.specs.Sparse.{AreLines, line_of, lines_of}

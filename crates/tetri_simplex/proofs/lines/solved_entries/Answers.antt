@@ -1,4 +1,4 @@
-use Rattle.std.proofs.Common.{◌≡◌, ◌<◌, ◌≤◌, length, map, get_or, sym, ap, subst, ◌∙◌, Some, None, Err}
+use Rattle.std.proofs.Common.{◌<◌, ◌≤◌, length, get_or, sym, ap, subst, ◌∙◌, Some, None, Err}
 use Rattle.std.proofs.lemmas.List.{length-map}
 use Rattle.tetri_algebra.specs.Rational.{ℚ}
 use Rattle.tetri_num.specs.declared.places.Kind.TheVariants as Kind

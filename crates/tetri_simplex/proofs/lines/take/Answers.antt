@@ -1,4 +1,4 @@
-use Rattle.std.proofs.Common.{◌≡◌, ◌<◌, ◌≤◌, ℕ, arith, length, sym, ap, ◌∙◌}
+use Rattle.std.proofs.Common.{◌<◌, arith, length, sym, ◌∙◌}
 use Rattle.tetri_simplex.specs.Sparse.{place_at}
 use Rattle.tetri_simplex.proofs.SparseRows.{above_from, entry_read, number_between, number_found}
 use Rattle.tetri_simplex.proofs.lines.take.Goals as goal

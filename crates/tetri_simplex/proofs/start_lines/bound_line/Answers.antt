@@ -1,4 +1,4 @@
-use Rattle.std.proofs.Common.{◌≡◌, ◌∷◌, List, length, map, sym, ap, ◌∙◌}
+use Rattle.std.proofs.Common.{◌∷◌, List, map, ap, ◌∙◌}
 use Rattle.tetri_algebra.specs.Rational.{ℚ, whole_ℚ}
 use Rattle.tetri_num.specs.Frac.{value}
 use Rattle.tetri_simplex.specs.Start.{minus_one_at}

@@ -1,4 +1,4 @@
-use Rattle.std.proofs.Common.{◌≡◌, ◌+◌, ◌<◌, List, length, refl, sym, ap, subst, ◌∙◌, arith, rules, Ok}
+use Rattle.std.proofs.Common.{◌≡◌, ◌+◌, ◌<◌, length, refl, sym, ap, subst, ◌∙◌, arith, rules, Ok}
 use Rattle.std.specs.Global.{Vec}
 use Rattle.std.proofs.lemmas.Int.{to_z-of_z}
 use lib.IntN.{pos, ◌*ℤ◌}

@@ -1,4 +1,4 @@
-use Rattle.std.proofs.Common.{◌≡◌, ◌<◌, ℕ, List, Option, Result, Ok, Err, MatchResult, IfOk, IfSome, length, sym, ap, subst, ◌∙◌, arith}
+use Rattle.std.proofs.Common.{◌≡◌, ◌<◌, ℕ, List, Option, Result, Ok, Err, MatchResult, length, sym, subst, ◌∙◌, arith}
 use Rattle.tetri_algebra.specs.Rational.{ℚ}
 use Rattle.tetri_num.specs.declared.places.Place.{Place}
 use Rattle.tetri_simplex.specs.declared.lines.Entry.{Entry}

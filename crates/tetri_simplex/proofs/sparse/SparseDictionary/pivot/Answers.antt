@@ -1,5 +1,4 @@
-use Rattle.std.proofs.Common.{◌≡◌, ◌+◌, ◌^◌, ◌<◌, List, length, refl, sym, ap, subst, ◌∙◌, arith}
-use Rattle.tetri_algebra.specs.Rational.{ℚ}
+use Rattle.std.proofs.Common.{List, refl, sym, subst, ◌∙◌}
 use Rattle.tetri_simplex.specs.declared.lines.Line.{Line}
 use Rattle.tetri_simplex.specs.Sparse.{AreLines}
 use Rattle.tetri_simplex.proofs.FullTables.{at_place}
