@@ -1,10 +1,9 @@
 //! Times the dual run.
 //!
-//! `tetri_simplex_bench full|sparse SIDE KINDS` runs the program of a square of columns, with limits
-//! for each row and each column of the square, over full tables or over rows of entries. It writes
-//! the multiplier and the sum of the weights of the best point to standard output, and the
-//! nanoseconds of the run to standard error. Without arguments it runs a small program both ways,
-//! and no time is written.
+//! `tetri_simplex_bench SIDE KINDS` runs the program of a square of columns, with limits for each
+//! row and each column of the square. It writes the multiplier and the sum of the weights of the
+//! best point to standard output, and the nanoseconds of the run to standard error. Without
+//! arguments it runs a small program, and no time is written.
 #![tactic(auto)]
 
 ghost use Rattle.std.specs.Prelude.{◌≤◌};
@@ -16,39 +15,23 @@ use std::alloc::Global;
 use std::time::CpuClock;
 use std::{env, io};
 use tetri_ip::{Region, Weight};
-use tetri_simplex::{Full, Outcome, Sparse, run_on};
+use tetri_simplex::{Outcome, dual_run};
 
 fn main(rt: HostRuntime) -> io::Result<()> {
-    let mut sparse = false;
     let mut sizes: [u32; 2] = [3, 3];
-    let mut given = 0;
-    for argument in env::args(&rt)?.skip(1) {
-        let word = argument.as_str();
-        if given == 0 {
-            sparse = word == "sparse";
-        } else {
-            match word.parse::<u32>() {
-                Ok(size) if given <= 2 => sizes[given - 1] = size,
-                _ => eprintln!(rt; "not a size: {argument}")?,
-            }
+    let mut given = false;
+    for (place, argument) in env::args(&rt)?.skip(1).enumerate() {
+        given = true;
+        match argument.as_str().parse::<u32>() {
+            Ok(size) if place < 2 => sizes[place] = size,
+            _ => eprintln!(rt; "not a size: {argument}")?,
         }
-        given = given.saturating_add(1);
     }
     let [side, kinds] = sizes;
     if 1 <= side && side <= 64 && 1 <= kinds && kinds <= 100 {
-        if given == 0 {
-            measure(&rt, rt.alloc(), false, side, kinds, false)?;
-        }
-        measure(
-            &rt,
-            rt.alloc(),
-            sparse || given == 0,
-            side,
-            kinds,
-            given != 0,
-        )
+        measure(&rt, rt.alloc(), side, kinds, given)
     } else {
-        eprintln!(rt; "usage: tetri_simplex_bench full|sparse SIDE KINDS")
+        eprintln!(rt; "usage: tetri_simplex_bench SIDE KINDS")
     }
 }
 
@@ -77,7 +60,6 @@ fn tell(rt: &impl Print, outcome: Outcome) -> io::Result<()> {
 fn measure(
     rt: &(impl CpuClock + Print + Eprint),
     alloc: Global,
-    sparse: bool,
     side: u32,
     kinds: u32,
     timed: bool,
@@ -90,11 +72,7 @@ fn measure(
     let p = square(alloc, side, kinds)?;
     let whole = Region::whole(alloc, &p)?;
     let start = rt.thread_cpu_time()?;
-    let outcome = if sparse {
-        run_on::<Sparse>(alloc, &p, &whole, 0)?
-    } else {
-        run_on::<Full>(alloc, &p, &whole, 0)?
-    };
+    let outcome = dual_run(alloc, &p, &whole, 0)?;
     let end = rt.thread_cpu_time()?;
     tell(rt, outcome)?;
     if timed {
