@@ -28,7 +28,7 @@ more_is : (k : ℕ) → suc k ≡ k + 1
 more_is k = omega arith
 
 -- ---- leaving
-leaving_more : (vs : List ℕ) (k : ℕ) (rows : List (List ℚ)) (best : Option ℕ) → k < length vs → k < length rows →
+pub leaving_more : (vs : List ℕ) (k : ℕ) (rows : List (List ℚ)) (best : Option ℕ) → k < length vs → k < length rows →
     leaving_from vs k (drop k vs) (drop k rows) best
     ≡ leaving_from vs (k + 1) (drop (k + 1) vs) (drop (k + 1) rows) (cond (is_negative (constant_of (get_or rows k []))) (lesser_place vs best k) best)
 leaving_more vs k rows best h g =
@@ -71,7 +71,7 @@ pub coefficient_within : (row : List Frac) (j : ℕ) → j + 1 < length row → 
 coefficient_within [] j h = absurd (omega arith)
 coefficient_within (x ∷ row) j h = let e = length-map row value in omega arith
 
-entering_more : (vs : List ℕ) (i j : ℕ) (cs ds : List ℚ) (best : Option (ℕ × ℚ)) → j < length cs → j < length ds →
+pub entering_more : (vs : List ℕ) (i j : ℕ) (cs ds : List ℚ) (best : Option (ℕ × ℚ)) → j < length cs → j < length ds →
     entering_from vs i j (drop j cs) (drop j ds) best
     ≡ cond (is_positive (get_or cs j zero_ℚ))
     (then_ok (or_place (checked_quotient (neg_ℚ (get_or ds j zero_ℚ)) (get_or cs j zero_ℚ)) Kind.Ratio i j) (λ x. entering_from vs i (j + 1) (drop (j + 1) cs) (drop (j + 1) ds) (lesser_ratio vs best j x)))

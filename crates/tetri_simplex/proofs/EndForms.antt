@@ -1,10 +1,8 @@
 -- The ends, as the code forms them.
-use Rattle.std.proofs.Common.{◌≡◌, ℕ, ◌+◌, ◌<◌, ◌≤◌, refl, sym, ap, ◌∙◌, subst, arith, List, [], ◌∷◌, ◌++◌, length, get_or, drop, Bool, true, false, cond, eqb, Option, Some, None, Result, Ok, Err, MatchOption, drop-cons}
-use Rattle.std.specs.Global.{Vec}
+use Rattle.std.proofs.Common.{◌≡◌, ℕ, ◌+◌, ◌<◌, ◌≤◌, refl, sym, ap, ◌∙◌, arith, List, [], ◌∷◌, ◌++◌, length, get_or, drop, Bool, true, false, cond, eqb, Option, Some, None, Result, Ok, Err, MatchOption, drop-cons}
 use Rattle.std.specs.Prelude.{unsigned_abs, ◌<ℤ◌}
-use Prim.Native.Nat.{suc}
+use Prim.Native.Nat.{zero, suc}
 use Rattle.std.proofs.lemmas.Bool.{eqb-true, eq-eqb}
-use Rattle.std.proofs.lemmas.List.{length-map}
 use lib.IntN.{ℤ, pos}
 use lib.Signed.{lt_z}
 use Rattle.tetri_algebra.specs.Integers.{abs_of_positive}
@@ -20,16 +18,12 @@ use Rattle.tetri_ip.specs.declared.programs.Row.{Row}
 use Rattle.tetri_ip.specs.declared.programs.Weight.{Weight}
 use Rattle.tetri_ip.specs.Points.{Bounds, number_at}
 use Rattle.tetri_ip.specs.Forming.{weigh_answer}
-use Rattle.tetri_simplex.specs.declared.table.Full.{Full}
 use Rattle.tetri_simplex.specs.Ends.{End, past, then_end, common_denominator, whole_weights, when_weighed, weighted_end, weights_of, objective_weights, row_weights, value_at, point_from}
-use Rattle.tetri_simplex.specs.Fractions.{values, rows_of}
-use Rattle.tetri_simplex.specs.Full.{table_of}
+use Rattle.tetri_simplex.specs.Fractions.{values}
 use Rattle.tetri_simplex.specs.Steps.{place_at, or_place, then_ok}
-use Rattle.tetri_simplex.specs.Tables.{coefficients_of, constant_of, objective_of, row_at}
+use Rattle.tetri_simplex.specs.Tables.{Table, coefficients_of, constant_of, objective_of, row_at}
 use Rattle.tetri_simplex.proofs.Forming.{onto, onto_nil, onto_more, drop_past}
-use Rattle.tetri_simplex.proofs.Entries.{value_at_place, map_push}
-use Rattle.tetri_simplex.proofs.FullTables.{row_read, at_place}
-use Rattle.tetri_simplex.proofs.TableRows.{row_of_table}
+use Rattle.tetri_simplex.proofs.Entries.{map_push}
 
 more_is : (k : ℕ) → suc k ≡ k + 1
 more_is k = omega arith
@@ -58,50 +52,48 @@ pub no_denominator : (p : Program) (b : Bounds) (ws : List ℚ) (m : ℕ → ℤ
 no_denominator p b ws m e done ce = ap (λ o. then_end o (λ k. then_end (whole_weights 0 k ws) (λ zs. when_weighed (weigh_answer p b (m k) zs) (done (m k) zs)))) ce
 
 -- ---- the weights of a row of the table
-pub row_weights_are : (p : Program) (t : Full) (i own first : ℕ) (s : Vec Frac) (vs : List ℕ) (row : List Frac) (rows : List Row) (made read : List Frac) → vs ≡ t.nonbasic.items → i < length t.rows.items → i < length t.basic.items → s ≡ get_or t.rows.items i s → row ≡ s.items →
-    own ≡ get_or t.basic.items i own → first ≡ length p.costs.items → rows ≡ p.rows.items → values made ≡ weights_of vs (coefficients_of (values row)) own first rows → read ≡ made → values read ≡ row_weights p (table_of t) i
-row_weights_are p t i own first s vs row rows made read ve h g se re oe fe pe e me =
+pub row_weights_are : (p : Program) (t : Table) (i own first : ℕ) (rows : List Row) (made read : List Frac) → own ≡ get_or t.basic i 0 → first ≡ length p.costs.items → rows ≡ p.rows.items →
+    values made ≡ weights_of t.nonbasic (coefficients_of (row_at t i)) own first rows → read ≡ made → values read ≡ row_weights p t i
+row_weights_are p t i own first rows made read oe fe pe e me =
     ap values me ∙ e
-    ∙ ap (λ us. weights_of us (coefficients_of (values row)) own first rows) ve
-    ∙ ap (λ xs. weights_of t.nonbasic.items (coefficients_of xs) own first rows) (row_read t i i s row refl h se re)
-    ∙ ap (λ v. weights_of t.nonbasic.items (coefficients_of (row_at (table_of t) i)) v first rows) (oe ∙ at_place t.basic.items i own g)
-    ∙ ap (λ v. weights_of t.nonbasic.items (coefficients_of (row_at (table_of t) i)) (get_or t.basic.items i 0) v rows) fe
-    ∙ ap (λ rs. weights_of t.nonbasic.items (coefficients_of (row_at (table_of t) i)) (get_or t.basic.items i 0) (length p.costs.items) rs) pe
+    ∙ ap (λ v. weights_of t.nonbasic (coefficients_of (row_at t i)) v first rows) oe
+    ∙ ap (λ v. weights_of t.nonbasic (coefficients_of (row_at t i)) (get_or t.basic i 0) v rows) fe
+    ∙ ap (λ rs. weights_of t.nonbasic (coefficients_of (row_at t i)) (get_or t.basic i 0) (length p.costs.items) rs) pe
 
-pub objective_weights_are : (p : Program) (t : Full) (k none first : ℕ) (s : Vec Frac) (vs : List ℕ) (row : List Frac) (rows : List Row) (made read : List Frac) → vs ≡ t.nonbasic.items → k ≡ length t.basic.items → length t.basic.items < length t.rows.items → s ≡ get_or t.rows.items k s → row ≡ s.items →
-    none ≡ length p.costs.items + length p.rows.items + length p.costs.items → first ≡ length p.costs.items → rows ≡ p.rows.items → values made ≡ weights_of vs (coefficients_of (values row)) none first rows → read ≡ made → values read ≡ objective_weights p (table_of t)
-objective_weights_are p t k none first s vs row rows made read ve ke h se re ne fe pe e me =
+pub objective_weights_are : (p : Program) (t : Table) (k none first : ℕ) (rows : List Row) (made read : List Frac) → k ≡ length t.basic → none ≡ length p.costs.items + length p.rows.items + length p.costs.items → first ≡ length p.costs.items → rows ≡ p.rows.items →
+    values made ≡ weights_of t.nonbasic (coefficients_of (row_at t k)) none first rows → read ≡ made → values read ≡ objective_weights p t
+objective_weights_are p t k none first rows made read ke ne fe pe e me =
     ap values me ∙ e
-    ∙ ap (λ us. weights_of us (coefficients_of (values row)) none first rows) ve
-    ∙ ap (λ xs. weights_of t.nonbasic.items (coefficients_of xs) none first rows) (row_read t k (length t.basic.items) s row ke h se re)
-    ∙ ap (λ v. weights_of t.nonbasic.items (coefficients_of (objective_of (table_of t))) v first rows) ne
-    ∙ ap (λ v. weights_of t.nonbasic.items (coefficients_of (objective_of (table_of t))) (length p.costs.items + length p.rows.items + length p.costs.items) v rows) fe
-    ∙ ap (λ rs. weights_of t.nonbasic.items (coefficients_of (objective_of (table_of t))) (length p.costs.items + length p.rows.items + length p.costs.items) (length p.costs.items) rs) pe
+    ∙ ap (λ i. weights_of t.nonbasic (coefficients_of (row_at t i)) none first rows) ke
+    ∙ ap (λ v. weights_of t.nonbasic (coefficients_of (objective_of t)) v first rows) ne
+    ∙ ap (λ v. weights_of t.nonbasic (coefficients_of (objective_of t)) (length p.costs.items + length p.rows.items + length p.costs.items) v rows) fe
+    ∙ ap (λ rs. weights_of t.nonbasic (coefficients_of (objective_of t)) (length p.costs.items + length p.rows.items + length p.costs.items) (length p.costs.items) rs) pe
 
 -- ---- the value of a variable
-value_more : (bs : List ℕ) (rows : List (List ℚ)) (v k : ℕ) → k < length bs → k < length rows →
-    value_at (drop k bs) (drop k rows) v ≡ cond (eqb (get_or bs k 0) v) (constant_of (get_or rows k [])) (value_at (drop (k + 1) bs) (drop (k + 1) rows) v)
-value_more bs rows v k h g =
-    ap (λ us. value_at us (drop k rows) v) (drop-cons bs k 0 h)
-    ∙ ap (λ us. value_at (get_or bs k 0 ∷ drop (suc k) bs) us v) (drop-cons rows k [] g)
-    ∙ ap (λ j. cond (eqb (get_or bs k 0) v) (constant_of (get_or rows k [])) (value_at (drop j bs) (drop j rows) v)) (more_is k)
+value_none : (bs : List ℕ) (v : ℕ) → value_at bs [] v ≡ zero_ℚ
+value_none [] v = refl
+value_none (b ∷ bs) v = refl
 
-pub value_found : (bs : List ℕ) (rows : List (Vec Frac)) (v k : ℕ) (r : Vec Frac) (x : Frac) → k < length bs → k < length rows → 0 < length r.items → r ≡ get_or rows k r → get_or bs k 0 ≡ v → x ≡ get_or r.items 0 x →
-    value_at (drop k bs) (drop k (rows_of rows)) v ≡ value x
-value_found bs rows v k r x h g l re e xe =
-    value_more bs (rows_of rows) v k h (subst (λ n. k < n) (sym (length-map rows (λ (y : Vec Frac). values y.items))) g)
-    ∙ ap (λ t. cond t (constant_of (get_or (rows_of rows) k [])) (value_at (drop (k + 1) bs) (drop (k + 1) (rows_of rows)) v)) (eq-eqb (get_or bs k 0) v e)
-    ∙ ap constant_of (row_of_table rows k r g) ∙ ap (λ (y : Vec Frac). constant_of (values y.items)) (sym re) ∙ value_at_place r.items 0 x l xe
+pub value_found : (bs : List ℕ) (rows : List (List ℚ)) (v k : ℕ) → k < length bs → get_or bs k 0 ≡ v → value_at (drop k bs) (drop k rows) v ≡ constant_of (get_or rows k [])
+value_found [] rows v k h e = absurd (omega arith)
+value_found (b ∷ bs) [] v zero h e = refl
+value_found (b ∷ bs) (row ∷ rows) v zero h e = ap (λ t. cond t (constant_of row) (value_at bs rows v)) (eq-eqb b v e)
+value_found (b ∷ bs) [] v (suc k) h e = value_none (drop k bs) v
+value_found (b ∷ bs) (row ∷ rows) v (suc k) h e = value_found bs rows v k (omega arith) e
 
-pub value_other : (bs : List ℕ) (rows : List (Vec Frac)) (v k : ℕ) → k < length bs → k < length rows → (get_or bs k 0 ≡ v → ⊥) →
-    value_at (drop (k + 1) bs) (drop (k + 1) (rows_of rows)) v ≡ value_at (drop k bs) (drop k (rows_of rows)) v
-value_other bs rows v k h g d = by_test (eqb (get_or bs k 0) v) refl
+value_next : (bs : List ℕ) (rows : List (List ℚ)) (v k : ℕ) → k < length bs → (get_or bs k 0 ≡ v → ⊥) → value_at (drop (suc k) bs) (drop (suc k) rows) v ≡ value_at (drop k bs) (drop k rows) v
+value_next [] rows v k h d = absurd (omega arith)
+value_next (b ∷ bs) [] v zero h d = value_none bs v
+value_next (b ∷ bs) (row ∷ rows) v zero h d = by_test (eqb b v) refl
   where
-    by_test : (t : Bool) → eqb (get_or bs k 0) v ≡ t → value_at (drop (k + 1) bs) (drop (k + 1) (rows_of rows)) v ≡ value_at (drop k bs) (drop k (rows_of rows)) v
-    by_test true e = absurd (d (eqb-true (get_or bs k 0) v e))
-    by_test false e =
-        sym (value_more bs (rows_of rows) v k h (subst (λ n. k < n) (sym (length-map rows (λ (y : Vec Frac). values y.items))) g)
-        ∙ ap (λ t. cond t (constant_of (get_or (rows_of rows) k [])) (value_at (drop (k + 1) bs) (drop (k + 1) (rows_of rows)) v)) e)
+    by_test : (t : Bool) → eqb b v ≡ t → value_at bs rows v ≡ cond t (constant_of row) (value_at bs rows v)
+    by_test true e = absurd (d (eqb-true b v e))
+    by_test false e = refl
+value_next (b ∷ bs) [] v (suc k) h d = value_none (drop (suc k) bs) v ∙ sym (value_none (drop k bs) v)
+value_next (b ∷ bs) (row ∷ rows) v (suc k) h d = value_next bs rows v k (omega arith) d
+
+pub value_other : (bs : List ℕ) (rows : List (List ℚ)) (v k : ℕ) → k < length bs → (get_or bs k 0 ≡ v → ⊥) → value_at (drop (k + 1) bs) (drop (k + 1) rows) v ≡ value_at (drop k bs) (drop k rows) v
+value_other bs rows v k h d = ap (λ n. value_at (drop n bs) (drop n rows) v) (sym (more_is k)) ∙ value_next bs rows v k h d
 
 pub value_done : (bs : List ℕ) (rows : List (List ℚ)) (v k : ℕ) → length bs ≤ k → value_at (drop k bs) (drop k rows) v ≡ zero_ℚ
 value_done bs rows v k h = ap (λ us. value_at us (drop k rows) v) (drop_past k bs h)
@@ -155,6 +147,3 @@ point_done bs rows j cs ls us done h = ap (λ xs. onto (values done) (point_from
 
 pub point_init : (bs : List ℕ) (rows : List (List ℚ)) (cs ls us : List ℤ) (done : List Frac) → done ≡ [] → onto (values done) (point_rest bs rows 0 cs ls us) ≡ point_from bs rows 0 cs ls us
 point_init bs rows cs ls us done e = ap (λ zs. onto (values zs) (point_rest bs rows 0 cs ls us)) e ∙ onto_nil (point_rest bs rows 0 cs ls us)
-
-pub moved_is : (bs bs' : List ℕ) (rs rs' : List (Vec Frac)) (v : ℕ) (x : ℚ) → x ≡ value_at bs' (rows_of rs') v → bs' ≡ bs → rs' ≡ rs → x ≡ value_at bs (rows_of rs) v
-moved_is bs bs' rs rs' v x e be re = e ∙ ap (λ us. value_at us (rows_of rs') v) be ∙ ap (λ us. value_at bs (rows_of us) v) re

@@ -13,9 +13,9 @@ use Rattle.tetri_ip.specs.declared.programs.Row.{Row}
 use Rattle.tetri_ip.specs.declared.programs.Term.{Term}
 use Rattle.tetri_ip.specs.Points.{Bounds, IsFit, IsFitRow, IsInBox, number_at, terms_of}
 use Rattle.tetri_ip.proofs.Steps.{terms_of_at, right_of_at}
-use Rattle.tetri_simplex.specs.declared.table.Full.{Full}
+use Rattle.tetri_simplex.specs.declared.full.Full.{Full}
 use Rattle.tetri_simplex.specs.Fractions.{values, rows_of, AreWide}
-use Rattle.tetri_simplex.specs.Full.{IsTableOf, table_of}
+use Rattle.tetri_simplex.specs.Full.{IsShaped, table_of}
 use Rattle.tetri_simplex.specs.Start.{corner, direction, slack_from, slack_row, minus_one_at, bound_rows, objective_row, first_rows, first_table}
 use Rattle.tetri_simplex.specs.Tables.{Table}
 use Rattle.tetri_simplex.proofs.Entries.{map_push}
@@ -29,7 +29,7 @@ append_nil : {B : Type 0} → (ys : List B) → ys ++ [] ≡ ys
 append_nil [] = refl
 append_nil (y ∷ ys) = ap (λ zs. y ∷ zs) (append_nil ys)
 
-map_append : {A B : Type 0} → (f : A → B) (xs ys : List A) → map f (xs ++ ys) ≡ map f xs ++ map f ys
+pub map_append : {A B : Type 0} → (f : A → B) (xs ys : List A) → map f (xs ++ ys) ≡ map f xs ++ map f ys
 map_append f [] ys = refl
 map_append f (x ∷ xs) ys = ap (λ zs. f x ∷ zs) (map_append f xs ys)
 
@@ -122,7 +122,7 @@ first_long p b =
     (long_append (length cs) (map (slack_row cs s) p.rows.items) (bound_rows 0 cs b.lower b.upper) (slacks_long p.rows.items cs s) (bounds_long 0 cs b.lower b.upper))
     (one_more _ _ (length-map cs (λ c. c *ℤ direction c)), tt)
 
-first_count : (p : Program) (b : Bounds) → IsInBox p b → length (first_rows p b) ≡ (length p.rows.items + length p.costs.items) + 1
+pub first_count : (p : Program) (b : Bounds) → IsInBox p b → length (first_rows p b) ≡ (length p.rows.items + length p.costs.items) + 1
 first_count p b i =
     let cs = p.costs.items in
     let s = corner cs b.lower b.upper in
@@ -143,20 +143,16 @@ wide_from n rows rs e h k d l =
     sym (length-map (get_or rows k d).items _) ∙ sym (ap (λ (zs : List ℚ). length zs) (row_of_table rows k d l))
     ∙ ap (λ (zs : List (List ℚ)). length (get_or zs k [])) e ∙ long_at n rs k h (subst (λ m. k < m) (rows_count rows rs e) l)
 
-pub first_shape : (p : Program) (b : Bounds) (t : Full) (n k : ℕ) → IsFit p → IsInBox p b → n ≡ length p.costs.items → k ≡ length p.rows.items + length p.costs.items → t.nonbasic.items ≡ range_with_len 0 n → t.basic.items ≡ range_with_len n k → rows_of t.rows.items ≡ wholes (first_rows p b) → IsTableOf p t
+pub first_shape : (p : Program) (b : Bounds) (t : Full) (n k : ℕ) → IsFit p → IsInBox p b → n ≡ length p.costs.items → k ≡ length p.rows.items + length p.costs.items → t.nonbasic.items ≡ range_with_len 0 n → t.basic.items ≡ range_with_len n k → rows_of t.rows.items ≡ wholes (first_rows p b) → IsShaped t
 first_shape p b t n k fit i ne ke e f g =
     let a : length t.nonbasic.items ≡ length p.costs.items = ap (λ (zs : List ℕ). length zs) e ∙ length-range_with_len 0 n ∙ ne in
     let c : length t.basic.items ≡ length p.rows.items + length p.costs.items = ap (λ (zs : List ℕ). length zs) f ∙ length-range_with_len n k ∙ ke in
     let m : length t.rows.items ≡ (length p.rows.items + length p.costs.items) + 1 = rows_count t.rows.items (first_rows p b) g ∙ first_count p b i in
     record {
-      shape = record {
-        rows = m ∙ ap (λ z. z + 1) (sym c);
-        wide = subst (λ z. AreWide z t.rows.items) (sym a) (wide_from (length p.costs.items) t.rows.items (first_rows p b) g (first_long p b));
-        few_rows = few (length p.rows.items) (length p.costs.items) (length t.rows.items) m fit.few_rows fit.few_columns;
-        few_columns = subst (λ z. z < 2 ^ 31) (sym a) fit.few_columns;
-      };
-      columns = a;
-      places = c;
+      rows = m ∙ ap (λ z. z + 1) (sym c);
+      wide = subst (λ z. AreWide z t.rows.items) (sym a) (wide_from (length p.costs.items) t.rows.items (first_rows p b) g (first_long p b));
+      few_rows = few (length p.rows.items) (length p.costs.items) (length t.rows.items) m fit.few_rows fit.few_columns;
+      few_columns = subst (λ z. z < 2 ^ 31) (sym a) fit.few_columns;
     }
   where
     few : (m n k : ℕ) → k ≡ (m + n) + 1 → m < 2 ^ 31 → n < 2 ^ 31 → k < 2 ^ 32

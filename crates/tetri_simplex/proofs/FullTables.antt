@@ -1,15 +1,19 @@
 -- Steps of the code's tables.
-use Rattle.std.proofs.Common.{◌≡◌, ℕ, ◌<◌, refl, sym, ap, ◌∙◌, arith, List, [], ◌∷◌, ◌++◌, length, get_or, set, take, drop, Option, Some, None, Result, Ok, Err}
+use Rattle.std.proofs.Common.{◌≡◌, ℕ, ◌+◌, ◌<◌, refl, sym, ap, ◌∙◌, arith, List, [], ◌∷◌, ◌++◌, length, get_or, set, take, drop, Option, Some, None, Result, Ok, Err}
 use Rattle.std.specs.Global.{Vec}
 use Prim.Native.Nat.{zero, suc}
 use Rattle.std.specs.Vec.{with_items}
 use Rattle.tetri_algebra.specs.Rational.{ℚ}
+use Rattle.tetri_algebra.specs.RationalRing.{zero_ℚ}
+use Rattle.tetri_num.specs.Frac.{value}
+use Rattle.tetri_simplex.proofs.Choosing.{coefficient_at}
+use Rattle.tetri_simplex.proofs.Entries.{value_at_next}
 use Rattle.tetri_num.specs.declared.fractions.Frac.{Frac}
 use Rattle.tetri_num.specs.declared.places.Place.{Place}
 use Rattle.tetri_simplex.specs.declared.choices.Candidate.{Candidate}
-use Rattle.tetri_simplex.specs.declared.fault.Fault.{Fault}
-use Rattle.tetri_simplex.specs.declared.fault.Fault.TheVariants.{Past, NoMemory}
-use Rattle.tetri_simplex.specs.declared.table.Full.{Full}
+use Rattle.tetri_simplex.specs.declared.fault.PivotFault.{PivotFault}
+use Rattle.tetri_simplex.specs.declared.fault.PivotFault.TheVariants.{Past, NoMemory}
+use Rattle.tetri_simplex.specs.declared.full.Full.{Full}
 use Rattle.tetri_simplex.specs.Candidates.{candidate_of}
 use Rattle.tetri_simplex.specs.Choices.{leaving, leaving_from, entering, entering_from}
 use Rattle.tetri_simplex.specs.Faults.{IsFault}
@@ -41,7 +45,14 @@ entering_is t i k vs r s row objective ve h g ke re oe se de =
     ∙ ap (λ xs. entering_from t.nonbasic.items i 0 (coefficients_of xs) (coefficients_of (values objective)) None) (row_read t i i r row refl h re oe)
     ∙ ap (λ xs. entering_from t.nonbasic.items i 0 (coefficients_of (row_at (table_of t) i)) (coefficients_of xs) None) (row_read t k (length t.basic.items) s objective ke g se de)
 
+pub coefficient_read : (t : Full) (i j : ℕ) (r : Vec Frac) (x : Frac) → i < length t.rows.items → j + 1 < length r.items → r ≡ get_or t.rows.items i r → x ≡ get_or r.items (j + 1) x → value x ≡ get_or (coefficients_of (row_at (table_of t) i)) j zero_ℚ
+coefficient_read t i j r x h g re xe =
+    sym (coefficient_at (row_at (table_of t) i) j ∙ ap (λ (xs : List ℚ). get_or xs (suc j) zero_ℚ) (sym (row_read t i i r r.items refl h re refl)) ∙ value_at_next r.items j x g xe)
+
 -- ---- the pivot
+pub items_are : {A : Type 0} → (v : Vec A) (new : List A) → length new ≡ length v.items → (with_items v new).items ≡ new
+items_are v new h = ap (λ n. take n (new ++ drop (length new) v.items)) (v.ok.0 ∙ sym h) ∙ take_front new (drop (length new) v.items)
+
 rows_written : (v : Vec (Vec Frac)) (new : List (Vec Frac)) → length new ≡ length v.items → (with_items v new).items ≡ new
 rows_written v new h =
     ap (λ n. take n (new ++ drop (length new) v.items)) (v.ok.0 ∙ sym h) ∙ take_front new (drop (length new) v.items)
@@ -59,7 +70,7 @@ pivoted_done t n i j x y old new ne oe e le xe ye =
     ∙ ap (λ v. made x v (rows_of new)) (sym ye)
     ∙ ap (λ rs. made x y (rows_of rs)) (sym (rows_written t.rows new (le ∙ ap length oe)))
 
-pub pivoted_fault : (t : Full) (n i j : ℕ) (old : List (Vec Frac)) (f : Fault) → n ≡ length t.nonbasic.items → old ≡ t.rows.items → IsFault f (pivoted_rows n i j (rows_of old)) → IsFault f (pivoted (table_of t) i j)
+pub pivoted_fault : (t : Full) (n i j : ℕ) (old : List (Vec Frac)) (f : PivotFault) → n ≡ length t.nonbasic.items → old ≡ t.rows.items → IsFault f (pivoted_rows n i j (rows_of old)) → IsFault f (pivoted (table_of t) i j)
 unfolding pivoted
 pivoted_fault t n i j old (Past p) ne oe e =
     ap (λ o. then_ok o (λ rows. Ok (record { nonbasic = set t.nonbasic.items j (get_or t.basic.items i 0); basic = set t.basic.items i (get_or t.nonbasic.items j 0); rows = rows })))

@@ -1,5 +1,4 @@
 pub mod Signed
-pub mod Sample
 pub mod Numbers
 pub mod Forming
 pub mod Entries
@@ -34,3 +33,9 @@ pub mod WeighedForms
 pub mod RunHolds
 pub mod RelaxedPoints
 pub mod EndFacts
+pub mod SparseRows
+pub mod SparseWalks
+pub mod SparsePivots
+pub mod SparseChoices
+pub mod SparseStart
+pub mod SparseTables

@@ -1,17 +1,21 @@
 -- The steps of a run.
-use Rattle.std.proofs.Common.{◌≡◌, ℕ, ◌+◌, ◌-◌, ◌<◌, refl, sym, ap, ◌∙◌, arith, true, false, cond, Option, Some, None, Result, Ok, Err}
+use Rattle.std.proofs.Common.{◌≡◌, ℕ, ◌+◌, ◌-◌, ◌<◌, refl, sym, ap, ◌∙◌, subst, arith, length, get_or, set, true, false, cond, Option, Some, None, Result, Ok, Err}
 use Prim.Native.Nat.{zero, suc}
+use Rattle.std.proofs.lemmas.List.{length-set}
+use Rattle.std.proofs.lemmas.List.FromFn.{length-range_with_len}
+use Rattle.tetri_algebra.specs.Rational.{ℚ}
 use Rattle.tetri_num.specs.declared.places.Place.{Place}
 use Rattle.tetri_ip.specs.declared.programs.Program.{Program}
 use Rattle.tetri_ip.specs.Points.{Bounds}
-use Rattle.tetri_simplex.specs.declared.table.Full.{Full}
 use Rattle.tetri_simplex.specs.Tables.{Table, row_at, coefficients_of}
-use Rattle.tetri_simplex.specs.Choices.{leaving, has_positive}
+use Rattle.tetri_simplex.specs.Choices.{leaving, entering, has_positive}
 use Rattle.tetri_simplex.specs.Ends.{End, past, long, is_cut, cut_end, best_end, empty_end}
-use Rattle.tetri_simplex.specs.Full.{IsTableOf, HasSameShape, table_of}
-use Rattle.tetri_simplex.specs.Machine.{Turn, ends, leaves, turn, by_leaving, next, at_step, run, machine}
+use Rattle.tetri_simplex.specs.Machine.{Turn, ends, leaves, turn, by_leaving, next, by_entering, at_step, run, machine}
+use Rattle.tetri_simplex.specs.Pivots.{pivoted, pivoted_rows}
 use Rattle.tetri_simplex.specs.Start.{first_table}
-use Rattle.tetri_simplex.specs.Turns.{GoesOn}
+use Rattle.tetri_simplex.specs.Steps.{then_ok}
+use Rattle.tetri_simplex.proofs.Forming.{then_ok_is}
+use Rattle.tetri_simplex.specs.Turns.{GoesOn, HasPlaces}
 
 -- ---- what a table comes to
 pub turn_cut : (p : Program) (b : Bounds) (known : ℕ) (t : Table) → is_cut t known ≡ true → ends (cut_end p b t) ≡ turn p b known t
@@ -72,13 +76,49 @@ below_most s h d = omega arith
 pub run_past : (p : Program) (b : Bounds) (known s i : ℕ) (t : Table) (e : Place) → leaves i ≡ turn p b known t → s < 10001 → (s ≡ 10000 → ⊥) → next t i ≡ Err e → at_step s (past e) ≡ run p b known (10000 - s) s t
 run_past p b known s i t e h l d n = sym (run_more p b known s i t (Err e) h (below_most s l d) n)
 
-pub run_goes_on : (p : Program) (b : Bounds) (known s i : ℕ) (t u : Full) → leaves i ≡ turn p b known (table_of t) → s < 10001 → (s ≡ 10000 → ⊥) → next (table_of t) i ≡ Ok (table_of u) → IsTableOf p t → HasSameShape t u → GoesOn p b known s t u
-run_goes_on p b known s i t u h l d n g k =
+-- ---- the places
+first_places : (p : Program) (b : Bounds) → HasPlaces p (first_table p b)
+unfolding first_table
+first_places p b = record { columns = length-range_with_len 0 (length p.costs.items); places = length-range_with_len (length p.costs.items) (length p.rows.items + length p.costs.items) }
+
+pub start_places : (p : Program) (b : Bounds) (t : Table) → t ≡ first_table p b → HasPlaces p t
+start_places p b t e = subst (HasPlaces p) (sym e) (first_places p b)
+
+record SamePlaces (t u : Table) : Type 0 where
+  nonbasic : length u.nonbasic ≡ length t.nonbasic
+  basic : length u.basic ≡ length t.basic
+
+pivoted_places : (t u : Table) (i j : ℕ) → pivoted t i j ≡ Ok u → SamePlaces t u
+unfolding pivoted
+pivoted_places t u i j e =
+    let a = then_ok_is (pivoted_rows (length t.nonbasic) i j t.rows) _ u e in
+    let made : Table = record { nonbasic = set t.nonbasic j (get_or t.basic i 0); basic = set t.basic i (get_or t.nonbasic j 0); rows = a.0 } in
+    let s : made ≡ u = ok_is (Ok made) made u refl a.2 in
+    record {
+      nonbasic = ap (λ (v : Table). length v.nonbasic) (sym s) ∙ length-set t.nonbasic j (get_or t.basic i 0);
+      basic = ap (λ (v : Table). length v.basic) (sym s) ∙ length-set t.basic i (get_or t.nonbasic j 0);
+    }
+  where
+    ok_is : (o : Result Table Place) (v w : Table) → o ≡ Ok v → o ≡ Ok w → v ≡ w
+    ok_is o v w e f = cc
+
+next_places : (t u : Table) (i : ℕ) → next t i ≡ Ok u → SamePlaces t u
+unfolding next
+next_places t u i e = by_found (entering t i) e
+  where
+    by_found : (o : Result (Option (ℕ × ℚ)) Place) → then_ok o (λ found. by_entering t i found) ≡ Ok u → SamePlaces t u
+    by_found (Err x) f = cc
+    by_found (Ok None) f = let s : t ≡ u = cc in record { nonbasic = ap (λ (v : Table). length v.nonbasic) (sym s); basic = ap (λ (v : Table). length v.basic) (sym s) }
+    by_found (Ok (Some x)) f = pivoted_places t u i x.0 f
+
+pub run_goes_on : (p : Program) (b : Bounds) (known s i : ℕ) (t u : Table) → leaves i ≡ turn p b known t → s < 10001 → (s ≡ 10000 → ⊥) → next t i ≡ Ok u → HasPlaces p t → GoesOn p b known s t u
+run_goes_on p b known s i t u h l d n g =
     let m = below_most s l d in
+    let k = next_places t u i n in
     record {
       more = m;
-      table = record { shape = k.shaped; columns = k.nonbasic ∙ g.columns; places = k.basic ∙ g.places };
-      same = run_more p b known s i (table_of t) (Ok (table_of u)) h m n;
+      places = record { columns = k.nonbasic ∙ g.columns; places = k.basic ∙ g.places };
+      same = run_more p b known s i t (Ok u) h m n;
     }
 
 pub machine_is : (p : Program) (b : Bounds) (known : ℕ) (t : Table) → t ≡ first_table p b → run p b known 10000 0 t ≡ machine p b known

@@ -2,8 +2,8 @@
 use Rattle.std.proofs.Common.{◌≡◌, ℕ, ◌+◌, ◌<◌, ◌≤◌, refl, sym, ap, ◌∙◌, subst, arith, List, [], ◌∷◌, ◌++◌, length, get_or, set, take, drop, Result, Ok, Err, cond, eqb, Bool, true, false}
 use Rattle.std.specs.Global.{Vec}
 use Rattle.std.specs.Vec.{with_items}
-use Rattle.tetri_simplex.specs.declared.fault.Fault.{Fault}
-use Rattle.tetri_simplex.specs.declared.fault.Fault.TheVariants.{Past, NoMemory}
+use Rattle.tetri_simplex.specs.declared.fault.PivotFault.{PivotFault}
+use Rattle.tetri_simplex.specs.declared.fault.PivotFault.TheVariants.{Past, NoMemory}
 use Rattle.tetri_simplex.specs.Faults.{IsFault}
 use Prim.Native.Nat.{suc}
 use Rattle.std.proofs.lemmas.Bool.{eqb-true, eq-eqb, false≢true}
@@ -148,7 +148,7 @@ pub leaving_row : (n i j : ℕ) (rows : List (Vec Frac)) (r : Vec Frac) (row : L
     solved_row n i j (get_or (rows_of rows) i []) ≡ o
 leaving_row n i j rows r row o h oe e = ap (solved_row n i j) (row_of_table rows i r h ∙ ap values (sym oe)) ∙ e
 
-pub pivoted_fault : (n i j : ℕ) (rows : List (Vec Frac)) (r : Vec Frac) (row : List Frac) (f : Fault) → i < length rows → row ≡ (get_or rows i r).items → IsFault f (solved_row n i j (values row)) → IsFault f (pivoted_rows n i j (rows_of rows))
+pub pivoted_fault : (n i j : ℕ) (rows : List (Vec Frac)) (r : Vec Frac) (row : List Frac) (f : PivotFault) → i < length rows → row ≡ (get_or rows i r).items → IsFault f (solved_row n i j (values row)) → IsFault f (pivoted_rows n i j (rows_of rows))
 pivoted_fault n i j rows r row (Past p) h oe e = pivoted_stop n i j (rows_of rows) p (leaving_row n i j rows r row (Err p) h oe e)
 pivoted_fault n i j rows r row NoMemory h oe e = tt
 

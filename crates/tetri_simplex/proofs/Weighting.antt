@@ -28,11 +28,9 @@ use Rattle.tetri_ip.specs.declared.programs.Weight.{Weight}
 use Rattle.tetri_ip.specs.Forming.{within}
 use Rattle.tetri_simplex.specs.Fractions.{values}
 use Rattle.tetri_simplex.specs.Steps.{place_at, then_ok}
-use Rattle.tetri_simplex.specs.Tables.{coefficients_of}
 use Rattle.tetri_simplex.specs.Ends.{coefficient_of, weights_of, common_denominator, with_weight, whole_weights}
 use Rattle.tetri_simplex.proofs.Forming.{onto, drop_past}
-use Rattle.tetri_simplex.proofs.Entries.{value_at_place, value_at_next, map_push}
-use Rattle.tetri_simplex.proofs.Choosing.{coefficient_at, coefficient_within}
+use Rattle.tetri_simplex.proofs.Entries.{value_at_place, map_push}
 
 more_is : (k : ℕ) → suc k ≡ k + 1
 more_is k = omega arith
@@ -44,33 +42,33 @@ not_lt_test : (a b : ℕ) → (a < b → ⊥) → nat_lt a b ≡ false
 not_lt_test a b h = grind (arith, nat_tests)
 
 -- ---- a coefficient by its variable
-pub coefficient_next : (nb : List ℕ) (row : List Frac) (v j : ℕ) (t : Bool) → j < length nb → length row ≡ length nb + 1 → eqb (get_or nb j 0) v ≡ t →
-    coefficient_of (drop j nb) (drop j (coefficients_of (values row))) v
-    ≡ cond t (get_or (coefficients_of (values row)) j zero_ℚ) (coefficient_of (drop (j + 1) nb) (drop (j + 1) (coefficients_of (values row))) v)
-coefficient_next nb row v j t h g e =
-    let cs = coefficients_of (values row) in
-    let l : j + 1 < length row = omega arith in
-    ap (λ us. coefficient_of us (drop j cs) v) (drop-cons nb j 0 h)
-    ∙ ap (λ us. coefficient_of (get_or nb j 0 ∷ drop (suc j) nb) us v) (drop-cons cs j zero_ℚ (coefficient_within row j l))
-    ∙ ap (λ z. cond z (get_or cs j zero_ℚ) (coefficient_of (drop (suc j) nb) (drop (suc j) cs) v)) e
-    ∙ ap (λ k. cond t (get_or cs j zero_ℚ) (coefficient_of (drop k nb) (drop k cs) v)) (more_is j)
+coefficient_none : (nb : List ℕ) (v : ℕ) → coefficient_of nb [] v ≡ zero_ℚ
+coefficient_none [] v = refl
+coefficient_none (b ∷ nb) v = refl
 
-pub coefficient_found : (nb : List ℕ) (row : List Frac) (v j : ℕ) (x : Frac) → j < length nb → length row ≡ length nb + 1 → get_or nb j 0 ≡ v → x ≡ get_or row (j + 1) x →
-    coefficient_of (drop j nb) (drop j (coefficients_of (values row))) v ≡ value x
-coefficient_found nb row v j x h g e xe =
-    let l : j + 1 < length row = omega arith in
-    coefficient_next nb row v j true h g (eq-eqb (get_or nb j 0) v e) ∙ coefficient_at (values row) j ∙ value_at_next row j x l xe
+pub coefficient_found : (nb : List ℕ) (cs : List ℚ) (v j : ℕ) → j < length nb → get_or nb j 0 ≡ v → coefficient_of (drop j nb) (drop j cs) v ≡ get_or cs j zero_ℚ
+coefficient_found [] cs v j h e = absurd (omega arith)
+coefficient_found (b ∷ nb) [] v zero h e = refl
+coefficient_found (b ∷ nb) (c ∷ cs) v zero h e = ap (λ t. cond t c (coefficient_of nb cs v)) (eq-eqb b v e)
+coefficient_found (b ∷ nb) [] v (suc j) h e = coefficient_none (drop j nb) v
+coefficient_found (b ∷ nb) (c ∷ cs) v (suc j) h e = coefficient_found nb cs v j (omega arith) e
 
-pub coefficient_other : (nb : List ℕ) (row : List Frac) (v j : ℕ) → j < length nb → length row ≡ length nb + 1 → (get_or nb j 0 ≡ v → ⊥) →
-    coefficient_of (drop (j + 1) nb) (drop (j + 1) (coefficients_of (values row))) v ≡ coefficient_of (drop j nb) (drop j (coefficients_of (values row))) v
-coefficient_other nb row v j h g d = by_test (eqb (get_or nb j 0) v) refl
+coefficient_next : (nb : List ℕ) (cs : List ℚ) (v j : ℕ) → j < length nb → (get_or nb j 0 ≡ v → ⊥) → coefficient_of (drop (suc j) nb) (drop (suc j) cs) v ≡ coefficient_of (drop j nb) (drop j cs) v
+coefficient_next [] cs v j h d = absurd (omega arith)
+coefficient_next (b ∷ nb) [] v zero h d = coefficient_none nb v
+coefficient_next (b ∷ nb) (c ∷ cs) v zero h d = by_test (eqb b v) refl
   where
-    by_test : (t : Bool) → eqb (get_or nb j 0) v ≡ t → coefficient_of (drop (j + 1) nb) (drop (j + 1) (coefficients_of (values row))) v ≡ coefficient_of (drop j nb) (drop j (coefficients_of (values row))) v
-    by_test true e = absurd (d (eqb-true (get_or nb j 0) v e))
-    by_test false e = sym (coefficient_next nb row v j false h g e)
+    by_test : (t : Bool) → eqb b v ≡ t → coefficient_of nb cs v ≡ cond t c (coefficient_of nb cs v)
+    by_test true e = absurd (d (eqb-true b v e))
+    by_test false e = refl
+coefficient_next (b ∷ nb) [] v (suc j) h d = coefficient_none (drop (suc j) nb) v ∙ sym (coefficient_none (drop j nb) v)
+coefficient_next (b ∷ nb) (c ∷ cs) v (suc j) h d = coefficient_next nb cs v j (omega arith) d
 
-pub coefficient_done : (nb : List ℕ) (row : List ℚ) (v j : ℕ) → length nb ≤ j → coefficient_of (drop j nb) (drop j (coefficients_of row)) v ≡ zero_ℚ
-coefficient_done nb row v j h = ap (λ us. coefficient_of us (drop j (coefficients_of row)) v) (drop_past j nb h)
+pub coefficient_other : (nb : List ℕ) (cs : List ℚ) (v j : ℕ) → j < length nb → (get_or nb j 0 ≡ v → ⊥) → coefficient_of (drop (j + 1) nb) (drop (j + 1) cs) v ≡ coefficient_of (drop j nb) (drop j cs) v
+coefficient_other nb cs v j h d = ap (λ k. coefficient_of (drop k nb) (drop k cs) v) (sym (more_is j)) ∙ coefficient_next nb cs v j h d
+
+pub coefficient_done : (nb : List ℕ) (cs : List ℚ) (v j : ℕ) → length nb ≤ j → coefficient_of (drop j nb) (drop j cs) v ≡ zero_ℚ
+coefficient_done nb cs v j h = ap (λ us. coefficient_of us (drop j cs) v) (drop_past j nb h)
 
 -- ---- the weights of a row
 drop_some : {A : Type 0} → (i : ℕ) (xs : List A) → i < length xs → (y : A) × (drop i xs ≡ y ∷ drop (i + 1) xs)

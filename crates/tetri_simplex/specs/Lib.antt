@@ -13,3 +13,4 @@ pub mod Full
 pub mod Turns
 pub mod Certificates
 pub mod Relaxation
+pub mod Sparse

@@ -1,11 +1,10 @@
 -- What the code's steps say of a run.
-use Rattle.std.specs.Prelude.{◌≡◌, ℕ, ◌+◌, ◌-◌, ◌<◌}
+use Rattle.std.specs.Prelude.{◌≡◌, ℕ, ◌+◌, ◌-◌, ◌<◌, length}
 use Rattle.tetri_ip.specs.declared.programs.Program.{Program}
 use Rattle.tetri_ip.specs.Points.{Bounds}
 use Rattle.tetri_simplex.specs.declared.run.Decision as Code
 use Rattle.tetri_simplex.specs.declared.run.Decision.TheVariants.{Ends, Leaves}
-use Rattle.tetri_simplex.specs.declared.table.Full.{Full}
-use Rattle.tetri_simplex.specs.Full.{IsTableOf, table_of}
+use Rattle.tetri_simplex.specs.Tables.{Table}
 use Rattle.tetri_simplex.specs.Machine.{Turn, ends, leaves, run}
 use Rattle.tetri_simplex.specs.Outcomes.{end_of}
 
@@ -18,8 +17,13 @@ abbrev pub LeavesWithin : ℕ → Code.Decision → Type 0
 LeavesWithin n (Ends o) = Unit {0}
 LeavesWithin n (Leaves i) = i < n
 
+-- a place for each column, and one for each row's slack and each column's
+pub record HasPlaces (p : Program) (t : Table) : Type 0 where
+  pub columns : length t.nonbasic ≡ length p.costs.items
+  pub places : length t.basic ≡ length p.rows.items + length p.costs.items
+
 -- the run from the next table, with one more pivot made, ends as that from this one
-pub record GoesOn (p : Program) (b : Bounds) (known step : ℕ) (t u : Full) : Type 0 where
+pub record GoesOn (p : Program) (b : Bounds) (known step : ℕ) (t u : Table) : Type 0 where
   pub more : step < 10000
-  pub table : IsTableOf p u
-  pub same : run p b known (10000 - step) step (table_of t) ≡ run p b known (10000 - (step + 1)) (step + 1) (table_of u)
+  pub places : HasPlaces p u
+  pub same : run p b known (10000 - step) step t ≡ run p b known (10000 - (step + 1)) (step + 1) u

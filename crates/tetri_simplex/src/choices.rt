@@ -13,13 +13,13 @@ use tetri_num::{Frac, Kind, Place};
 
 /// A nonbasic place that may enter, with its ratio.
 #[derive(Clone, Copy)]
-pub(crate) struct Candidate {
-    pub(crate) place: u32,
-    pub(crate) ratio: Frac,
+pub struct Candidate {
+    pub place: u32,
+    pub ratio: Frac,
 }
 
 // The place with the lesser variable, of the best so far and one more.
-fn lesser_place(variables: &[usize], best: Option<u32>, k: u32) -> Option<u32>
+pub(crate) fn lesser_place(variables: &[usize], best: Option<u32>, k: u32) -> Option<u32>
     requires place { k < length variables.now }
     requires best { IfSome best (λ b. b < length variables.now) }
     ensures value { result ≡ lesser_place variables.now best k }
@@ -69,7 +69,7 @@ pub(crate) fn has_positive(row: &[Frac]) -> bool
 
 // The candidate with the lesser ratio, at a tie with the lesser variable, of the best so far and
 // one more.
-fn lesser_ratio(
+pub(crate) fn lesser_ratio(
     variables: &[usize],
     best: Option<Candidate>,
     k: u32,

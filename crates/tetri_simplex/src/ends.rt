@@ -11,14 +11,14 @@ ghost use Rattle.tetri_ip.specs.Forming.{weigh_answer};
 ghost use Rattle.tetri_simplex.specs.Ends.{End, past, when_weighed, weighted_end, objective_weights, row_weights, cut_end, best_end, empty_end};
 ghost use Rattle.tetri_simplex.specs.Faults.{EndsPast};
 ghost use Rattle.tetri_simplex.specs.Fractions.{values};
-ghost use Rattle.tetri_simplex.specs.Full.{IsTableOf, table_of};
 ghost use Rattle.tetri_simplex.specs.Outcomes.{end_of};
 ghost use Rattle.tetri_simplex.specs.Steps.{place_at};
+ghost use Rattle.tetri_simplex.specs.Turns.{HasPlaces};
 
-use crate::fault::Fault;
+use crate::dictionary::Dictionary;
+use crate::fault::PivotFault;
 use crate::outcome::Outcome;
 use crate::point::point_of;
-use crate::table::Full;
 use crate::weights::{common_denominator, row_weights, whole_weights};
 use std::alloc::Global;
 use tetri_ip::{ColumnIndex, Program, Region, WeighFault, Weight, weigh_by};
@@ -63,7 +63,7 @@ fn weighted(
     r: &Region,
     fractions: &[Frac],
     has_objective: bool,
-) -> Result<Weighing, Fault>
+) -> Result<Weighing, PivotFault>
     requires fit { IsFit p.now }
     requires in_box { IsInBox p.now (bounds_of r.now) }
     requires index { IsIndexOf p.now index.now }
@@ -74,7 +74,7 @@ fn weighted(
 {
     let denominator = match common_denominator(fractions) {
         Ok(denominator) => denominator,
-        Err(place) => return Err(Fault::Past(place)),
+        Err(place) => return Err(PivotFault::Past(place)),
     };
     let weights = match whole_weights(alloc, denominator, fractions) {
         Ok(weights) => weights,
@@ -83,7 +83,7 @@ fn weighted(
     let q = if has_objective { denominator } else { 0 };
     match past_column(index, p, r, q, &weights) {
         None => Ok(Weighing { q, weights }),
-        Some(column) => Err(Fault::Past(Place {
+        Some(column) => Err(PivotFault::Past(Place {
             kind: Kind::Weigh,
             step: 0,
             row: 0,
@@ -93,120 +93,124 @@ fn weighted(
 }
 
 // The weights that the objective's row gives.
-fn objective_weighted(
+fn objective_weighted<D: Dictionary>(
     alloc: Global,
     index: &ColumnIndex,
     p: &Program,
     r: &Region,
-    t: &Full,
-) -> Result<Weighing, Fault>
+    d: &D,
+) -> Result<Weighing, PivotFault>
     requires fit { IsFit p.now }
     requires in_box { IsInBox p.now (bounds_of r.now) }
     requires index { IsIndexOf p.now index.now }
-    requires table { IsTableOf p.now t.now }
+    requires sound { D.is_sound d.now }
+    requires places { HasPlaces p.now (D.table d.now) }
     ensures { (done : ℤ → List Weight → End) →
-        let end = weighted_end p.now (bounds_of r.now) (objective_weights p.now (table_of t.now)) pos done in
+        let end = weighted_end p.now (bounds_of r.now) (objective_weights p.now (D.table d.now)) pos done in
         MatchResult result (λ w. end ≡ done w.q w.weights.items) (λ e. EndsPast e end) }
 {
     let first = p.costs.len();
     let none = first + p.rows.len() + first;
-    let row = &t.rows[t.basic.len()];
-    match row_weights(alloc, &t.nonbasic, row, none, first, &p.rows) {
+    let row = (p.rows.len() + first) as u32;
+    match row_weights(alloc, d, row, none, first, &p.rows) {
         Ok(fractions) => weighted(alloc, index, p, r, &fractions, true),
-        Err(_) => Err(Fault::NoMemory),
+        Err(_) => Err(PivotFault::NoMemory),
     }
 }
 
 // The weights that the row at place i gives.
-fn row_weighted(
+fn row_weighted<D: Dictionary>(
     alloc: Global,
     index: &ColumnIndex,
     p: &Program,
     r: &Region,
-    t: &Full,
+    d: &D,
     i: u32,
-) -> Result<Weighing, Fault>
+) -> Result<Weighing, PivotFault>
     requires fit { IsFit p.now }
     requires in_box { IsInBox p.now (bounds_of r.now) }
     requires index { IsIndexOf p.now index.now }
-    requires table { IsTableOf p.now t.now }
-    requires place { i < length t.now.basic.items }
+    requires sound { D.is_sound d.now }
+    requires places { HasPlaces p.now (D.table d.now) }
+    requires place { i < length (D.table d.now).basic }
     ensures { (done : ℤ → List Weight → End) →
-        let end = weighted_end p.now (bounds_of r.now) (row_weights p.now (table_of t.now) i) (λ _. pos 0) done in
+        let end = weighted_end p.now (bounds_of r.now) (row_weights p.now (D.table d.now) i) (λ _. pos 0) done in
         MatchResult result (λ w. end ≡ done w.q w.weights.items) (λ e. EndsPast e end) }
 {
-    let own = t.basic[i as usize];
-    let row = &t.rows[i as usize];
-    match row_weights(alloc, &t.nonbasic, row, own, p.costs.len(), &p.rows) {
+    let own = d.basic()[i as usize];
+    match row_weights(alloc, d, i, own, p.costs.len(), &p.rows) {
         Ok(fractions) => weighted(alloc, index, p, r, &fractions, false),
-        Err(_) => Err(Fault::NoMemory),
+        Err(_) => Err(PivotFault::NoMemory),
     }
 }
 
 /// The end where nothing is better than the best objective known.
-pub(crate) fn cut_end(
+pub(crate) fn cut_end<D: Dictionary>(
     alloc: Global,
     index: &ColumnIndex,
     p: &Program,
     r: &Region,
-    t: &Full,
-) -> Result<Outcome, Fault>
+    d: &D,
+) -> Result<Outcome, PivotFault>
     requires fit { IsFit p.now }
     requires in_box { IsInBox p.now (bounds_of r.now) }
     requires index { IsIndexOf p.now index.now }
-    requires table { IsTableOf p.now t.now }
-    ensures { let end = cut_end p.now (bounds_of r.now) (table_of t.now) in
+    requires sound { D.is_sound d.now }
+    requires places { HasPlaces p.now (D.table d.now) }
+    ensures { let end = cut_end p.now (bounds_of r.now) (D.table d.now) in
         MatchResult result (λ o. end_of o ≡ end) (λ e. EndsPast e end) }
 {
-    match objective_weighted(alloc, index, p, r, t) {
+    match objective_weighted(alloc, index, p, r, d) {
         Ok(Weighing { q, weights }) => Ok(Outcome::Cut { q, weights }),
         Err(fault) => Err(fault),
     }
 }
 
 /// The end where no constant is below 0.
-pub(crate) fn best_end(
+pub(crate) fn best_end<D: Dictionary>(
     alloc: Global,
     index: &ColumnIndex,
     p: &Program,
     r: &Region,
-    t: &Full,
-) -> Result<Outcome, Fault>
+    d: &D,
+) -> Result<Outcome, PivotFault>
     requires fit { IsFit p.now }
     requires in_box { IsInBox p.now (bounds_of r.now) }
     requires index { IsIndexOf p.now index.now }
-    requires table { IsTableOf p.now t.now }
-    ensures { let end = best_end p.now (bounds_of r.now) (table_of t.now) in
+    requires sound { D.is_sound d.now }
+    requires places { HasPlaces p.now (D.table d.now) }
+    ensures { let end = best_end p.now (bounds_of r.now) (D.table d.now) in
         MatchResult result (λ o. end_of o ≡ end) (λ e. EndsPast e end) }
 {
-    let point = match point_of(alloc, p, r, t) {
+    let point = match point_of(alloc, p, r, d) {
         Ok(point) => point,
         Err(fault) => return Err(fault),
     };
-    match objective_weighted(alloc, index, p, r, t) {
+    match objective_weighted(alloc, index, p, r, d) {
         Ok(Weighing { q, weights }) => Ok(Outcome::Best { point, q, weights }),
         Err(fault) => Err(fault),
     }
 }
 
 /// The end where the leaving row at place i has no coefficient above 0.
-pub(crate) fn empty_end(
+pub(crate) fn empty_end<D: Dictionary>(
     alloc: Global,
     index: &ColumnIndex,
     p: &Program,
     r: &Region,
-    t: &Full,
+    d: &D,
     i: u32,
-) -> Result<Outcome, Fault>
+) -> Result<Outcome, PivotFault>
     requires fit { IsFit p.now }
     requires in_box { IsInBox p.now (bounds_of r.now) }
     requires index { IsIndexOf p.now index.now }
-    requires table { IsTableOf p.now t.now }
-    requires place { i < length t.now.basic.items }
-    ensures { let end = empty_end p.now (bounds_of r.now) (table_of t.now) i in
+    requires sound { D.is_sound d.now }
+    requires places { HasPlaces p.now (D.table d.now) }
+    requires place { i < length (D.table d.now).basic }
+    ensures { let end = empty_end p.now (bounds_of r.now) (D.table d.now) i in
         MatchResult result (λ o. end_of o ≡ end) (λ e. EndsPast e end) }
 {
-    match row_weighted(alloc, index, p, r, t, i) {
+    match row_weighted(alloc, index, p, r, d, i) {
         Ok(Weighing { q: _, weights }) => Ok(Outcome::Empty { weights }),
         Err(fault) => Err(fault),
     }

@@ -3,43 +3,43 @@
 use std::alloc::{AllocError, AllocFailed};
 use tetri_num::Place;
 
-/// Why a part of a run is not formed.
+/// Why a pivot, or another part of a run, is not formed.
 #[derive(Clone, Copy, Debug, PartialEq, Eq)]
-pub(crate) enum Fault {
-    /// A number left the range at this place, whose step is not yet filled in.
+pub enum PivotFault {
+    /// A number left the range at this place, whose step is given as 0.
     Past(Place),
     NoMemory,
 }
 
-impl From<Place> for Fault {
+impl From<Place> for PivotFault {
     ghost use Rattle.std.specs.Prelude.{◌≡◌};
-    ghost use Rattle.tetri_simplex.specs.declared.fault.Fault.TheVariants as fault;
+    ghost use Rattle.tetri_simplex.specs.declared.fault.PivotFault.TheVariants as fault;
 
     ghost from_gives = { λ p e. e ≡ fault.Past p };
 
     fn from(place: Place) -> Self {
-        Fault::Past(place)
+        PivotFault::Past(place)
     }
 }
 
-impl From<AllocError> for Fault {
+impl From<AllocError> for PivotFault {
     ghost use Rattle.std.specs.Prelude.{◌≡◌};
-    ghost use Rattle.tetri_simplex.specs.declared.fault.Fault.TheVariants as fault;
+    ghost use Rattle.tetri_simplex.specs.declared.fault.PivotFault.TheVariants as fault;
 
     ghost from_gives = { λ _ e. e ≡ fault.NoMemory };
 
     fn from(_: AllocError) -> Self {
-        Fault::NoMemory
+        PivotFault::NoMemory
     }
 }
 
-impl<T: Drop> From<AllocFailed<T>> for Fault {
+impl<T: Drop> From<AllocFailed<T>> for PivotFault {
     ghost use Rattle.std.specs.Prelude.{◌≡◌};
-    ghost use Rattle.tetri_simplex.specs.declared.fault.Fault.TheVariants as fault;
+    ghost use Rattle.tetri_simplex.specs.declared.fault.PivotFault.TheVariants as fault;
 
     ghost from_gives = { λ _ e. e ≡ fault.NoMemory };
 
     fn from(_: AllocFailed<T>) -> Self {
-        Fault::NoMemory
+        PivotFault::NoMemory
     }
 }

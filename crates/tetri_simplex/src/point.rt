@@ -1,4 +1,4 @@
-//! The point of a table: each column's value where the nonbasic variables are 0.
+//! The point of a dictionary: each column's value where the nonbasic variables are 0.
 
 ghost use Rattle.std.specs.Prelude.{◌≡◌, ◌<◌, ◌^◌, length, cond, pos, Ok, None, Some, MatchOption, MatchResult};
 ghost use lib.Signed.{lt_z};
@@ -9,24 +9,26 @@ ghost use Rattle.tetri_num.specs.Range.{IsWithin};
 ghost use Rattle.tetri_ip.specs.Points.{IsFit, IsInBox, bounds_of};
 ghost use Rattle.tetri_simplex.specs.Ends.{value_at, point_from};
 ghost use Rattle.tetri_simplex.specs.Faults.{IsFault};
-ghost use Rattle.tetri_simplex.specs.Fractions.{values, rows_of, AreWide};
-ghost use Rattle.tetri_simplex.specs.Full.{IsTableOf};
+ghost use Rattle.tetri_simplex.specs.Fractions.{values};
+ghost use Rattle.tetri_simplex.specs.Turns.{HasPlaces};
 
-use crate::fault::Fault;
-use crate::table::Full;
+use crate::dictionary::Dictionary;
+use crate::fault::PivotFault;
 use std::alloc::Global;
 use tetri_ip::{Program, Region};
 use tetri_num::{Frac, Kind, Place};
 
 // The value of a variable: the constant of its row, and 0 where it is nonbasic.
-fn value_at(columns: u32, basic: &[usize], rows: &[Vec<Frac>], variable: usize) -> Frac
-    requires wide { AreWide columns rows.now }
-    requires enough { length basic.now < length rows.now }
-    ensures { value result ≡ value_at basic.now (rows_of rows.now) variable }
+fn value_at<D: Dictionary>(d: &D, columns: u32, variable: usize) -> Frac
+    requires sound { D.is_sound d.now }
+    requires columns { columns ≡ length (D.table d.now).nonbasic }
+    requires few { length (D.table d.now).basic < 2 ^ 32 }
+    ensures { value result ≡ value_at (D.table d.now).basic (D.table d.now).rows variable }
 {
+    let basic = d.basic();
     for k in 0..basic.len() {
         if basic[k] == variable {
-            return rows[k][0];
+            return d.at(k as u32, columns);
         }
     }
     Frac::whole(0)
@@ -52,20 +54,26 @@ fn coordinate(cost: i128, lower: i128, upper: i128, moved: Frac) -> Option<Frac>
     }
 }
 
-/// The point of a table.
-pub(crate) fn point_of(alloc: Global, p: &Program, r: &Region, t: &Full) -> Result<Vec<Frac>, Fault>
+/// The point of a dictionary.
+pub(crate) fn point_of<D: Dictionary>(
+    alloc: Global,
+    p: &Program,
+    r: &Region,
+    d: &D,
+) -> Result<Vec<Frac>, PivotFault>
     requires fit { IsFit p.now }
     requires in_box { IsInBox p.now (bounds_of r.now) }
-    requires table { IsTableOf p.now t.now }
-    ensures { let point = point_from t.now.basic.items (rows_of t.now.rows.items) 0 p.now.costs.items r.now.lower.items r.now.upper.items in
+    requires sound { D.is_sound d.now }
+    requires places { HasPlaces p.now (D.table d.now) }
+    ensures { let point = point_from (D.table d.now).basic (D.table d.now).rows 0 p.now.costs.items r.now.lower.items r.now.upper.items in
         MatchResult result (λ v. point ≡ Ok (values v.items)) (λ e. IsFault e point) }
 {
     let columns = p.costs.len() as u32;
     let mut point = Vec::new(alloc);
     for j in 0..p.costs.len() {
-        let moved = value_at(columns, &t.basic, &t.rows, j);
+        let moved = value_at(d, columns, j);
         let Some(x) = coordinate(p.costs[j], r.lower[j], r.upper[j], moved) else {
-            return Err(Fault::Past(Place {
+            return Err(PivotFault::Past(Place {
                 kind: Kind::Point,
                 step: 0,
                 row: 0,

@@ -9,7 +9,7 @@ ghost use Rattle.tetri_simplex.specs.Steps.{each};
 ghost use Rattle.tetri_simplex.specs.Pivots.{column_of, solved_row, replaced_entry, replaced_row, next_row, pivoted_rows};
 ghost use Rattle.tetri_simplex.specs.Faults.{IsFault};
 
-use crate::fault::Fault;
+use crate::fault::PivotFault;
 use crate::fractions::{is_zero, negated};
 use std::alloc::Global;
 use tetri_num::{Frac, Kind, Place};
@@ -32,7 +32,13 @@ fn entry_with(row: &[Frac], j: u32, other: Frac, k: usize) -> Frac
 }
 
 // The row at place i, solved for its variable at place j.
-fn solved_row(alloc: Global, columns: u32, row: &[Frac], i: u32, j: u32) -> Result<Vec<Frac>, Fault>
+fn solved_row(
+    alloc: Global,
+    columns: u32,
+    row: &[Frac],
+    i: u32,
+    j: u32,
+) -> Result<Vec<Frac>, PivotFault>
     requires wide { length row.now ≡ columns + 1 }
     requires place { j < columns }
     requires pivot { (get_or (values row.now) (suc j) zero_ℚ).num ≢ pos 0 }
@@ -46,7 +52,7 @@ fn solved_row(alloc: Global, columns: u32, row: &[Frac], i: u32, j: u32) -> Resu
     for k in 0..row.len() {
         let old = entry_with(row, j, minus_one, k);
         let Ok(new) = negated(old).div(pivot) else {
-            return Err(Fault::Past(Place {
+            return Err(PivotFault::Past(Place {
                 kind: Kind::Row,
                 step: 0,
                 row: i,
@@ -60,7 +66,14 @@ fn solved_row(alloc: Global, columns: u32, row: &[Frac], i: u32, j: u32) -> Resu
 
 // x + a * y, for entry k of row i. A product or a sum with 0 never leaves the range.
 #[inline]
-fn replaced_entry(columns: u32, i: u32, a: Frac, k: usize, x: Frac, y: Frac) -> Result<Frac, Place>
+pub(crate) fn replaced_entry(
+    columns: u32,
+    i: u32,
+    a: Frac,
+    k: usize,
+    x: Frac,
+    y: Frac,
+) -> Result<Frac, Place>
     requires { k ≤ columns }
     ensures { let entry = replaced_entry columns i (value a) k (value x) (value y) in
         MatchResult result (λ z. entry ≡ Ok (value z)) (λ e. entry ≡ Err e) }
@@ -140,7 +153,7 @@ pub(crate) fn pivot_rows(
     rows: &mut [Vec<Frac>],
     i: u32,
     j: u32,
-) -> Result<(), Fault>
+) -> Result<(), PivotFault>
     requires wide { AreWide columns rows.old }
     requires few { length rows.old < 2 ^ 32 }
     requires row { i < length rows.old }
@@ -159,6 +172,6 @@ pub(crate) fn pivot_rows(
             rows[i as usize] = solved;
             Ok(())
         }
-        Err(place) => Err(Fault::Past(place)),
+        Err(place) => Err(PivotFault::Past(place)),
     }
 }

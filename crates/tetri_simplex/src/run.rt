@@ -1,23 +1,21 @@
-//! The run of the method: the dual simplex method (Lemke, 1954) over bounded columns, by full
-//! tables of exact fractions (Chvátal, Linear Programming, 1983).
+//! The run of the method: the dual simplex method (Lemke, 1954) over bounded columns, by
+//! dictionaries of exact fractions (Chvátal, Linear Programming, 1983).
 
-ghost use Rattle.std.specs.Prelude.{◌≡◌, ◌+◌, ◌-◌, ◌<◌, length, MatchResult, IfOk, IfSome, IfNone};
+ghost use Rattle.std.specs.Prelude.{◌≡◌, ◌+◌, ◌-◌, ◌<◌, length, Ok, MatchResult, IfOk, IfSome, IfNone};
 ghost use Rattle.tetri_ip.specs.ColumnIndex.{IsIndexOf};
 ghost use Rattle.tetri_ip.specs.Points.{IsFit, IsInBox, bounds_of};
 ghost use Rattle.tetri_simplex.specs.Certificates.{Certifies};
 ghost use Rattle.tetri_simplex.specs.Ends.{End, is_cut};
-ghost use Rattle.tetri_simplex.specs.Faults.{EndsPast};
-ghost use Rattle.tetri_simplex.specs.Full.{IsShaped, IsTableOf, table_of};
-ghost use Rattle.tetri_simplex.specs.Machine.{ends, turn, at_step, run, machine};
+ghost use Rattle.tetri_simplex.specs.Faults.{EndsPast, IsFault};
+ghost use Rattle.tetri_simplex.specs.Machine.{ends, turn, next, at_step, run, machine};
 ghost use Rattle.tetri_simplex.specs.Outcomes.{end_of};
-ghost use Rattle.tetri_simplex.specs.Turns.{turn_of, LeavesWithin, GoesOn};
+ghost use Rattle.tetri_simplex.specs.Turns.{turn_of, HasPlaces, LeavesWithin, GoesOn};
 
-use crate::choices::has_positive;
+use crate::dictionary::Dictionary;
 use crate::ends::{best_end, cut_end, empty_end};
-use crate::fault::Fault;
+use crate::fault::PivotFault;
 use crate::outcome::Outcome;
-use crate::start::first_table;
-use crate::table::Full;
+use crate::sparse::Sparse;
 use std::alloc::{AllocError, Global};
 use tetri_ip::{ColumnIndex, Program, Region};
 use tetri_num::Place;
@@ -34,51 +32,71 @@ enum Decision {
 }
 
 // A table's end.
-fn ended(outcome: Result<Outcome, Fault>) -> Result<Decision, AllocError>
+fn ended(outcome: Result<Outcome, PivotFault>) -> Result<Decision, AllocError>
     ensures formed { (e : End) → MatchResult outcome (λ o. end_of o ≡ e) (λ f. EndsPast f e) →
         IfOk result (λ u. turn_of u ≡ ends e) }
     ensures leaves { IfOk result (λ u. LeavesWithin 0 u) }
 {
     match outcome {
         Ok(end) => Ok(Decision::Ends(end)),
-        Err(Fault::Past(place)) => Ok(Decision::Ends(Outcome::Past(place))),
-        Err(Fault::NoMemory) => Err(AllocError),
+        Err(PivotFault::Past(place)) => Ok(Decision::Ends(Outcome::Past(place))),
+        Err(PivotFault::NoMemory) => Err(AllocError),
     }
 }
 
 // Whether the floor of the objective's constant is at most the best objective known.
-fn is_cut(t: &Full, known: u64) -> bool
-    requires { IsShaped t.now }
-    ensures { result ≡ is_cut (table_of t.now) known }
+fn is_cut<D: Dictionary>(p: &Program, known: u64, d: &D) -> bool
+    requires fit { IsFit p.now }
+    requires sound { D.is_sound d.now }
+    requires places { HasPlaces p.now (D.table d.now) }
+    ensures { result ≡ is_cut (D.table d.now) known }
 {
-    t.rows[t.basic.len()][0].floor() <= known as i128
+    let columns = p.costs.len();
+    let objective = d.at((p.rows.len() + columns) as u32, columns as u32);
+    objective.floor() <= known as i128
 }
 
-fn turn(
+fn turn<D: Dictionary>(
     alloc: Global,
     index: &ColumnIndex,
     p: &Program,
     r: &Region,
     known: u64,
-    t: &Full,
+    d: &D,
 ) -> Result<Decision, AllocError>
     requires fit { IsFit p.now }
     requires in_box { IsInBox p.now (bounds_of r.now) }
     requires index { IsIndexOf p.now index.now }
-    requires table { IsTableOf p.now t.now }
-    ensures formed { IfOk result (λ u. turn_of u ≡ turn p.now (bounds_of r.now) known (table_of t.now)) }
-    ensures leaves { IfOk result (λ u. LeavesWithin (length t.now.basic.items) u) }
+    requires sound { D.is_sound d.now }
+    requires places { HasPlaces p.now (D.table d.now) }
+    ensures formed { IfOk result (λ u. turn_of u ≡ turn p.now (bounds_of r.now) known (D.table d.now)) }
+    ensures leaves { IfOk result (λ u. LeavesWithin (length (D.table d.now).basic) u) }
 {
-    if is_cut(t, known) {
-        return ended(cut_end(alloc, index, p, r, t));
+    if is_cut(p, known, d) {
+        return ended(cut_end(alloc, index, p, r, d));
     }
-    let Some(i) = t.leaving() else {
-        return ended(best_end(alloc, index, p, r, t));
+    let Some(i) = d.leaving() else {
+        return ended(best_end(alloc, index, p, r, d));
     };
-    if has_positive(&t.rows[i as usize]) {
+    if d.rises(i) {
         Ok(Decision::Leaves(i))
     } else {
-        ended(empty_end(alloc, index, p, r, t, i))
+        ended(empty_end(alloc, index, p, r, d, i))
+    }
+}
+
+// The pivot on the leaving place i.
+fn pivot_out<D: Dictionary>(alloc: Global, d: &mut D, i: u32) -> Result<(), PivotFault>
+    requires sound { D.is_sound d.old }
+    requires row { i < length (D.table d.old).basic }
+    ensures formed { let next = next (D.table d.old) i in
+        MatchResult result (λ _. next ≡ Ok (D.table d.new)) (λ e. IsFault e next) }
+    ensures sound { IfOk result (λ _. D.is_sound d.new) }
+{
+    match d.entering(i) {
+        Ok(Some(found)) => d.pivot(alloc, i, found.place),
+        Ok(None) => Ok(()),
+        Err(place) => Err(PivotFault::Past(place)),
     }
 }
 
@@ -98,24 +116,26 @@ fn at_step(outcome: Outcome, step: u32) -> Outcome
 }
 
 // One step of a run: how it ends, or the next table.
-fn advance(
+fn advance<D: Dictionary>(
     alloc: Global,
     index: &ColumnIndex,
     p: &Program,
     r: &Region,
     known: u64,
     step: u32,
-    t: &mut Full,
+    d: &mut D,
 ) -> Result<Option<Outcome>, AllocError>
     requires fit { IsFit p.now }
     requires in_box { IsInBox p.now (bounds_of r.now) }
     requires index { IsIndexOf p.now index.now }
-    requires table { IsTableOf p.now t.old }
+    requires sound { D.is_sound d.old }
+    requires places { HasPlaces p.now (D.table d.old) }
     requires step { step < 10001 }
-    ensures ended { IfOk result (λ o. IfSome o (λ x. end_of x ≡ run p.now (bounds_of r.now) known (10000 - step) step (table_of t.old))) }
-    ensures goes_on { IfOk result (λ o. IfNone o (GoesOn p.now (bounds_of r.now) known step t.old t.new)) }
+    ensures ended { IfOk result (λ o. IfSome o (λ x. end_of x ≡ run p.now (bounds_of r.now) known (10000 - step) step (D.table d.old))) }
+    ensures goes_on { IfOk result (λ o. IfNone o (GoesOn p.now (bounds_of r.now) known step (D.table d.old) (D.table d.new))) }
+    ensures sound { IfOk result (λ o. IfNone o (D.is_sound d.new)) }
 {
-    let i = match turn(alloc, index, p, r, known, t) {
+    let i = match turn(alloc, index, p, r, known, d) {
         Ok(Decision::Ends(outcome)) => return Ok(Some(at_step(outcome, step))),
         Ok(Decision::Leaves(i)) => i,
         Err(_) => return Err(AllocError),
@@ -123,11 +143,52 @@ fn advance(
     if step == MOST_PIVOTS {
         return Ok(Some(Outcome::Long));
     }
-    match t.pivot_out(alloc, i) {
+    match pivot_out(alloc, d, i) {
         Ok(()) => Ok(None),
-        Err(Fault::Past(place)) => Ok(Some(at_step(Outcome::Past(place), step))),
-        Err(Fault::NoMemory) => Err(AllocError),
+        Err(PivotFault::Past(place)) => Ok(Some(at_step(Outcome::Past(place), step))),
+        Err(PivotFault::NoMemory) => Err(AllocError),
     }
+}
+
+// The run over dictionaries of one kind, with the program's index.
+fn run_by<D: Dictionary>(
+    alloc: Global,
+    index: &ColumnIndex,
+    p: &Program,
+    r: &Region,
+    best: u64,
+) -> Result<Outcome, AllocError>
+    requires fit { IsFit p.now }
+    requires in_box { IsInBox p.now (bounds_of r.now) }
+    requires index { IsIndexOf p.now index.now }
+    ensures ends { IfOk result (λ o. end_of o ≡ machine p.now (bounds_of r.now) best) }
+    ensures certified { IfOk result (λ o. Certifies p.now (bounds_of r.now) best (end_of o)) }
+{
+    let mut dictionary = D::start(alloc, p, r)?;
+    let mut step = 0;
+    loop {
+        match advance(alloc, index, p, r, best, step, &mut dictionary) {
+            Ok(Some(outcome)) => return Ok(outcome),
+            Ok(None) => step += 1,
+            Err(_) => return Err(AllocError),
+        }
+    }
+}
+
+/// [`dual_run`] over dictionaries of one kind.
+pub fn run_on<D: Dictionary>(
+    alloc: Global,
+    p: &Program,
+    r: &Region,
+    best: u64,
+) -> Result<Outcome, AllocError>
+    requires fit { IsFit p.now }
+    requires in_box { IsInBox p.now (bounds_of r.now) }
+    ensures ends { IfOk result (λ o. end_of o ≡ machine p.now (bounds_of r.now) best) }
+    ensures certified { IfOk result (λ o. Certifies p.now (bounds_of r.now) best (end_of o)) }
+{
+    let index = ColumnIndex::new(alloc, p)?;
+    run_by::<D>(alloc, &index, p, r, best)
 }
 
 /// [`dual_run`] with the program's index, which a caller of many runs makes once.
@@ -144,26 +205,17 @@ pub fn dual_run_by(
     ensures ends { IfOk result (λ o. end_of o ≡ machine p.now (bounds_of r.now) best) }
     ensures certified { IfOk result (λ o. Certifies p.now (bounds_of r.now) best (end_of o)) }
 {
-    let mut table = first_table(alloc, p, r)?;
-    let mut step = 0;
-    loop {
-        match advance(alloc, index, p, r, best, step, &mut table) {
-            Ok(Some(outcome)) => return Ok(outcome),
-            Ok(None) => step += 1,
-            Err(_) => return Err(AllocError),
-        }
-    }
+    run_by::<Sparse>(alloc, index, p, r, best)
 }
 
 /// Runs the dual simplex method over the program's region, with the best objective known, and
 /// says how it ends: the least variable leaves and enters, and at most 10,000 pivots are made.
-/// The end's weights certify what it says of the region ([`ends_certify`](crate::ends_certify)).
+/// Its dictionaries are sparse. The end's weights certify what it says of the region ([`ends_certify`](crate::ends_certify)).
 pub fn dual_run(alloc: Global, p: &Program, r: &Region, best: u64) -> Result<Outcome, AllocError>
     requires fit { IsFit p.now }
     requires in_box { IsInBox p.now (bounds_of r.now) }
     ensures ends { IfOk result (λ o. end_of o ≡ machine p.now (bounds_of r.now) best) }
     ensures certified { IfOk result (λ o. Certifies p.now (bounds_of r.now) best (end_of o)) }
 {
-    let index = ColumnIndex::new(alloc, p)?;
-    dual_run_by(alloc, &index, p, r, best)
+    run_on::<Sparse>(alloc, p, r, best)
 }

@@ -10,16 +10,20 @@ ghost use Rattle.tetri_num.specs.Frac.{value};
 ghost use Rattle.tetri_num.specs.Range.{IsWithin};
 ghost use Rattle.tetri_ip.specs.Points.{IsFit, IsFitRow, IsInBox, bounds_of, coefficient, left_side, number_at};
 ghost use Rattle.tetri_simplex.specs.Fractions.{values, rows_of};
-ghost use Rattle.tetri_simplex.specs.Full.{IsTableOf, table_of};
+ghost use Rattle.tetri_simplex.specs.Full.{IsShaped, table_of};
 ghost use Rattle.tetri_simplex.specs.Start.{IsStart, corner, direction, start_at, slack_from, slack_row, minus_one_at, bound_rows, objective_row, first_table};
 
-use crate::table::Full;
+use crate::full::Full;
 use std::alloc::{AllocError, Global};
 use tetri_ip::{Program, Region, Row, coefficient_of, left_side};
 use tetri_num::Frac;
 
 // The numbers from `first` on.
-fn numbers_from(alloc: Global, first: usize, count: usize) -> Result<Vec<usize>, AllocError>
+pub(crate) fn numbers_from(
+    alloc: Global,
+    first: usize,
+    count: usize,
+) -> Result<Vec<usize>, AllocError>
     requires { first + count < 2 ^ 63 }
     ensures { IfOk result (λ v. v.items ≡ range_with_len first count) }
 {
@@ -38,7 +42,7 @@ fn start_at(cost: i128, lower: i128, upper: i128) -> i128
 }
 
 // Where the columns start.
-fn corner(alloc: Global, p: &Program, r: &Region) -> Result<Vec<i128>, AllocError>
+pub(crate) fn corner(alloc: Global, p: &Program, r: &Region) -> Result<Vec<i128>, AllocError>
     requires fit { IsFit p.now }
     requires in_box { IsInBox p.now (bounds_of r.now) }
     ensures corner { IfOk result (λ v. v.items ≡ corner p.now.costs.items r.now.lower.items r.now.upper.items) }
@@ -52,7 +56,7 @@ fn corner(alloc: Global, p: &Program, r: &Region) -> Result<Vec<i128>, AllocErro
 }
 
 // The number times what a column's variable adds to the column.
-fn directed(by: i128, cost: i128) -> i128
+pub(crate) fn directed(by: i128, cost: i128) -> i128
     requires { IsWithin by }
     ensures value { result ≡ by *ℤ direction cost }
     ensures within { IsWithin result }
@@ -61,7 +65,7 @@ fn directed(by: i128, cost: i128) -> i128
 }
 
 // The constant of a row's slack.
-fn slack_at(p: &Program, row: &Row, start: &[i128]) -> i128
+pub(crate) fn slack_at(p: &Program, row: &Row, start: &[i128]) -> i128
     requires row { IsFitRow p.now row.now.terms.items row.now.right }
     requires start { IsStart p.now start.now }
     ensures value { result ≡ row.now.right -ℤ left_side row.now.terms.items start.now }
@@ -120,7 +124,7 @@ fn bound_row(alloc: Global, p: &Program, j: usize, width: i128) -> Result<Vec<Fr
 }
 
 // The objective where the columns start.
-fn objective_at(p: &Program, start: &[i128]) -> i128
+pub(crate) fn objective_at(p: &Program, start: &[i128]) -> i128
     requires fit { IsFit p.now }
     requires start { IsStart p.now start.now }
     ensures value { result ≡ dot ℤ_ring p.now.costs.items start.now }
@@ -163,7 +167,7 @@ fn slack_rows(alloc: Global, p: &Program, start: &[i128]) -> Result<Vec<Vec<Frac
 }
 
 // The width of a column's bounds.
-fn width_at(p: &Program, r: &Region, j: usize) -> i128
+pub(crate) fn width_at(p: &Program, r: &Region, j: usize) -> i128
     requires fit { IsFit p.now }
     requires in_box { IsInBox p.now (bounds_of r.now) }
     requires column { j < length p.now.costs.items }
@@ -195,7 +199,7 @@ pub(crate) fn first_table(alloc: Global, p: &Program, r: &Region) -> Result<Full
     requires fit { IsFit p.now }
     requires in_box { IsInBox p.now (bounds_of r.now) }
     ensures table { IfOk result (λ t. table_of t ≡ first_table p.now (bounds_of r.now)) }
-    ensures shape { IfOk result (λ t. IsTableOf p.now t) }
+    ensures shape { IfOk result (λ t. IsShaped t) }
 {
     let start = corner(alloc, p, r)?;
     let slacks = slack_rows(alloc, p, &start)?;

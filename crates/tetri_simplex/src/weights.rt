@@ -1,6 +1,6 @@
 //! The weights that a row of a table gives the program's rows: the simplex multipliers.
 
-ghost use Rattle.std.specs.Prelude.{◌≡◌, ℕ, ◌+◌, ◌<◌, ◌^◌, length, pos, ◌<ℤ◌, ◌*ℤ◌, Ok, Err, IfOk, IfSome, MatchResult, All, unsigned_abs, cond, ◌==◌};
+ghost use Rattle.std.specs.Prelude.{◌≡◌, ℕ, ◌+◌, ◌<◌, ◌≤◌, ◌^◌, length, pos, ◌<ℤ◌, ◌*ℤ◌, Ok, Err, IfOk, IfSome, MatchResult, All, unsigned_abs, cond, ◌==◌};
 ghost use Rattle.tetri_algebra.specs.Rational.{whole_ℚ};
 ghost use Rattle.tetri_algebra.specs.RationalRing.{neg_ℚ};
 ghost use Rattle.tetri_num.specs.Frac.{value};
@@ -9,59 +9,67 @@ ghost use Rattle.tetri_ip.specs.ColumnIndex.{WeightsAscend};
 ghost use Rattle.tetri_ip.specs.Forming.{within};
 ghost use Rattle.tetri_simplex.specs.Fractions.{values};
 ghost use Rattle.tetri_simplex.specs.Faults.{IsFault};
-ghost use Rattle.tetri_simplex.specs.Tables.{coefficients_of};
+ghost use Rattle.tetri_simplex.specs.Tables.{coefficients_of, row_at};
 ghost use Rattle.tetri_simplex.specs.Ends.{coefficient_of, weights_of, common_denominator, whole_weights};
 
-use crate::fault::Fault;
+use crate::dictionary::Dictionary;
+use crate::fault::PivotFault;
 use crate::fractions::negated;
 use std::alloc::{AllocError, Global};
 use tetri_ip::{Row, Weight};
 use tetri_num::{Frac, Kind, Place, lcm};
 
-// The coefficient of a variable in a row, by the variables of the nonbasic places: 0 where it is
-// basic.
-fn coefficient_of(nonbasic: &[usize], row: &[Frac], variable: usize) -> Frac
-    requires { length row.now ≡ length nonbasic.now + 1 }
-    ensures { value result ≡ coefficient_of nonbasic.now (coefficients_of (values row.now)) variable }
+// The coefficient of a variable in a row: 0 where it is basic.
+fn coefficient_of<D: Dictionary>(d: &D, row: u32, variable: usize) -> Frac
+    requires sound { D.is_sound d.now }
+    requires row { row ≤ length (D.table d.now).basic }
+    requires few { length (D.table d.now).nonbasic < 2 ^ 31 }
+    ensures { value result ≡ coefficient_of (D.table d.now).nonbasic (coefficients_of (row_at (D.table d.now) row)) variable }
 {
+    let nonbasic = d.nonbasic();
     for j in 0..nonbasic.len() {
         if nonbasic[j] == variable {
-            return row[j + 1];
+            return d.at(row, j as u32);
         }
     }
     Frac::whole(0)
 }
 
 // The weight of a variable in a row whose own variable has the weight 1.
-fn weight_of(nonbasic: &[usize], row: &[Frac], own: usize, variable: usize) -> Frac
-    requires { length row.now ≡ length nonbasic.now + 1 }
-    ensures { let coefficient = coefficient_of nonbasic.now (coefficients_of (values row.now)) variable in
+fn weight_of<D: Dictionary>(d: &D, row: u32, own: usize, variable: usize) -> Frac
+    requires sound { D.is_sound d.now }
+    requires row { row ≤ length (D.table d.now).basic }
+    requires few { length (D.table d.now).nonbasic < 2 ^ 31 }
+    ensures { let coefficient = coefficient_of (D.table d.now).nonbasic (coefficients_of (row_at (D.table d.now) row)) variable in
         value result ≡ cond (own == variable) (whole_ℚ (pos 1)) (neg_ℚ coefficient) }
 {
     if own == variable {
         return Frac::whole(1);
     }
-    negated(coefficient_of(nonbasic, row, variable))
+    negated(coefficient_of(d, row, variable))
 }
 
 /// The weights of the slacks of the program's rows, which are counted from `first` on, in a row
-/// of a table whose own variable is `own`.
-pub(crate) fn row_weights(
+/// of a dictionary whose own variable is `own`.
+pub(crate) fn row_weights<D: Dictionary>(
     alloc: Global,
-    nonbasic: &[usize],
-    row: &[Frac],
+    d: &D,
+    row: u32,
     own: usize,
     first: usize,
     rows: &[Row],
 ) -> Result<Vec<Frac>, AllocError>
-    requires row { length row.now ≡ length nonbasic.now + 1 }
+    requires sound { D.is_sound d.now }
+    requires row { row ≤ length (D.table d.now).basic }
+    requires few { length (D.table d.now).nonbasic < 2 ^ 31 }
     requires small { first + length rows.now < 2 ^ 63 }
-    ensures weights { IfOk result (λ v. values v.items ≡ weights_of nonbasic.now (coefficients_of (values row.now)) own first rows.now) }
+    ensures weights { IfOk result (λ v. values v.items ≡
+        weights_of (D.table d.now).nonbasic (coefficients_of (row_at (D.table d.now) row)) own first rows.now) }
     ensures count { IfOk result (λ v. length v.items ≡ length rows.now) }
 {
     let mut weights = Vec::new(alloc);
     for i in 0..rows.len() {
-        let weight = weight_of(nonbasic, row, own, first + i);
+        let weight = weight_of(d, row, own, first + i);
         weights.push(weight)?;
     }
     Ok(weights)
@@ -104,7 +112,11 @@ fn product(a: i128, b: i128) -> Option<i128>
 }
 
 /// `q` times each weight, without zeros.
-pub(crate) fn whole_weights(alloc: Global, q: i128, weights: &[Frac]) -> Result<Vec<Weight>, Fault>
+pub(crate) fn whole_weights(
+    alloc: Global,
+    q: i128,
+    weights: &[Frac],
+) -> Result<Vec<Weight>, PivotFault>
     requires few { length weights.now < 2 ^ 32 }
     requires positive { pos 0 <ℤ q }
     requires within { IsWithin q }
@@ -117,7 +129,7 @@ pub(crate) fn whole_weights(alloc: Global, q: i128, weights: &[Frac]) -> Result<
     for i in 0..weights.len() {
         let weight = weights[i];
         let Some(by) = product(weight.num, q / weight.den) else {
-            return Err(Fault::Past(Place {
+            return Err(PivotFault::Past(Place {
                 kind: Kind::Lcm,
                 step: 0,
                 row: i as u32,

@@ -2,7 +2,7 @@ use Rattle.std.proofs.Common.{◌≡◌, ◌+◌, List, ◌∙◌, arith, length
 use lib.IntN.{ℤ}
 use Rattle.tetri_algebra.specs.Rational.{whole_ℚ}
 use Rattle.tetri_ip.specs.Points.{bounds_of}
-use Rattle.tetri_simplex.specs.declared.table.Full.{Full}
+use Rattle.tetri_simplex.specs.declared.full.Full.{Full}
 use Rattle.tetri_simplex.specs.Fractions.{rows_of}
 use Rattle.tetri_simplex.specs.Start.{first_rows, objective_row}
 use Rattle.tetri_simplex.proofs.FirstTable.{wholes, rows_are, first_is, first_shape}
