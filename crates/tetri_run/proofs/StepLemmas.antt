@@ -442,3 +442,10 @@ pub end_refused : (t : Scenario) (c : Checking) (p : Progress) (content : List �
 end_refused t c p content offset (faults.Malformed number) at past ends Comes goes =
     goes (Err (number, Malformed)) (comes_to_end t c content offset (Err (number, Malformed)) past (refl, subst (λ r. end_answer r ≡ Err number) at.reading ends))
 end_refused t c p content offset faults.NoMemory at past ends Comes goes = tt
+
+-- a line that refuses ends the check of further lines
+pub line_ends : (t : Scenario) (c : Checking) (new : Progress) (line : List ℕ) (rest : List (List ℕ)) (h : CheckHalt) → AnswersLine {U = Unit {0}} (Err h) t c new line →
+    (Comes : Result ℕ (ℕ × Why) → Type 0) → ((outcome : Result ℕ (ℕ × Why)) → ComesTo t c (line ∷ rest) outcome → Comes outcome) → AnswersReport (Err h) Comes
+line_ends t c new line rest (Refused number why) refused Comes goes = goes (Err (number, why)) (inl refused)
+line_ends t c new line rest ReadFault refused Comes goes = tt
+line_ends t c new line rest NoMemory refused Comes goes = tt

@@ -1,13 +1,13 @@
-use Rattle.std.proofs.Common.{◌<◌, ◌≤◌, ◌∙◌, drop, length, map, ap, inr, subst, sym, arith}
+use Rattle.std.proofs.Common.{ℕ, List, ◌<◌, ◌≤◌, ◌∙◌, drop, length, map, ap, inr, subst, sym, arith}
 use Rattle.std.specs.Prelude.{Ok, Err}
 use Rattle.tetri_io.specs.Line.{IsLineAt, IsPlacedAfter}
-use Rattle.tetri_io.specs.Lines.{line_of}
+use Rattle.tetri_io.specs.Lines.{line_of, lines_from}
 use Rattle.tetri_io.specs.declared.line.Line.TheVariants.{Text}
 use Rattle.tetri_trace.specs.Scenario.{scenario}
 use Rattle.tetri_run.specs.Check.{ComesTo, IsPassed, lines_in, unchecked}
-use Rattle.tetri_run.specs.Checked.{AnswersReport}
+use Rattle.tetri_run.specs.Checked.{AnswersLine, AnswersReport}
 use Rattle.tetri_run.specs.declared.why.Why.TheVariants.{LineTooLong}
-use Rattle.tetri_run.proofs.StepLemmas.{comes_to_end, comes_too_long, end_accepted, end_refused, passed_lines}
+use Rattle.tetri_run.proofs.StepLemmas.{comes_to_end, comes_too_long, end_accepted, end_refused, line_ends, passed_lines}
 use Rattle.tetri_run.proofs.check.check_report.Goals as goal
 
 pub lines-preserved : goal.lines-preserved
@@ -55,3 +55,17 @@ returns-clause-answer g c = λ content told.
     subst (λ h. AnswersReport (Err h) (ComesTo t unchecked (lines_in content))) (sym c.halt_of.ensures)
     (end_refused t inv.checking c.lines.progress content c.lines.offset c.in-Err-finish.fault inv.at past c.in-Err-finish.ensures (ComesTo t unchecked (lines_in content))
     (λ outcome comes. inv.rest content told outcome comes))
+
+pub returns-in-Err-clause-answer : goal.returns-in-Err-clause-answer
+returns-in-Err-clause-answer g c = λ content told.
+    let t = scenario c.args.trace.now in
+    let inv = c.lines.invariant in
+    let bytes = c.in-Ok-Text.bytes.items in
+    let next = c.in-Ok-Text.next in
+    let new = c.check_line.new.progress in
+    let at : IsLineAt 1048576 c.lines.offset content bytes next = rw c.in-Ok-Text.field-0-is at (c.in-Ok-Text.ensures.line content (ap (λ f. f c.args.name.now) inv.same ∙ told)) in
+    let rest : List (List ℕ) = map (λ (l : List ℕ × ℕ). l.0) (lines_from next (drop next content)) in
+    line_ends t inv.checking new bytes rest c.in-Err.halt
+    (subst (λ l. AnswersLine {U = Unit {0}} (Err c.in-Err.halt) t inv.checking new l) c.deref.ensures.value (c.in-Err.ensures inv.checking inv.at))
+    (ComesTo t unchecked (lines_in content))
+    (λ outcome comes. inv.rest content told outcome (subst (λ ls. ComesTo t inv.checking (map (λ l. l.0) ls) outcome) (sym at.lines) comes))
