@@ -1,5 +1,5 @@
 // Programs of instances: what they say, their points, their trees and their dual runs.
-ghost use Rattle.tetri_ip.specs.Points.{IsFit};
+ghost use Rattle.tetri_ip.specs.Points.{IsFit, IsInBox, bounds_of};
 ghost use Rattle.tetri_space.specs.Sound.{IsSound};
 ghost use Rattle.tetri_space.specs.Space.{space};
 
@@ -11,7 +11,7 @@ use tetri_cert::{Mark, Walk, bound, objective_at, read_mark};
 use tetri_compile::{Compiled, compile, counts_of, size};
 use tetri_ip::{Program, Region, Weight, holds_point};
 use tetri_num::{Frac, Past};
-use tetri_simplex::{Outcome, dual_run};
+use tetri_simplex::{Full, Outcome, Sparse, dual_run, run_on};
 use tetri_space::{Instance, Partitions, find_partitions};
 
 fn weights_told(out: &mut String, weights: &[Weight]) -> Result<(), AllocError> {
@@ -71,6 +71,20 @@ fn best_told(alloc: Global, p: &Program, outcome: Outcome) -> Result<String, All
         Ok(worth) => format!(in alloc; "best {}/{}", worth.num, worth.den),
         Err(_) => String::from_str(alloc, "past"),
     }
+}
+
+/// How a dual run over a region ends, whatever holds its dictionaries: the three runs where they differ.
+pub fn run_told(alloc: Global, p: &Program, r: &Region, best: u64) -> Result<String, AllocError>
+    requires fit { IsFit p.now }
+    requires in_box { IsInBox p.now (bounds_of r.now) }
+{
+    let run = outcome_told(alloc, dual_run(alloc, p, r, best)?)?;
+    let full = outcome_told(alloc, run_on::<Full>(alloc, p, r, best)?)?;
+    let sparse = outcome_told(alloc, run_on::<Sparse>(alloc, p, r, best)?)?;
+    if run.as_str() == full.as_str() && run.as_str() == sparse.as_str() {
+        return Ok(run);
+    }
+    format!(in alloc; "{run}, full {full}, sparse {sparse}")
 }
 
 fn row_told(alloc: Global, p: &Program, row: usize) -> Result<String, AllocError> {
@@ -179,7 +193,7 @@ fn of_program(alloc: Global, c: &Compiled, word: &str, rest: &str) -> Result<Str
         "dual" => {
             let whole = Region::whole(alloc, &c.program)?;
             let best = rest.parse::<u64>().unwrap_or(0);
-            outcome_told(alloc, dual_run(alloc, &c.program, &whole, best)?)
+            run_told(alloc, &c.program, &whole, best)
         }
         "relaxed" => {
             let whole = Region::whole(alloc, &c.program)?;

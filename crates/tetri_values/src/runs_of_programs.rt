@@ -2,10 +2,9 @@
 ghost use Rattle.std.specs.Prelude.{◌≡◌, length, IfOk};
 ghost use Rattle.tetri_ip.specs.Points.{IsFit, IsInBox, bounds_of};
 
-use crate::programs::outcome_told;
+use crate::programs::run_told;
 use std::alloc::{AllocError, Global};
 use tetri_ip::{ColumnIndex, Program, Region, Row, Term, Weight, holds_point, weigh, weigh_by};
-use tetri_simplex::dual_run;
 use tetri_tables::Tally;
 
 const TOP: i128 = i128::MAX;
@@ -159,8 +158,8 @@ pub fn weighed(alloc: Global, tally: &mut Tally) -> Result<(), AllocError> {
 fn linked_told(alloc: Global) -> Result<String, AllocError> {
     let (p, low_side) = linked(alloc)?;
     let whole = Region::whole(alloc, &p)?;
-    let mut out = outcome_told(alloc, dual_run(alloc, &p, &whole, 0)?)?;
-    let low = outcome_told(alloc, dual_run(alloc, &p, &low_side, 6)?)?;
+    let mut out = run_told(alloc, &p, &whole, 0)?;
+    let low = run_told(alloc, &p, &low_side, 6)?;
     write!(out, "; {low}")?;
     Ok(out)
 }
@@ -168,13 +167,13 @@ fn linked_told(alloc: Global) -> Result<String, AllocError> {
 fn steep_told(alloc: Global) -> Result<String, AllocError> {
     let p = steep(alloc)?;
     let whole = Region::whole(alloc, &p)?;
-    outcome_told(alloc, dual_run(alloc, &p, &whole, 0)?)
+    run_told(alloc, &p, &whole, 0)
 }
 
 fn impossible_told(alloc: Global) -> Result<String, AllocError> {
     let p = impossible(alloc)?;
     let whole = Region::whole(alloc, &p)?;
-    outcome_told(alloc, dual_run(alloc, &p, &whole, 0)?)
+    run_told(alloc, &p, &whole, 0)
 }
 
 /// Dual runs that end with a best point, cut, at a number that leaves the range, and at a row that nothing meets.
