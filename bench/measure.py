@@ -6,8 +6,8 @@ PROGRAM = os.path.join(TOP, "crates", "tetri_main", "out", "tetri_main")
 
 
 def build():
-    """The script beside the examples builds the program."""
-    subprocess.run([os.path.join(TOP, "examples", "run")], stdout=subprocess.DEVNULL, check=True)
+    """The script beside the examples proves and builds the program."""
+    subprocess.run([os.path.join(TOP, "examples", "run"), "--proved"], stdout=subprocess.DEVNULL, check=True)
 
 
 def measure(words, report):
