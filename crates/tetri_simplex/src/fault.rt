@@ -3,7 +3,7 @@
 use std::alloc::{AllocError, AllocFailed};
 use tetri_num::Place;
 
-/// Why a part of a run is not formed.
+/// Why a pivot, or another part of a run, is not formed.
 #[derive(Clone, Copy, Debug, PartialEq, Eq)]
 pub enum PivotFault {
     /// A number left the range at this place, whose step is given as 0.

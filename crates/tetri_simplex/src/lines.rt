@@ -143,6 +143,7 @@ fn solved_line(alloc: Global, columns: u32, line: &Line, i: u32, j: u32) -> Resu
 }
 
 // The least place that entries from x and from y on tell.
+#[inline(always)]
 fn next_place(xs: &[Entry], x: usize, ys: &[Entry], y: usize) -> Option<u32>
     ensures none { IfNone result ((length xs.now ≤ x) × (length ys.now ≤ y)) }
     ensures left { IfSome result (λ p. x < length xs.now → p ≤ place_at xs.now x) }
@@ -170,6 +171,7 @@ fn next_place(xs: &[Entry], x: usize, ys: &[Entry], y: usize) -> Option<u32>
 
 // The coefficient of a place at which no entry from `from` on lies before it, and the first entry
 // behind the place.
+#[inline(always)]
 fn take(entries: &[Entry], from: usize, place: u32) -> (Frac, usize)
     requires ascending { AreAscending entries.now }
     requires inside { from ≤ length entries.now }

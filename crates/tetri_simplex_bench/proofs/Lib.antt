@@ -1,1 +1,1 @@
-pub mod SquareLemmas
+pub mod SmallLemmas

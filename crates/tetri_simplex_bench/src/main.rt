@@ -1,54 +1,61 @@
 //! Times the dual run.
 //!
 //! `tetri_simplex_bench full|sparse SIDE KINDS` runs the program of a square of columns, with limits
-//! for each row and each column of the square, over full tables or over rows of entries. It writes
-//! the multiplier and the sum of the weights of the best point to standard output, and the
+//! for each row and each column of the square, over full tables or over rows of entries.
+//! `tetri_simplex_bench full|sparse FILE` runs the program of a file of numbers (`read::program`). It
+//! writes the multiplier and the sum of the weights of the best point to standard output, and the
 //! nanoseconds of the run to standard error. Without arguments it runs a small program both ways,
 //! and no time is written.
 #![tactic(auto)]
 
 ghost use Rattle.std.specs.Prelude.{◌≤◌};
+ghost use Rattle.tetri_ip.specs.Points.{IsFit};
 
 mod made;
+mod read;
 
 use made::square;
+use read::{Numbers, program};
 use std::alloc::Global;
 use std::time::CpuClock;
-use std::{env, io};
-use tetri_ip::{Region, Weight};
+use std::{env, fs, io};
+use tetri_ip::{Program, Region, Weight};
 use tetri_simplex::{Full, Outcome, Sparse, run_on};
 
 fn main(rt: HostRuntime) -> io::Result<()> {
+    let alloc = rt.alloc();
     let mut sparse = false;
     let mut sizes: [u32; 2] = [3, 3];
-    let mut given = 0;
+    let mut path = None;
+    let mut given: usize = 0;
     for argument in env::args(&rt)?.skip(1) {
-        let word = argument.as_str();
         if given == 0 {
-            sparse = word == "sparse";
+            sparse = argument.as_str() == "sparse";
         } else {
-            match word.parse::<u32>() {
+            match argument.as_str().parse::<u32>() {
                 Ok(size) if given <= 2 => sizes[given - 1] = size,
-                _ => eprintln!(rt; "not a size: {argument}")?,
+                _ => path = Some(argument),
             }
         }
         given = given.saturating_add(1);
     }
+    if let Some(path) = path {
+        let text = fs::read_to_string(&rt, path.as_str())?;
+        let mut numbers = Numbers::of(alloc, text.as_str())?;
+        let p = program(alloc, &mut numbers)?;
+        return measure(&rt, alloc, &p, sparse, true);
+    }
     let [side, kinds] = sizes;
     if 1 <= side && side <= 64 && 1 <= kinds && kinds <= 100 {
+        let p = square(alloc, side, kinds)?;
         if given == 0 {
-            measure(&rt, rt.alloc(), false, side, kinds, false)?;
+            measure(&rt, alloc, &p, false, false)?;
+            measure(&rt, alloc, &p, true, false)
+        } else {
+            measure(&rt, alloc, &p, sparse, true)
         }
-        measure(
-            &rt,
-            rt.alloc(),
-            sparse || given == 0,
-            side,
-            kinds,
-            given != 0,
-        )
     } else {
-        eprintln!(rt; "usage: tetri_simplex_bench full|sparse SIDE KINDS")
+        eprintln!(rt; "usage: tetri_simplex_bench full|sparse SIDE KINDS, or full|sparse FILE")
     }
 }
 
@@ -77,23 +84,18 @@ fn tell(rt: &impl Print, outcome: Outcome) -> io::Result<()> {
 fn measure(
     rt: &(impl CpuClock + Print + Eprint),
     alloc: Global,
+    p: &Program,
     sparse: bool,
-    side: u32,
-    kinds: u32,
     timed: bool,
 ) -> io::Result<()>
-    requires some { 1 ≤ side }
-    requires small { side ≤ 64 }
-    requires kinds { 1 ≤ kinds }
-    requires few_kinds { kinds ≤ 100 }
+    requires { IsFit p.now }
 {
-    let p = square(alloc, side, kinds)?;
-    let whole = Region::whole(alloc, &p)?;
+    let whole = Region::whole(alloc, p)?;
     let start = rt.thread_cpu_time()?;
     let outcome = if sparse {
-        run_on::<Sparse>(alloc, &p, &whole, 0)?
+        run_on::<Sparse>(alloc, p, &whole, 0)?
     } else {
-        run_on::<Full>(alloc, &p, &whole, 0)?
+        run_on::<Full>(alloc, p, &whole, 0)?
     };
     let end = rt.thread_cpu_time()?;
     tell(rt, outcome)?;
