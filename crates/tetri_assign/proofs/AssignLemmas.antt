@@ -2,6 +2,7 @@
 use Rattle.std.proofs.Common.{◌≡◌, ℕ, zero, suc, ◌+◌, ◌<◌, ◌≤◌, true, false, List, [], ◌∷◌, length, get_or, map, refl, sym, ap, ◌∙◌, subst, arith, All, Some}
 use Rattle.std.specs.Prelude.{nat_lt}
 use Rattle.std.specs.List.{list_all, range_with_len}
+use Rattle.tetri_strl.specs.declared.expr.Leaf.{Leaf}
 use Rattle.tetri_strl.specs.Tree.{leaves}
 use Rattle.tetri_strl.specs.WellMade.{IsSound}
 use Rattle.tetri_strl.proofs.PartsApart.{AreApart}
@@ -32,12 +33,12 @@ use Rattle.tetri_assign.proofs.BackLemmas.{first_backs, taken_sum}
 use Rattle.tetri_assign.proofs.GrantsLawful.{all_of}
 use Rattle.tetri_assign.proofs.Law.{meeting}
 use Rattle.tetri_assign.proofs.MarkLemmas.{each_of, parts_small}
-use Rattle.tetri_assign.proofs.Meeting.{IsMeeting, IsPlaced, all_placed, cs, good_leaf, inside, leaf_is, ordered, ordered_placed, parts, part_inside, above_zero, made_pieces, room}
+use Rattle.tetri_assign.proofs.Meeting.{IsMeeting, IsPlaced, all_placed, cs, good_leaf, inside, leaf_is, ordered, ordered_placed, parts, part_inside, above_zero, made_pieces, usable}
 use Rattle.tetri_assign.proofs.Turns.{StartsFirst, in_turn}
 use Rattle.tetri_assign.proofs.Wanting.{IsOtherCount, held_test, sorted_held, sorted_wants, want_test, wants_are}
 
 -- no two counts are of the same leaf and partition
-module _ (ins : ℕ → List ℕ) (rm : ℕ → ℕ → ℕ) (sorted : (k : ℕ) → Ascends (ins k)) where
+module _ (ins : ℕ → List ℕ) (rm : ℕ → Leaf → ℕ) (sorted : (k : ℕ) → Ascends (ins k)) where
   of_others : (job : ℕ) (ds : List Bid) (m : ℕ) → Each (λ d. job ≡ d.job → ⊥) ds → Each (λ d. job ≡ d.job → ⊥) (bid_tallies ins rm ds m)
   of_others job [] m h = tt
   of_others job (c ∷ ds) m h =
@@ -83,7 +84,7 @@ module _ (s : Space) (sound : IsSoundSpace s) (c : Compiled) (is : IsCompiled s 
 
   pub counts_right : AreCountsOf c.program c.counts.items
   counts_right =
-      counts_are (inside s bs sets x) (room s bs sets x) bs (Each-map (λ b. IsSound b.expr × AreApart b.expr) (λ b. IsSound b.expr) (λ b h. h.0) bs meets.sound)
+      counts_are (inside s bs sets x) (usable s bs sets x) bs (Each-map (λ b. IsSound b.expr × AreApart b.expr) (λ b. IsSound b.expr) (λ b h. h.0) bs meets.sound)
       (draft s) refl refl c.program is.program c.counts.items is.counts
 
   offered : Each (λ d. leaf_in s.bids d.job d.leaf.num ≡ Some d.leaf) (draft s).tallies
@@ -93,7 +94,7 @@ module _ (s : Space) (sound : IsSoundSpace s) (c : Compiled) (is : IsCompiled s 
   others : EachPair IsOtherCount (above_zero s bs sets x meets)
   others =
       EachPair-filter IsOtherCount (λ d. nat_lt 0 (x d.column)) (cs s bs sets x)
-      (tallies_apart (inside s bs sets x) (room s bs sets x)
+      (tallies_apart (inside s bs sets x) (usable s bs sets x)
       (λ k. filter-ascends (λ p. list_all (has (set_at s k)) (part_at (parts s bs sets x) p)) (range_with_len 0 (length (parts s bs sets x))) (range-ascends 0 (length (parts s bs sets x))))
       bs 0 meets.sound meets.jobs)
 

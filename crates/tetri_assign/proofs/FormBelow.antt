@@ -38,7 +38,7 @@ one_of : (y z f g : ℕ) {u w : ℕ} → y + z ≤ 1 → (y ≡ 0 → f ≡ 0) �
 one_of zero z f g unit p q a b = omega (arith, p refl)
 one_of (suc y) z f g unit p q a b = omega (arith, q (omega arith))
 
-module _ (inside : ℕ → List ℕ) (room : ℕ → ℕ → ℕ) (x : ℕ → ℕ) (value : Leaf → ℕ) where
+module _ (inside : ℕ → List ℕ) (usable : ℕ → Leaf → ℕ) (x : ℕ → ℕ) (value : Leaf → ℕ) where
   zero_times : (k y : ℕ) → y ≡ 0 → k * y + 0 ≡ 0
   zero_times k y e = rw e (omega arith)
 
@@ -51,7 +51,7 @@ module _ (inside : ℕ → List ℕ) (room : ℕ → ℕ → ℕ) (x : ℕ → �
 
   mutual
     -- nothing under an indicator of 0
-    zero_form : (t : Tree) → IsSound t → (i n : ℕ) → x i ≡ 0 → AreMet x (rows inside room t i n) → at_point x (form inside room t i n) ≡ 0
+    zero_form : (t : Tree) → IsSound t → (i n : ℕ) → x i ≡ 0 → AreMet x (rows inside usable t i n) → at_point x (form inside usable t i n) ≡ 0
     zero_form (one l) sound i n e met = leaf_zero l i n l.linear e met.0
     zero_form (join greatest ts) sound i n e met =
         zero_forms ts sound.1 n (n + length (ones ts)) (omega (arith, met.0, e)) met.1
@@ -61,26 +61,26 @@ module _ (inside : ℕ → List ℕ) (room : ℕ → ℕ → ℕ) (x : ℕ → �
     zero_form (join added ts) sound i n e met =
         zero_forms ts sound.1 n (n + length (ones ts)) (omega (arith, met.0, zero_times (length (ones ts)) (x i) e)) met.1
     zero_form (scale t s) sound i n e met =
-        at_point-times x s (form inside room t i n) ∙ ap (λ m. s * m) (zero_form t sound.0 i n e met) ∙ mul-zero s
+        at_point-times x s (form inside usable t i n) ∙ ap (λ m. s * m) (zero_form t sound.0 i n e met) ∙ mul-zero s
     zero_form (barrier t v) sound i n e met = zero_times v (x i) e
 
-    zero_forms : (ts : Trees) → AreSound ts → (j n : ℕ) → at_point x (run 1 j (ones ts)) ≡ 0 → AreMet x (rows_of inside room ts j n) →
-        at_point x (forms inside room ts j n) ≡ 0
+    zero_forms : (ts : Trees) → AreSound ts → (j n : ℕ) → at_point x (run 1 j (ones ts)) ≡ 0 → AreMet x (rows_of inside usable ts j n) →
+        at_point x (forms inside usable ts j n) ≡ 0
     zero_forms none sound j n e met = refl
     zero_forms (more t ts) sound j n e met =
-        let parts = AreMet-split x (rows inside room t j n) (rows_of inside room ts (j + 1) (n + width inside room t)) met in
+        let parts = AreMet-split x (rows inside usable t j n) (rows_of inside usable ts (j + 1) (n + width inside usable t)) met in
         omega (
           arith,
-          at_point-append x (form inside room t j n) (forms inside room ts (j + 1) (n + width inside room t)),
+          at_point-append x (form inside usable t j n) (forms inside usable ts (j + 1) (n + width inside usable t)),
           zero_form t sound.0 j n (omega arith) parts.0,
-          zero_forms ts sound.1 (j + 1) (n + width inside room t) (omega arith) parts.1,
+          zero_forms ts sound.1 (j + 1) (n + width inside usable t) (omega arith) parts.1,
         )
 
     -- some part of a least holds its column down
-    zero_under : (ts : Trees) → HasChild ts → AreSound ts → (i c n : ℕ) → x i ≡ 0 → AreMet x (rows_under inside room ts i c n) → x c ≤ 0
+    zero_under : (ts : Trees) → HasChild ts → AreSound ts → (i c n : ℕ) → x i ≡ 0 → AreMet x (rows_under inside usable ts i c n) → x c ≤ 0
     zero_under none some sound i c n e met = absurd some
     zero_under (more t ts) some sound i c n e met =
-        let parts = AreMet-split x (rows inside room t i n) (limit (share c 1 ∷ []) (form inside room t i n) ∷ rows_under inside room ts i c (n + width inside room t)) met in
+        let parts = AreMet-split x (rows inside usable t i n) (limit (share c 1 ∷ []) (form inside usable t i n) ∷ rows_under inside usable ts i c (n + width inside usable t)) met in
         omega (arith, parts.1.0, zero_form t sound.0 i n e parts.0)
 
   gang_form : (l : Leaf) (i n g : ℕ) (linear : Bool) → x i ≤ 1 → g ≡ at_point x (run 1 n (inside l.set)) →
@@ -102,11 +102,11 @@ module _ (inside : ℕ → List ℕ) (room : ℕ → ℕ → ℕ) (x : ℕ → �
 
   mutual
     -- the form is at most what the counts are worth
-    pub form_le : (t : Tree) → IsSound t → (i n : ℕ) → x i ≤ 1 → Within x n (uppers inside room t) → AreMet x (rows inside room t i n) →
-        IsCounted inside room x value t n → at_point x (form inside room t i n) ≤ worth_by value t
+    pub form_le : (t : Tree) → IsSound t → (i n : ℕ) → x i ≤ 1 → Within x n (uppers inside usable t) → AreMet x (rows inside usable t i n) →
+        IsCounted inside usable x value t n → at_point x (form inside usable t i n) ≤ worth_by value t
     form_le (one l) sound i n unit box met counted = rw counted (gang_form l i n _ l.linear unit refl met)
     form_le (join greatest ts) sound i n unit box met counted =
-        forms_le_greatest ts sound.1 n (n + length (ones ts)) (omega (arith, met.0)) (Within-split x n (ones ts) (uppers_of inside room ts) box).1 met.1 counted
+        forms_le_greatest ts sound.1 n (n + length (ones ts)) (omega (arith, met.0)) (Within-split x n (ones ts) (uppers_of inside usable ts) box).1 met.1 counted
     form_le (join least ts) sound i n unit box met counted =
         least_form_le x n (least_of (worths_by value ts)) (best (join least ts))
         (least_le ts sound.0 (column_le ts sound.1 i n (n + 1) unit box.1 met counted))
@@ -115,44 +115,44 @@ module _ (inside : ℕ → List ℕ) (room : ℕ → ℕ → ℕ) (x : ℕ → �
         least_le none some below = absurd some
         least_le (more t ts) some below = below_least_from (x n) (worth_by value t) (worths_by value ts) below.0 below.1
     form_le (join added ts) sound i n unit box met counted =
-        let parts = Within-split x n (ones ts) (uppers_of inside room ts) box in
+        let parts = Within-split x n (ones ts) (uppers_of inside usable ts) box in
         forms_le_added ts sound.1 n (n + length (ones ts)) parts.0 parts.1 met.1 counted
     form_le (scale t s) sound i n unit box met counted =
-        omega (arith, at_point-times x s (form inside room t i n), mul-le-mul_left s (form_le t sound.0 i n unit box met counted))
+        omega (arith, at_point-times x s (form inside usable t i n), mul-le-mul_left s (form_le t sound.0 i n unit box met counted))
     form_le (barrier t v) sound i n unit box met counted =
-        let parts = AreMet-split x (rows inside room t i n) (limit (share i v ∷ []) (form inside room t i n) ∷ []) met in
-        bar_form v (worth_by value t) (at_point x (form inside room t i n)) (x i) parts.1.0 (form_le t sound.0 i n unit box parts.0 counted) unit
+        let parts = AreMet-split x (rows inside usable t i n) (limit (share i v ∷ []) (form inside usable t i n) ∷ []) met in
+        bar_form v (worth_by value t) (at_point x (form inside usable t i n)) (x i) parts.1.0 (form_le t sound.0 i n unit box parts.0 counted) unit
 
-    forms_le_greatest : (ts : Trees) → AreSound ts → (j n : ℕ) → at_point x (run 1 j (ones ts)) ≤ 1 → Within x n (uppers_of inside room ts) →
-        AreMet x (rows_of inside room ts j n) → AreCounted inside room x value ts n → at_point x (forms inside room ts j n) ≤ greatest_of (worths_by value ts)
+    forms_le_greatest : (ts : Trees) → AreSound ts → (j n : ℕ) → at_point x (run 1 j (ones ts)) ≤ 1 → Within x n (uppers_of inside usable ts) →
+        AreMet x (rows_of inside usable ts j n) → AreCounted inside usable x value ts n → at_point x (forms inside usable ts j n) ≤ greatest_of (worths_by value ts)
     forms_le_greatest none sound j n unit box met counted = omega arith
     forms_le_greatest (more t ts) sound j n unit box met counted =
-        let parts = AreMet-split x (rows inside room t j n) (rows_of inside room ts (j + 1) (n + width inside room t)) met in
-        let boxes = Within-split x n (uppers inside room t) (uppers_of inside room ts) box in
+        let parts = AreMet-split x (rows inside usable t j n) (rows_of inside usable ts (j + 1) (n + width inside usable t)) met in
+        let boxes = Within-split x n (uppers inside usable t) (uppers_of inside usable ts) box in
         let here = form_le t sound.0 j n (omega arith) boxes.0 parts.0 counted.0 in
-        let rest = forms_le_greatest ts sound.1 (j + 1) (n + width inside room t) (omega arith) boxes.1 parts.1 counted.1 in
+        let rest = forms_le_greatest ts sound.1 (j + 1) (n + width inside usable t) (omega arith) boxes.1 parts.1 counted.1 in
         omega (
           arith,
-          at_point-append x (form inside room t j n) (forms inside room ts (j + 1) (n + width inside room t)),
+          at_point-append x (form inside usable t j n) (forms inside usable ts (j + 1) (n + width inside usable t)),
           one_of (x j) (at_point x (run 1 (j + 1) (ones ts))) _ _ (omega arith)
-              (λ e. zero_form t sound.0 j n e parts.0) (λ e. zero_forms ts sound.1 (j + 1) (n + width inside room t) e parts.1) here rest,
+              (λ e. zero_form t sound.0 j n e parts.0) (λ e. zero_forms ts sound.1 (j + 1) (n + width inside usable t) e parts.1) here rest,
         )
 
-    forms_le_added : (ts : Trees) → AreSound ts → (j n : ℕ) → Within x j (ones ts) → Within x n (uppers_of inside room ts) →
-        AreMet x (rows_of inside room ts j n) → AreCounted inside room x value ts n → at_point x (forms inside room ts j n) ≤ added_of (worths_by value ts)
+    forms_le_added : (ts : Trees) → AreSound ts → (j n : ℕ) → Within x j (ones ts) → Within x n (uppers_of inside usable ts) →
+        AreMet x (rows_of inside usable ts j n) → AreCounted inside usable x value ts n → at_point x (forms inside usable ts j n) ≤ added_of (worths_by value ts)
     forms_le_added none sound j n marks box met counted = omega arith
     forms_le_added (more t ts) sound j n marks box met counted =
-        let parts = AreMet-split x (rows inside room t j n) (rows_of inside room ts (j + 1) (n + width inside room t)) met in
-        let boxes = Within-split x n (uppers inside room t) (uppers_of inside room ts) box in
+        let parts = AreMet-split x (rows inside usable t j n) (rows_of inside usable ts (j + 1) (n + width inside usable t)) met in
+        let boxes = Within-split x n (uppers inside usable t) (uppers_of inside usable ts) box in
         let here = form_le t sound.0 j n marks.0 boxes.0 parts.0 counted.0 in
-        let rest = forms_le_added ts sound.1 (j + 1) (n + width inside room t) marks.1 boxes.1 parts.1 counted.1 in
-        omega (arith, here, rest, at_point-append x (form inside room t j n) (forms inside room ts (j + 1) (n + width inside room t)))
+        let rest = forms_le_added ts sound.1 (j + 1) (n + width inside usable t) marks.1 boxes.1 parts.1 counted.1 in
+        omega (arith, here, rest, at_point-append x (form inside usable t j n) (forms inside usable ts (j + 1) (n + width inside usable t)))
 
-    column_le : (ts : Trees) → AreSound ts → (i c n : ℕ) → x i ≤ 1 → Within x n (uppers_of inside room ts) →
-        AreMet x (rows_under inside room ts i c n) → AreCounted inside room x value ts n → IsBelowEach (x c) (worths_by value ts)
+    column_le : (ts : Trees) → AreSound ts → (i c n : ℕ) → x i ≤ 1 → Within x n (uppers_of inside usable ts) →
+        AreMet x (rows_under inside usable ts i c n) → AreCounted inside usable x value ts n → IsBelowEach (x c) (worths_by value ts)
     column_le none sound i c n unit box met counted = tt
     column_le (more t ts) sound i c n unit box met counted =
-        let parts = AreMet-split x (rows inside room t i n) (limit (share c 1 ∷ []) (form inside room t i n) ∷ rows_under inside room ts i c (n + width inside room t)) met in
-        let boxes = Within-split x n (uppers inside room t) (uppers_of inside room ts) box in
+        let parts = AreMet-split x (rows inside usable t i n) (limit (share c 1 ∷ []) (form inside usable t i n) ∷ rows_under inside usable ts i c (n + width inside usable t)) met in
+        let boxes = Within-split x n (uppers inside usable t) (uppers_of inside usable ts) box in
         let here = form_le t sound.0 i n unit boxes.0 parts.0 counted.0 in
-        (omega (arith, here, parts.1.0), column_le ts sound.1 i c (n + width inside room t) unit boxes.1 parts.1.1 counted.1)
+        (omega (arith, here, parts.1.0), column_le ts sound.1 i c (n + width inside usable t) unit boxes.1 parts.1.1 counted.1)

@@ -26,21 +26,21 @@ use Rattle.tetri_assign.proofs.LeafSums.{EachLeaf-at, AtLeaves-map, tree_sum, nu
 use Rattle.tetri_compile.specs.Allotted.{granted_in}
 use Rattle.tetri_compile.proofs.FairLemmas.{worth_of_bids}
 use Rattle.tetri_assign.proofs.HeldLemmas.{weigh_pieces, granted_weigh}
-use Rattle.tetri_assign.proofs.Meeting.{parts, inside, room, cs, IsMeeting, ordered, made_pieces, part_ascends, parts_differ, right, rows_met, zeros_vanish, cond_zero}
+use Rattle.tetri_assign.proofs.Meeting.{parts, inside, usable, cs, IsMeeting, ordered, made_pieces, part_ascends, parts_differ, right, rows_met, zeros_vanish, cond_zero}
 use Rattle.tetri_assign.proofs.Pieces.{IsExact}
 
-module _ (inside : ℕ → List ℕ) (room : ℕ → ℕ → ℕ) (P Q : Leaf → ℕ → Type 0) (C : Leaf → Type 0) (f : (l : Leaf) (m : ℕ) → P l m → Q l m → C l) where
+module _ (inside : ℕ → List ℕ) (usable : ℕ → Leaf → ℕ) (P Q : Leaf → ℕ → Type 0) (C : Leaf → Type 0) (f : (l : Leaf) (m : ℕ) → P l m → Q l m → C l) where
   mutual
     -- two facts at each leaf give one of the leaf alone
-    AtLeaves-join : (t : Tree) (n : ℕ) → AtLeaves inside room P t n → AtLeaves inside room Q t n → EachLeaf C t
+    AtLeaves-join : (t : Tree) (n : ℕ) → AtLeaves inside usable P t n → AtLeaves inside usable Q t n → EachLeaf C t
     AtLeaves-join (one l) n p q = f l n p q
-    AtLeaves-join (join op ts) n p q = AtLeavesOf-join ts (n + length (own_uppers inside room op ts)) p q
+    AtLeaves-join (join op ts) n p q = AtLeavesOf-join ts (n + length (own_uppers inside usable op ts)) p q
     AtLeaves-join (scale t s) n p q = AtLeaves-join t n p q
     AtLeaves-join (barrier t v) n p q = AtLeaves-join t n p q
 
-    AtLeavesOf-join : (ts : Trees) (n : ℕ) → AtLeavesOf inside room P ts n → AtLeavesOf inside room Q ts n → EachLeafOf C ts
+    AtLeavesOf-join : (ts : Trees) (n : ℕ) → AtLeavesOf inside usable P ts n → AtLeavesOf inside usable Q ts n → EachLeafOf C ts
     AtLeavesOf-join none n p q = tt
-    AtLeavesOf-join (more t ts) n p q = (AtLeaves-join t n p.0 q.0, AtLeavesOf-join ts (n + width inside room t) p.1 q.1)
+    AtLeavesOf-join (more t ts) n p q = (AtLeaves-join t n p.0 q.0, AtLeavesOf-join ts (n + width inside usable t) p.1 q.1)
 
 module _ (i : Space) (os : List Bid) (sets : List (List ℕ)) (x : ℕ → ℕ) (meets : IsMeeting i os sets x) where
   abbrev pub made : List Grant
@@ -49,8 +49,8 @@ module _ (i : Space) (os : List Bid) (sets : List (List ℕ)) (x : ℕ → ℕ) 
   abbrev ins : ℕ → List ℕ
   ins = inside i os sets x
 
-  abbrev rm : ℕ → ℕ → ℕ
-  rm = room i os sets x
+  abbrev rm : ℕ → Leaf → ℕ
+  rm = usable i os sets x
 
   abbrev Exact : Piece → Type 0
   Exact q = IsExact i (parts i os sets x) x (part_ascends i os sets x meets) (parts_differ i os sets x meets) q

@@ -34,20 +34,20 @@ module _ (P : Leaf → Type 0) where
     EachLeafOf-at (more t ts) l h at =
         ⊎_elim (λ p. EachLeaf-at t l h.0 p) (λ p. EachLeafOf-at ts l h.1 p) (Contains-append_cases (leaves t) (leaves_of ts) l at)
 
-module _ (inside : ℕ → List ℕ) (room : ℕ → ℕ → ℕ) where
+module _ (inside : ℕ → List ℕ) (usable : ℕ → Leaf → ℕ) where
   module _ (P Q : Leaf → ℕ → Type 0) where
     mutual
-      pub AtLeaves-map : (t : Tree) (n : ℕ) → ((l : Leaf) (m : ℕ) → Contains (leaves t) l → P l m → Q l m) → AtLeaves inside room P t n → AtLeaves inside room Q t n
+      pub AtLeaves-map : (t : Tree) (n : ℕ) → ((l : Leaf) (m : ℕ) → Contains (leaves t) l → P l m → Q l m) → AtLeaves inside usable P t n → AtLeaves inside usable Q t n
       AtLeaves-map (one l) n f h = f l n (0, omega arith, refl) h
-      AtLeaves-map (join op ts) n f h = AtLeavesOf-map ts (n + length (own_uppers inside room op ts)) f h
+      AtLeaves-map (join op ts) n f h = AtLeavesOf-map ts (n + length (own_uppers inside usable op ts)) f h
       AtLeaves-map (scale t s) n f h = AtLeaves-map t n f h
       AtLeaves-map (barrier t v) n f h = AtLeaves-map t n f h
 
-      AtLeavesOf-map : (ts : Trees) (n : ℕ) → ((l : Leaf) (m : ℕ) → Contains (leaves_of ts) l → P l m → Q l m) → AtLeavesOf inside room P ts n → AtLeavesOf inside room Q ts n
+      AtLeavesOf-map : (ts : Trees) (n : ℕ) → ((l : Leaf) (m : ℕ) → Contains (leaves_of ts) l → P l m → Q l m) → AtLeavesOf inside usable P ts n → AtLeavesOf inside usable Q ts n
       AtLeavesOf-map none n f h = tt
       AtLeavesOf-map (more t ts) n f h = (
         AtLeaves-map t n (λ l m at. f l m (Contains-append_left (leaves t) (leaves_of ts) l at)) h.0,
-        AtLeavesOf-map ts (n + width inside room t) (λ l m at. f l m (Contains-append_right (leaves t) (leaves_of ts) l at)) h.1,
+        AtLeavesOf-map ts (n + width inside usable t) (λ l m at. f l m (Contains-append_right (leaves t) (leaves_of ts) l at)) h.1,
       )
 
   module _ (x : ℕ → ℕ) where
@@ -71,35 +71,35 @@ module _ (inside : ℕ → List ℕ) (room : ℕ → ℕ → ℕ) where
         ∙ sum_of-zero cs
 
     mutual
-      pub tree_sum : (job : ℕ) (t : Tree) (n : ℕ) → AreApart t → AtLeaves inside room (IsSum (tallies inside room job t n)) t n
+      pub tree_sum : (job : ℕ) (t : Tree) (n : ℕ) → AreApart t → AtLeaves inside usable (IsSum (tallies inside usable job t n)) t n
       tree_sum job (one l) n apart = leaf_sum job l (inside l.set) n
-      tree_sum job (join op ts) n apart = trees_sum job ts (n + length (own_uppers inside room op ts)) apart
+      tree_sum job (join op ts) n apart = trees_sum job ts (n + length (own_uppers inside usable op ts)) apart
       tree_sum job (scale t s) n apart = tree_sum job t n apart
       tree_sum job (barrier t v) n apart = tree_sum job t n apart
 
-      trees_sum : (job : ℕ) (ts : Trees) (n : ℕ) → AreApartOf ts → AtLeavesOf inside room (IsSum (tallies_of inside room job ts n)) ts n
+      trees_sum : (job : ℕ) (ts : Trees) (n : ℕ) → AreApartOf ts → AtLeavesOf inside usable (IsSum (tallies_of inside usable job ts n)) ts n
       trees_sum job none n apart = tt
       trees_sum job (more t ts) n apart =
-          let here = tallies inside room job t n in
-          let rest = tallies_of inside room job ts (n + width inside room t) in (
+          let here = tallies inside usable job t n in
+          let rest = tallies_of inside usable job ts (n + width inside usable t) in (
             AtLeaves-map (IsSum here) (IsSum (here ++ rest)) t n
                 (λ l m at e. omega (
                   arith,
                   sum_of-append (λ d. cond (d.leaf.num == l.num) (x d.column) 0) here rest,
                   e,
-                  no_sum l.num rest (Each-map (IsOf inside room job (leaves_of ts)) (λ d. d.leaf.num ≡ l.num → ⊥)
-                      (λ d o same. apart.2 l.num (number_of t l at) (subst (Contains (numbers_of ts)) same (number_of_all ts d.leaf o.leaf))) rest (tallies_leaf_of inside room job ts (n + width inside room t))),
+                  no_sum l.num rest (Each-map (IsOf inside usable job (leaves_of ts)) (λ d. d.leaf.num ≡ l.num → ⊥)
+                      (λ d o same. apart.2 l.num (number_of t l at) (subst (Contains (numbers_of ts)) same (number_of_all ts d.leaf o.leaf))) rest (tallies_leaf_of inside usable job ts (n + width inside usable t))),
                 ))
                 (tree_sum job t n apart.0),
-            AtLeavesOf-map (IsSum rest) (IsSum (here ++ rest)) ts (n + width inside room t)
+            AtLeavesOf-map (IsSum rest) (IsSum (here ++ rest)) ts (n + width inside usable t)
                 (λ l m at e. omega (
                   arith,
                   sum_of-append (λ d. cond (d.leaf.num == l.num) (x d.column) 0) here rest,
                   e,
-                  no_sum l.num here (Each-map (IsOf inside room job (leaves t)) (λ d. d.leaf.num ≡ l.num → ⊥)
-                      (λ d o same. apart.2 l.num (subst (Contains (numbers t)) same (number_of t d.leaf o.leaf)) (number_of_all ts l at)) here (tallies_leaf inside room job t n)),
+                  no_sum l.num here (Each-map (IsOf inside usable job (leaves t)) (λ d. d.leaf.num ≡ l.num → ⊥)
+                      (λ d o same. apart.2 l.num (subst (Contains (numbers t)) same (number_of t d.leaf o.leaf)) (number_of_all ts l at)) here (tallies_leaf inside usable job t n)),
                 ))
-                (trees_sum job ts (n + width inside room t) apart.1),
+                (trees_sum job ts (n + width inside usable t) apart.1),
           )
 
     -- no leaf has more than it wants
@@ -107,28 +107,28 @@ module _ (inside : ℕ → List ℕ) (room : ℕ → ℕ → ℕ) where
     IsFew l m = at_point x (run 1 m (inside l.set)) ≤ l.k
 
     mutual
-      pub few : (t : Tree) (i n : ℕ) → x i ≤ 1 → Within x n (uppers inside room t) → AreMet x (rows inside room t i n) → AtLeaves inside room IsFew t n
+      pub few : (t : Tree) (i n : ℕ) → x i ≤ 1 → Within x n (uppers inside usable t) → AreMet x (rows inside usable t i n) → AtLeaves inside usable IsFew t n
       few (one l) i n unit box met = omega (arith, met.0, mul-le-mul_left l.k unit)
       few (join greatest ts) i n unit box met =
-          let parts = Within-split x n (ones ts) (uppers_of inside room ts) box in
+          let parts = Within-split x n (ones ts) (uppers_of inside usable ts) box in
           few_of ts n (n + length (ones ts)) parts.0 parts.1 met.1
       few (join least ts) i n unit box met = few_under ts i n (n + 1) unit box.1 met
       few (join added ts) i n unit box met =
-          let parts = Within-split x n (ones ts) (uppers_of inside room ts) box in
+          let parts = Within-split x n (ones ts) (uppers_of inside usable ts) box in
           few_of ts n (n + length (ones ts)) parts.0 parts.1 met.1
       few (scale t s) i n unit box met = few t i n unit box met
-      few (barrier t v) i n unit box met = few t i n unit box (AreMet-split x (rows inside room t i n) (limit (share i v ∷ []) (form inside room t i n) ∷ []) met).0
+      few (barrier t v) i n unit box met = few t i n unit box (AreMet-split x (rows inside usable t i n) (limit (share i v ∷ []) (form inside usable t i n) ∷ []) met).0
 
-      few_of : (ts : Trees) (j n : ℕ) → Within x j (ones ts) → Within x n (uppers_of inside room ts) → AreMet x (rows_of inside room ts j n) → AtLeavesOf inside room IsFew ts n
+      few_of : (ts : Trees) (j n : ℕ) → Within x j (ones ts) → Within x n (uppers_of inside usable ts) → AreMet x (rows_of inside usable ts j n) → AtLeavesOf inside usable IsFew ts n
       few_of none j n marks box met = tt
       few_of (more t ts) j n marks box met =
-          let boxes = Within-split x n (uppers inside room t) (uppers_of inside room ts) box in
-          let parts = AreMet-split x (rows inside room t j n) (rows_of inside room ts (j + 1) (n + width inside room t)) met in
-          (few t j n marks.0 boxes.0 parts.0, few_of ts (j + 1) (n + width inside room t) marks.1 boxes.1 parts.1)
+          let boxes = Within-split x n (uppers inside usable t) (uppers_of inside usable ts) box in
+          let parts = AreMet-split x (rows inside usable t j n) (rows_of inside usable ts (j + 1) (n + width inside usable t)) met in
+          (few t j n marks.0 boxes.0 parts.0, few_of ts (j + 1) (n + width inside usable t) marks.1 boxes.1 parts.1)
 
-      few_under : (ts : Trees) (i c n : ℕ) → x i ≤ 1 → Within x n (uppers_of inside room ts) → AreMet x (rows_under inside room ts i c n) → AtLeavesOf inside room IsFew ts n
+      few_under : (ts : Trees) (i c n : ℕ) → x i ≤ 1 → Within x n (uppers_of inside usable ts) → AreMet x (rows_under inside usable ts i c n) → AtLeavesOf inside usable IsFew ts n
       few_under none i c n unit box met = tt
       few_under (more t ts) i c n unit box met =
-          let boxes = Within-split x n (uppers inside room t) (uppers_of inside room ts) box in
-          let parts = AreMet-split x (rows inside room t i n) (limit (share c 1 ∷ []) (form inside room t i n) ∷ rows_under inside room ts i c (n + width inside room t)) met in
-          (few t i n unit boxes.0 parts.0, few_under ts i c (n + width inside room t) unit boxes.1 parts.1.1)
+          let boxes = Within-split x n (uppers inside usable t) (uppers_of inside usable ts) box in
+          let parts = AreMet-split x (rows inside usable t i n) (limit (share c 1 ∷ []) (form inside usable t i n) ∷ rows_under inside usable ts i c (n + width inside usable t)) met in
+          (few t i n unit boxes.0 parts.0, few_under ts i c (n + width inside usable t) unit boxes.1 parts.1.1)

@@ -14,6 +14,7 @@ use Rattle.tetri_base.proofs.ListLaws.{sum_of-eq, sum_of-filter, Each-map, Each-
 use Rattle.tetri_compile.specs.declared.outline.Tally.{Tally}
 use Rattle.tetri_compile.specs.Draft.{bid_uppers, bid_rows, bid_tallies, is_held, supply, draft_of}
 use Rattle.tetri_compile.specs.Forms.{AreMet, Within}
+use Rattle.tetri_compile.specs.Usable.{usable_by}
 use Rattle.tetri_compile.specs.Walk.{width}
 use Rattle.tetri_compile.proofs.FormLemmas.{AreMet-split}
 use Rattle.tetri_compile.proofs.TallyLemmas.{IsOf, tallies_leaf}
@@ -38,11 +39,14 @@ module _ (i : Space) (os : List Bid) (sets : List (List ℕ)) (x : ℕ → ℕ) 
   abbrev pub inside : ℕ → List ℕ
   inside = parts_in i parts
 
+  abbrev pub usable : ℕ → Leaf → ℕ
+  usable = usable_by i parts
+
   abbrev pub room : ℕ → ℕ → ℕ
   room = available i parts
 
   abbrev pub cs : List Tally
-  cs = bid_tallies inside room os 0
+  cs = bid_tallies inside usable os 0
 
   abbrev pub slots : List ℕ
   slots = range_with_len i.now i.window
@@ -53,20 +57,20 @@ module _ (i : Space) (os : List Bid) (sets : List (List ℕ)) (x : ℕ → ℕ) 
     pub jobs : EachPair (λ b c. b.job ≡ c.job → ⊥) os
     pub live : (b : Bid) (l : Leaf) → Contains os b → Contains (leaves b.expr) l → (i.now ≤ l.start) × (l.start < i.now + i.window)
     pub found : (b : Bid) (l : Leaf) → Contains os b → Contains (leaves b.expr) l → leaf_in i.bids b.job l.num ≡ Some l
-    pub box : Within x 0 (bid_uppers inside room os)
+    pub box : Within x 0 (bid_uppers inside usable os)
     pub met : AreMet x (draft_of i os parts).rows
 
   pub record IsPlaced (c : Tally) : Type 0 where
     pub bid : Bid
     pub among : Contains os bid
-    pub of_bid : IsOf inside room bid.job (leaves bid.expr) c
+    pub of_bid : IsOf inside usable bid.job (leaves bid.expr) c
 
-  placed : (bs : List Bid) (n : ℕ) → Each (Contains os) bs → Each IsPlaced (bid_tallies inside room bs n)
+  placed : (bs : List Bid) (n : ℕ) → Each (Contains os) bs → Each IsPlaced (bid_tallies inside usable bs n)
   placed [] n h = tt
   placed (b ∷ bs) n h =
       Each-append IsPlaced _ _
-      (Each-map (IsOf inside room b.job (leaves b.expr)) IsPlaced (λ c o. record { bid = b; among = h.0; of_bid = o }) _ (tallies_leaf inside room b.job b.expr (n + 1)))
-      (placed bs (n + 1 + width inside room b.expr) h.1)
+      (Each-map (IsOf inside usable b.job (leaves b.expr)) IsPlaced (λ c o. record { bid = b; among = h.0; of_bid = o }) _ (tallies_leaf inside usable b.job b.expr (n + 1)))
+      (placed bs (n + 1 + width inside usable b.expr) h.1)
 
   pub all_placed : Each IsPlaced cs
   all_placed = placed os 0 (Each-from (Contains os) os (λ b at. at))
@@ -110,8 +114,8 @@ module _ (i : Space) (os : List Bid) (sets : List (List ℕ)) (x : ℕ → ℕ) 
     pub ordered_placed : Each IsPlaced ordered
     ordered_placed = Each-in_order turn_before IsPlaced above_zero (Each-filter IsPlaced (λ c. nat_lt 0 (x c.column)) cs all_placed)
 
-    pub rows_met : AreMet x (bid_rows inside room os 0) × AreMet x (supply inside room cs slots (range_with_len 0 (length parts)))
-    rows_met = AreMet-split x (bid_rows inside room os 0) (supply inside room cs slots (range_with_len 0 (length parts))) meets.met
+    pub rows_met : AreMet x (bid_rows inside usable os 0) × AreMet x (supply room cs slots (range_with_len 0 (length parts)))
+    rows_met = AreMet-split x (bid_rows inside usable os 0) (supply room cs slots (range_with_len 0 (length parts))) meets.met
 
     pub part_inside : (c : Tally) → IsPlaced c → c.part < length parts
     part_inside c k =
@@ -124,7 +128,7 @@ module _ (i : Space) (os : List Bid) (sets : List (List ℕ)) (x : ℕ → ℕ) 
         let small = part_inside c k in
         let row = Each-at (λ t. sum_of (λ d. cond (is_held c.part t d) (x d.column) 0) cs ≤ room c.part t) slots c.leaf.start
         (Each-at (λ p. Each (λ t. sum_of (λ d. cond (is_held p t d) (x d.column) 0) cs ≤ room p t) slots) (range_with_len 0 (length parts)) c.part
-        (supplied inside room x cs slots (range_with_len 0 (length parts)) rows_met.1) (range_contains 0 (length parts) c.part (omega arith) (omega (arith, small))))
+        (supplied room x cs slots (range_with_len 0 (length parts)) rows_met.1) (range_contains 0 (length parts) c.part (omega arith) (omega (arith, small))))
         (range_contains i.now i.window c.leaf.start in_window.0 in_window.1) in
         omega (arith, row, zeros_vanish (use_at i parts x part_ascends parts_differ c) (λ d e. cond_zero (is_held c.part c.leaf.start d) (x d.column) e))
 

@@ -113,7 +113,7 @@ in_turn cs =
     (Each-all (λ c. Unit {0}) (λ c. tt) (in_order turn_before cs)) (in_order-rises turn_before turn_order cs)
 
 -- ---- the supply rows
-module _ (inside : ℕ → List ℕ) (room : ℕ → ℕ → ℕ) (x : ℕ → ℕ) (cs : List Tally) where
+module _ (room : ℕ → ℕ → ℕ) (x : ℕ → ℕ) (cs : List Tally) where
   tally_sum : (ds : List Tally) → at_point x (tally_form ds) ≡ sum_of (λ d. x d.column) ds
   tally_sum [] = refl
   tally_sum (d ∷ ds) = omega (arith, tally_sum ds)
@@ -125,14 +125,14 @@ module _ (inside : ℕ → List ℕ) (room : ℕ → ℕ → ℕ) (x : ℕ → �
   abbrev IsSupplied : ℕ → ℕ → Type 0
   IsSupplied p t = sum_of (λ d. cond (is_held p t d) (x d.column) 0) cs ≤ room p t
 
-  part_supplied : (p : ℕ) (ts : List ℕ) → AreMet x (part_supply inside room cs p ts) → Each (IsSupplied p) ts
+  part_supplied : (p : ℕ) (ts : List ℕ) → AreMet x (part_supply room cs p ts) → Each (IsSupplied p) ts
   part_supplied p [] h = tt
   part_supplied p (t ∷ ts) h =
-      let both = AreMet-split x (supply_row (filter (is_held p t) cs) (room p t)) (part_supply inside room cs p ts) h in
+      let both = AreMet-split x (supply_row (filter (is_held p t) cs) (room p t)) (part_supply room cs p ts) h in
       (omega (arith, row_sum (filter (is_held p t) cs) (room p t) both.0, sum_of-filter (λ d. x d.column) (is_held p t) cs), part_supplied p ts both.1)
 
-  pub supplied : (slots ps : List ℕ) → AreMet x (supply inside room cs slots ps) → Each (λ p. Each (IsSupplied p) slots) ps
+  pub supplied : (slots ps : List ℕ) → AreMet x (supply room cs slots ps) → Each (λ p. Each (IsSupplied p) slots) ps
   supplied slots [] h = tt
   supplied slots (p ∷ ps) h =
-      let both = AreMet-split x (part_supply inside room cs p slots) (supply inside room cs slots ps) h in
+      let both = AreMet-split x (part_supply room cs p slots) (supply room cs slots ps) h in
       (part_supplied p slots both.0, supplied slots ps both.1)

@@ -16,7 +16,7 @@ use Rattle.tetri_compile.specs.declared.outline.Tally.{Tally}
 use Rattle.tetri_compile.specs.Draft.{bid_uppers}
 use Rattle.tetri_compile.specs.Marks.{mark, own_values, values, values_of}
 use Rattle.tetri_compile.specs.Walk.{ones, own_uppers, uppers, uppers_of}
-use Rattle.tetri_compile.proofs.FairLemmas.{inside, room, IsFair, kept, taken, value, held, all_right, granted_le, granted_few, granted_total, kept-le, supply_le, good}
+use Rattle.tetri_compile.proofs.FairLemmas.{inside, usable, IsFair, kept, taken, value, held, all_right, granted_le, granted_few, granted_total, kept-le, supply_le, good}
 use Rattle.tetri_compile.proofs.WalkLemmas.{IsRight, mark-le, worth_le_best}
 
 count_le_length : {X : Type 0} (p : X → Bool) (xs : List X) → count p xs ≤ length xs
@@ -33,9 +33,9 @@ below-map : {X : Type 0} (f g : X → ℕ) (xs : List X) → Each (λ x. f x ≤
 below-map f g [] h = tt
 below-map f g (x ∷ xs) h = (h.0, below-map f g xs h.1)
 
-module _ (ins : ℕ → List ℕ) (rm : ℕ → ℕ → ℕ) (val : Leaf → ℕ) (tak : Leaf → ℕ → ℕ) (hel : List ℕ) where
+module _ (ins : ℕ → List ℕ) (rm : ℕ → Leaf → ℕ) (val : Leaf → ℕ) (tak : Leaf → ℕ → ℕ) (hel : List ℕ) where
   abbrev pub IsRoomy : Leaf → Type 0
-  IsRoomy l = Each (λ p. tak l p ≤ min l.k (rm p l.start)) (ins l.set)
+  IsRoomy l = Each (λ p. tak l p ≤ min l.k (rm p l)) (ins l.set)
 
   marks_below : (ts : Trees) → AreBelow (map mark (worths_by val ts)) (ones ts)
   marks_below none = tt
@@ -48,7 +48,7 @@ module _ (ins : ℕ → List ℕ) (rm : ℕ → ℕ → ℕ) (val : Leaf → ℕ
 
   mutual
     pub values_below : (t : Tree) → EachLeaf (IsRight ins rm val tak hel) t → EachLeaf IsRoomy t → AreBelow (values ins val tak t) (uppers ins rm t)
-    values_below (one l) h k = below-map (tak l) (λ p. min l.k (rm p l.start)) (ins l.set) k
+    values_below (one l) h k = below-map (tak l) (λ p. min l.k (rm p l)) (ins l.set) k
     values_below (join op ts) h k = below-append (own_values ins val tak op ts) (own_uppers ins rm op ts) (values_of ins val tak ts) (uppers_of ins rm ts) (own_below op ts h) (values_below_of ts h k)
     values_below (scale t s) h k = values_below t h k
     values_below (barrier t v) h k = values_below t h k
@@ -73,7 +73,7 @@ module _ (i : Space) (os : List Bid) (parts : List (List ℕ)) (a : List Grant) 
         by_test true g = count_le_length (has (part_at parts p)) g.nodes
         by_test false g = omega arith
 
-    free_given : (l : Leaf) (p : ℕ) → Contains (leaves b.expr) l → IsGoodLeaf l → Contains (inside i os parts a keep l.set) p → gives l p ≤ room i os parts a keep p l.start
+    free_given : (l : Leaf) (p : ℕ) → Contains (leaves b.expr) l → IsGoodLeaf l → Contains (inside i os parts a keep l.set) p → gives l p ≤ usable i os parts a keep p l
     free_given l p below leaf_good within =
         let whole = granted_in a b.job l.num (part_at parts p) in
         let c : Tally = record { column = 0; job = b.job; leaf = l; part = p } in
@@ -88,22 +88,22 @@ module _ (i : Space) (os : List Bid) (parts : List (List ℕ)) (a : List Grant) 
         ) (tt, tt) in
         omega (arith, row, kept-le i os parts a keep fair b among (λ g. cond (suits b.job l.num g) (count (has (part_at parts p)) g.nodes) 0))
 
-    bid_below : AreBelow (values (inside i os parts a keep) (value i os parts a keep fair b among) gives b.expr) (uppers (inside i os parts a keep) (room i os parts a keep) b.expr)
+    bid_below : AreBelow (values (inside i os parts a keep) (value i os parts a keep fair b among) gives b.expr) (uppers (inside i os parts a keep) (usable i os parts a keep) b.expr)
     bid_below =
-        values_below (inside i os parts a keep) (room i os parts a keep) (value i os parts a keep fair b among) gives (held i os parts a keep fair b among) b.expr (all_right i os parts a keep fair b among)
-        (EachLeaf-both (λ l. IsGoodLeaf l → Each (λ p. gives l p ≤ min l.k (room i os parts a keep p l.start)) (inside i os parts a keep l.set)) IsGoodLeaf
-        (λ l. Each (λ p. gives l p ≤ min l.k (room i os parts a keep p l.start)) (inside i os parts a keep l.set)) (λ l f g. f g) b.expr
-        (EachLeaf-from (λ l. IsGoodLeaf l → Each (λ p. gives l p ≤ min l.k (room i os parts a keep p l.start)) (inside i os parts a keep l.set)) b.expr
-        (λ l below leaf_good. Each-from (λ p. gives l p ≤ min l.k (room i os parts a keep p l.start)) (inside i os parts a keep l.set)
+        values_below (inside i os parts a keep) (usable i os parts a keep) (value i os parts a keep fair b among) gives (held i os parts a keep fair b among) b.expr (all_right i os parts a keep fair b among)
+        (EachLeaf-both (λ l. IsGoodLeaf l → Each (λ p. gives l p ≤ min l.k (usable i os parts a keep p l)) (inside i os parts a keep l.set)) IsGoodLeaf
+        (λ l. Each (λ p. gives l p ≤ min l.k (usable i os parts a keep p l)) (inside i os parts a keep l.set)) (λ l f g. f g) b.expr
+        (EachLeaf-from (λ l. IsGoodLeaf l → Each (λ p. gives l p ≤ min l.k (usable i os parts a keep p l)) (inside i os parts a keep l.set)) b.expr
+        (λ l below leaf_good. Each-from (λ p. gives l p ≤ min l.k (usable i os parts a keep p l)) (inside i os parts a keep l.set)
         (λ p within. omega (arith, few_given l p below, free_given l p below leaf_good within))))
         (each_good b.expr (good i os parts a keep fair b among).0))
 
-  bids_below : (bs : List Bid) → Each (Contains os) bs → AreBelow (values_of_bids (inside i os parts a keep) parts keep bs) (bid_uppers (inside i os parts a keep) (room i os parts a keep) bs)
+  bids_below : (bs : List Bid) → Each (Contains os) bs → AreBelow (values_of_bids (inside i os parts a keep) parts keep bs) (bid_uppers (inside i os parts a keep) (usable i os parts a keep) bs)
   bids_below [] h = tt
   bids_below (b ∷ bs) h = (
     mark-le (worth_of (kept i os parts a keep fair b h.0) b.job b.expr),
-    below-append _ (uppers (inside i os parts a keep) (room i os parts a keep) b.expr) (values_of_bids (inside i os parts a keep) parts keep bs) (bid_uppers (inside i os parts a keep) (room i os parts a keep) bs) (bid_below b h.0) (bids_below bs h.1),
+    below-append _ (uppers (inside i os parts a keep) (usable i os parts a keep) b.expr) (values_of_bids (inside i os parts a keep) parts keep bs) (bid_uppers (inside i os parts a keep) (usable i os parts a keep) bs) (bid_below b h.0) (bids_below bs h.1),
   )
 
-  pub point_below : AreBelow (values_of_bids (inside i os parts a keep) parts keep os) (bid_uppers (inside i os parts a keep) (room i os parts a keep) os)
+  pub point_below : AreBelow (values_of_bids (inside i os parts a keep) parts keep os) (bid_uppers (inside i os parts a keep) (usable i os parts a keep) os)
   point_below = bids_below os (Each-from (Contains os) os (λ b at. at))

@@ -46,63 +46,63 @@ leaf_span job l (p ∷ ps) n e le =
       (Each-map (λ c. (n + 1 ≤ c.column) × (c.column < e)) (λ c. n < c.column) (λ c q. omega (arith, q.0)) (leaf_tallies job l ps (n + 1)) rest.0, rest.1),
     )
 
-module _ (inside : ℕ → List ℕ) (room : ℕ → ℕ → ℕ) where
+module _ (inside : ℕ → List ℕ) (usable : ℕ → Leaf → ℕ) where
   mutual
-    tallies_span : (job : ℕ) (t : Tree) (n : ℕ) → IsSpan n (n + width inside room t) (tallies inside room job t n)
-    tallies_span job (one l) n = leaf_span job l (inside l.set) n (n + width inside room (one l)) (omega (arith, length-map (inside l.set) (λ p. min l.k (room p l.start))))
+    tallies_span : (job : ℕ) (t : Tree) (n : ℕ) → IsSpan n (n + width inside usable t) (tallies inside usable job t n)
+    tallies_span job (one l) n = leaf_span job l (inside l.set) n (n + width inside usable (one l)) (omega (arith, length-map (inside l.set) (λ p. min l.k (usable p l))))
     tallies_span job (join op ts) n =
-        let w = length-append (own_uppers inside room op ts) (uppers_of inside room ts) in
-        span_wide (n + length (own_uppers inside room op ts)) (n + length (own_uppers inside room op ts) + length (uppers_of inside room ts)) n (n + width inside room (join op ts))
-        (tallies_of inside room job ts (n + length (own_uppers inside room op ts))) (omega arith) (omega (arith, w)) (tallies_of_span job ts (n + length (own_uppers inside room op ts)))
+        let w = length-append (own_uppers inside usable op ts) (uppers_of inside usable ts) in
+        span_wide (n + length (own_uppers inside usable op ts)) (n + length (own_uppers inside usable op ts) + length (uppers_of inside usable ts)) n (n + width inside usable (join op ts))
+        (tallies_of inside usable job ts (n + length (own_uppers inside usable op ts))) (omega arith) (omega (arith, w)) (tallies_of_span job ts (n + length (own_uppers inside usable op ts)))
     tallies_span job (scale t s) n = tallies_span job t n
     tallies_span job (barrier t v) n = tallies_span job t n
 
-    tallies_of_span : (job : ℕ) (ts : Trees) (n : ℕ) → IsSpan n (n + length (uppers_of inside room ts)) (tallies_of inside room job ts n)
+    tallies_of_span : (job : ℕ) (ts : Trees) (n : ℕ) → IsSpan n (n + length (uppers_of inside usable ts)) (tallies_of inside usable job ts n)
     tallies_of_span job none n = (tt, tt)
     tallies_of_span job (more t ts) n =
-        let w = length-append (uppers inside room t) (uppers_of inside room ts) in
-        span_append n (n + width inside room t) (n + length (uppers_of inside room (more t ts))) (tallies inside room job t n) (tallies_of inside room job ts (n + width inside room t))
+        let w = length-append (uppers inside usable t) (uppers_of inside usable ts) in
+        span_append n (n + width inside usable t) (n + length (uppers_of inside usable (more t ts))) (tallies inside usable job t n) (tallies_of inside usable job ts (n + width inside usable t))
         (omega arith) (omega (arith, w)) (tallies_span job t n)
-        (span_wide (n + width inside room t) (n + width inside room t + length (uppers_of inside room ts)) (n + width inside room t) (n + length (uppers_of inside room (more t ts)))
-        (tallies_of inside room job ts (n + width inside room t)) (omega arith) (omega (arith, w)) (tallies_of_span job ts (n + width inside room t)))
+        (span_wide (n + width inside usable t) (n + width inside usable t + length (uppers_of inside usable ts)) (n + width inside usable t) (n + length (uppers_of inside usable (more t ts)))
+        (tallies_of inside usable job ts (n + width inside usable t)) (omega arith) (omega (arith, w)) (tallies_of_span job ts (n + width inside usable t)))
 
-  bids_span : (bs : List Bid) (n : ℕ) → IsSpan n (n + length (bid_uppers inside room bs)) (bid_tallies inside room bs n)
+  bids_span : (bs : List Bid) (n : ℕ) → IsSpan n (n + length (bid_uppers inside usable bs)) (bid_tallies inside usable bs n)
   bids_span [] n = (tt, tt)
   bids_span (b ∷ bs) n =
-      let w = length-append (uppers inside room b.expr) (bid_uppers inside room bs) in
-      let m = n + 1 + width inside room b.expr in
-      let e = n + length (bid_uppers inside room (b ∷ bs)) in
-      span_append n m e (tallies inside room b.job b.expr (n + 1)) (bid_tallies inside room bs m) (omega arith) (omega (arith, w))
-      (span_wide (n + 1) (n + 1 + width inside room b.expr) n m (tallies inside room b.job b.expr (n + 1)) (omega arith) (omega arith) (tallies_span b.job b.expr (n + 1)))
-      (span_wide m (m + length (bid_uppers inside room bs)) m e (bid_tallies inside room bs m) (omega arith) (omega (arith, w)) (bids_span bs m))
+      let w = length-append (uppers inside usable b.expr) (bid_uppers inside usable bs) in
+      let m = n + 1 + width inside usable b.expr in
+      let e = n + length (bid_uppers inside usable (b ∷ bs)) in
+      span_append n m e (tallies inside usable b.job b.expr (n + 1)) (bid_tallies inside usable bs m) (omega arith) (omega (arith, w))
+      (span_wide (n + 1) (n + 1 + width inside usable b.expr) n m (tallies inside usable b.job b.expr (n + 1)) (omega arith) (omega arith) (tallies_span b.job b.expr (n + 1)))
+      (span_wide m (m + length (bid_uppers inside usable bs)) m e (bid_tallies inside usable bs m) (omega arith) (omega (arith, w)) (bids_span bs m))
 
   -- ---- their upper bounds
   module _ (x : ℕ → ℕ) where
-    leaf_boxes : (job : ℕ) (l : Leaf) (ps : List ℕ) (n : ℕ) → l.k ≤ 4096 → Reads x n (map (λ p. min l.k (room p l.start)) ps) → Each (λ c. x c.column ≤ 4096) (leaf_tallies job l ps n)
+    leaf_boxes : (job : ℕ) (l : Leaf) (ps : List ℕ) (n : ℕ) → l.k ≤ 4096 → Reads x n (map (λ p. min l.k (usable p l)) ps) → Each (λ c. x c.column ≤ 4096) (leaf_tallies job l ps n)
     leaf_boxes job l [] n le h = tt
     leaf_boxes job l (p ∷ ps) n le h = (omega (arith, h.0, le), leaf_boxes job l ps (n + 1) le h.1)
 
     mutual
-      boxes : (job : ℕ) (t : Tree) → IsSound t → (n : ℕ) → Reads x n (uppers inside room t) → Each (λ c. x c.column ≤ 4096) (tallies inside room job t n)
+      boxes : (job : ℕ) (t : Tree) → IsSound t → (n : ℕ) → Reads x n (uppers inside usable t) → Each (λ c. x c.column ≤ 4096) (tallies inside usable job t n)
       boxes job (one l) sound n h = leaf_boxes job l (inside l.set) n sound.0.few_nodes h
       boxes job (join op ts) sound n h =
-          boxes_of job ts sound.1 (n + length (own_uppers inside room op ts)) (Reads-split x n (length (own_uppers inside room op ts)) (own_uppers inside room op ts) (uppers_of inside room ts) refl h).1
+          boxes_of job ts sound.1 (n + length (own_uppers inside usable op ts)) (Reads-split x n (length (own_uppers inside usable op ts)) (own_uppers inside usable op ts) (uppers_of inside usable ts) refl h).1
       boxes job (scale t s) sound n h = boxes job t sound.0 n h
       boxes job (barrier t v) sound n h = boxes job t sound.0 n h
 
-      boxes_of : (job : ℕ) (ts : Trees) → AreSound ts → (n : ℕ) → Reads x n (uppers_of inside room ts) → Each (λ c. x c.column ≤ 4096) (tallies_of inside room job ts n)
+      boxes_of : (job : ℕ) (ts : Trees) → AreSound ts → (n : ℕ) → Reads x n (uppers_of inside usable ts) → Each (λ c. x c.column ≤ 4096) (tallies_of inside usable job ts n)
       boxes_of job none sound n h = tt
       boxes_of job (more t ts) sound n h =
-          let both = Reads-split x n (width inside room t) (uppers inside room t) (uppers_of inside room ts) refl h in
-          Each-append (λ c. x c.column ≤ 4096) (tallies inside room job t n) (tallies_of inside room job ts (n + width inside room t))
-          (boxes job t sound.0 n both.0) (boxes_of job ts sound.1 (n + width inside room t) both.1)
+          let both = Reads-split x n (width inside usable t) (uppers inside usable t) (uppers_of inside usable ts) refl h in
+          Each-append (λ c. x c.column ≤ 4096) (tallies inside usable job t n) (tallies_of inside usable job ts (n + width inside usable t))
+          (boxes job t sound.0 n both.0) (boxes_of job ts sound.1 (n + width inside usable t) both.1)
 
-    bid_boxes : (bs : List Bid) (n : ℕ) → Each (λ b. IsSound b.expr) bs → Reads x n (bid_uppers inside room bs) → Each (λ c. x c.column ≤ 4096) (bid_tallies inside room bs n)
+    bid_boxes : (bs : List Bid) (n : ℕ) → Each (λ b. IsSound b.expr) bs → Reads x n (bid_uppers inside usable bs) → Each (λ c. x c.column ≤ 4096) (bid_tallies inside usable bs n)
     bid_boxes [] n sound h = tt
     bid_boxes (b ∷ bs) n sound h =
-        let both = Reads-split x (n + 1) (width inside room b.expr) (uppers inside room b.expr) (bid_uppers inside room bs) refl h.1 in
-        Each-append (λ c. x c.column ≤ 4096) (tallies inside room b.job b.expr (n + 1)) (bid_tallies inside room bs (n + 1 + width inside room b.expr))
-        (boxes b.job b.expr sound.0 (n + 1) both.0) (bid_boxes bs (n + 1 + width inside room b.expr) sound.1 both.1)
+        let both = Reads-split x (n + 1) (width inside usable b.expr) (uppers inside usable b.expr) (bid_uppers inside usable bs) refl h.1 in
+        Each-append (λ c. x c.column ≤ 4096) (tallies inside usable b.job b.expr (n + 1)) (bid_tallies inside usable bs (n + 1 + width inside usable b.expr))
+        (boxes b.job b.expr sound.0 (n + 1) both.0) (bid_boxes bs (n + 1 + width inside usable b.expr) sound.1 both.1)
 
 -- ---- as counts of a program
 each_count : (P : ℕ → Type 0) (cs : List Tally) → Each (λ c. P c.column) cs → Each (λ (c : Count). P c.column) (map count_of cs)
@@ -127,13 +127,13 @@ upper_below [] k m h = omega (arith, ints)
 upper_below (u ∷ us) zero m h = omega (arith, ints, h)
 upper_below (u ∷ us) (suc k) m h = upper_below us k m h
 
-module _ (inside : ℕ → List ℕ) (room : ℕ → ℕ → ℕ) (bs : List Bid) (sound : Each (λ b. IsSound b.expr) bs) (d : Draft)
-    (uppers_are : d.uppers ≡ bid_uppers inside room bs) (tallies_are : d.tallies ≡ bid_tallies inside room bs 0) (p : Program) (is : plain p ≡ flat d) (cs : List Count) (are : cs ≡ map count_of d.tallies) where
+module _ (inside : ℕ → List ℕ) (usable : ℕ → Leaf → ℕ) (bs : List Bid) (sound : Each (λ b. IsSound b.expr) bs) (d : Draft)
+    (uppers_are : d.uppers ≡ bid_uppers inside usable bs) (tallies_are : d.tallies ≡ bid_tallies inside usable bs 0) (p : Program) (is : plain p ≡ flat d) (cs : List Count) (are : cs ≡ map count_of d.tallies) where
   pub counts_are : AreCountsOf p cs
   counts_are =
-      let us = bid_uppers inside room bs in
-      let ts = bid_tallies inside room bs 0 in
-      let span = bids_span inside room bs 0 in
+      let us = bid_uppers inside usable bs in
+      let ts = bid_tallies inside usable bs 0 in
+      let span = bids_span inside usable bs 0 in
       let same : cs ≡ map count_of ts = are ∙ ap (map count_of) tallies_are in
       let n : length p.costs.items ≡ length us =
       ap (λ (q : FlatProgram). length q.costs) is ∙ length-map-range_with_len (λ j. pos (coefficient d.objective j)) 0 (length d.uppers) ∙ ap (λ (vs : List ℕ). length vs) uppers_are in
@@ -151,5 +151,5 @@ module _ (inside : ℕ → List ℕ) (room : ℕ → ℕ → ℕ) (bs : List Bid
             (each_count (λ k. number_at p.upper.items k ≤ℤ pos 4096) ts
             (Each-map (λ c. at_column (map pos us) c.column ≤ 4096) (λ c. number_at p.upper.items c.column ≤ℤ pos 4096)
             (λ c h. subst (λ (zs : List ℤ). number_at zs c.column ≤ℤ pos 4096) (sym upper) (upper_below us c.column 4096 h)) ts
-            (bid_boxes inside room (at_column (map pos us)) bs 0 sound (point_reads us))));
+            (bid_boxes inside usable (at_column (map pos us)) bs 0 sound (point_reads us))));
       }

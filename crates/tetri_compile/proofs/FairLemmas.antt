@@ -23,6 +23,7 @@ use Rattle.tetri_compile.specs.declared.outline.Tally.{Tally}
 use Rattle.tetri_compile.specs.Draft.{is_held, tally_form, supply_row, objective, bid_rows, bid_tallies, part_supply, supply, draft_of}
 use Rattle.tetri_compile.specs.Marks.{mark, values}
 use Rattle.tetri_compile.specs.Forms.{at_point, AreMet, Reads}
+use Rattle.tetri_compile.specs.Usable.{usable_by}
 use Rattle.tetri_compile.specs.Walk.{width, form, rows}
 use Rattle.tetri_compile.proofs.WalkLemmas.{IsRight, hold, length-values}
 use Rattle.tetri_compile.proofs.FormLemmas.{at_point-append, Reads-split, AreMet-append}
@@ -62,6 +63,9 @@ worth_of_bids a bs = sum_of (λ b. worth_of a b.job b.expr) bs
 module _ (i : Space) (os : List Bid) (parts : List (List ℕ)) (a : List Grant) (keep : ℕ → List Grant) where
   abbrev pub inside : ℕ → List ℕ
   inside = parts_in i parts
+
+  abbrev pub usable : ℕ → Leaf → ℕ
+  usable = usable_by i parts
 
   abbrev pub room : ℕ → ℕ → ℕ
   room = available i parts
@@ -153,7 +157,7 @@ module _ (i : Space) (os : List Bid) (parts : List (List ℕ)) (a : List Grant) 
               (λ m. count (λ p. has (part_at parts p) m) (inside l.set) ≡ 1)
               (λ m s f. fair.covers b l among below m s (free_below i m l.start (f l.start (omega arith) (omega (arith, leaf_good.some_slots))))) g.nodes r.in_set r.idle
 
-      leaf_right : (l : Leaf) → Contains (leaves b.expr) l → IsGoodLeaf l → IsRight inside room value taken held l
+      leaf_right : (l : Leaf) → Contains (leaves b.expr) l → IsGoodLeaf l → IsRight inside usable value taken held l
       leaf_right l below leaf_good = record {
         good = leaf_good;
         few = omega (arith, counted l below leaf_good, granted_le l.num, granted_few l below);
@@ -161,47 +165,47 @@ module _ (i : Space) (os : List Bid) (parts : List (List ℕ)) (a : List Grant) 
         bare = λ bare. counted l below leaf_good ∙ ungranted kept b.job l.num (λ at. bare l.num (0, omega arith, refl) at);
       }
 
-      pub all_right : EachLeaf (IsRight inside room value taken held) b.expr
+      pub all_right : EachLeaf (IsRight inside usable value taken held) b.expr
       all_right =
-          EachLeaf-both (λ l. IsGoodLeaf l → IsRight inside room value taken held l) IsGoodLeaf (IsRight inside room value taken held) (λ l f g. f g) b.expr
-          (EachLeaf-from (λ l. IsGoodLeaf l → IsRight inside room value taken held l) b.expr leaf_right) (each_good b.expr good.0)
+          EachLeaf-both (λ l. IsGoodLeaf l → IsRight inside usable value taken held l) IsGoodLeaf (IsRight inside usable value taken held) (λ l f g. f g) b.expr
+          (EachLeaf-from (λ l. IsGoodLeaf l → IsRight inside usable value taken held l) b.expr leaf_right) (each_good b.expr good.0)
 
       bid_holds : (x : ℕ → ℕ) (n : ℕ) → x n ≡ mark (worth_of kept b.job b.expr) → Reads x (n + 1) (values inside value taken b.expr) →
-          AreMet x (rows inside room b.expr n (n + 1)) × (worth_of a b.job b.expr ≤ at_point x (form inside room b.expr n (n + 1)))
+          AreMet x (rows inside usable b.expr n (n + 1)) × (worth_of a b.job b.expr ≤ at_point x (form inside usable b.expr n (n + 1)))
       bid_holds x n at reads =
-          let below = hold inside room value taken held x b.expr all_right keeping.thrifty n (n + 1) at reads in
+          let below = hold inside usable value taken held x b.expr all_right keeping.thrifty n (n + 1) at reads in
           (below.0, omega (arith, below.1, keeping.worth))
 
     bids_hold : (x : ℕ → ℕ) (bs : List Bid) (n : ℕ) → Each (Contains os) bs → Reads x n (values_of_bids inside parts keep bs) →
-        AreMet x (bid_rows inside room bs n) × (worth_of_bids a bs ≤ at_point x (objective inside room bs n))
+        AreMet x (bid_rows inside usable bs n) × (worth_of_bids a bs ≤ at_point x (objective inside usable bs n))
     bids_hold x [] n among reads = (tt, omega arith)
     bids_hold x (b ∷ bs) n among reads =
-        let split = Reads-split x (n + 1) (width inside room b.expr) (values inside (value b among.0) (taken b among.0) b.expr) (values_of_bids inside parts keep bs)
-        (length-values inside room (value b among.0) (taken b among.0) [] b.expr) reads.1 in
+        let split = Reads-split x (n + 1) (width inside usable b.expr) (values inside (value b among.0) (taken b among.0) b.expr) (values_of_bids inside parts keep bs)
+        (length-values inside usable (value b among.0) (taken b among.0) [] b.expr) reads.1 in
         let here = bid_holds b among.0 x n reads.0 split.0 in
-        let rest = bids_hold x bs (n + 1 + width inside room b.expr) among.1 split.1 in (
+        let rest = bids_hold x bs (n + 1 + width inside usable b.expr) among.1 split.1 in (
           AreMet-append x _ _ here.0 rest.0,
-          omega (arith, here.1, rest.1, at_point-append x (form inside room b.expr n (n + 1)) (objective inside room bs (n + 1 + width inside room b.expr))),
+          omega (arith, here.1, rest.1, at_point-append x (form inside usable b.expr n (n + 1)) (objective inside usable bs (n + 1 + width inside usable b.expr))),
         )
 
     -- what a count column has at the point
     pub record IsTold (x : ℕ → ℕ) (c : Tally) : Type 0 where
       pub bid : Bid
       pub among : Contains os bid
-      pub of_bid : IsOf inside room bid.job (leaves bid.expr) c
+      pub of_bid : IsOf inside usable bid.job (leaves bid.expr) c
       pub reads : x c.column ≤ granted_in a c.job c.leaf.num (part_at parts c.part)
 
-    bids_told : (x : ℕ → ℕ) (bs : List Bid) (n : ℕ) → Each (Contains os) bs → Reads x n (values_of_bids inside parts keep bs) → Each (IsTold x) (bid_tallies inside room bs n)
+    bids_told : (x : ℕ → ℕ) (bs : List Bid) (n : ℕ) → Each (Contains os) bs → Reads x n (values_of_bids inside parts keep bs) → Each (IsTold x) (bid_tallies inside usable bs n)
     bids_told x [] n among reads = tt
     bids_told x (b ∷ bs) n among reads =
-        let split = Reads-split x (n + 1) (width inside room b.expr) (values inside (value b among.0) (taken b among.0) b.expr) (values_of_bids inside parts keep bs)
-        (length-values inside room (value b among.0) (taken b among.0) [] b.expr) reads.1 in
+        let split = Reads-split x (n + 1) (width inside usable b.expr) (values inside (value b among.0) (taken b among.0) b.expr) (values_of_bids inside parts keep bs)
+        (length-values inside usable (value b among.0) (taken b among.0) [] b.expr) reads.1 in
         Each-append (IsTold x) _ _
-        (Each-both (IsOf inside room b.job (leaves b.expr)) (IsRead inside room x (value b among.0) (taken b among.0)) (IsTold x) (λ c o r. told c o r) _
-        (tallies_leaf inside room b.job b.expr (n + 1)) (tallies_read inside room x (value b among.0) (taken b among.0) b.job b.expr (n + 1) split.0))
-        (bids_told x bs (n + 1 + width inside room b.expr) among.1 split.1)
+        (Each-both (IsOf inside usable b.job (leaves b.expr)) (IsRead inside usable x (value b among.0) (taken b among.0)) (IsTold x) (λ c o r. told c o r) _
+        (tallies_leaf inside usable b.job b.expr (n + 1)) (tallies_read inside usable x (value b among.0) (taken b among.0) b.job b.expr (n + 1) split.0))
+        (bids_told x bs (n + 1 + width inside usable b.expr) among.1 split.1)
       where
-        told : (c : Tally) → IsOf inside room b.job (leaves b.expr) c → x c.column ≡ granted_in (kept b among.0) b.job c.leaf.num (part_at parts c.part) → IsTold x c
+        told : (c : Tally) → IsOf inside usable b.job (leaves b.expr) c → x c.column ≡ granted_in (kept b among.0) b.job c.leaf.num (part_at parts c.part) → IsTold x c
         told c o r = record {
           bid = b;
           among = among.0;
@@ -214,22 +218,22 @@ module _ (i : Space) (os : List Bid) (parts : List (List ℕ)) (a : List Grant) 
 
     -- no two count the same
     bids_other : (bs : List Bid) (n : ℕ) → Each (λ b. IsSound b.expr × AreApart b.expr) bs → EachPair (λ b c. b.job ≡ c.job → ⊥) bs →
-        EachPair (CountsOther inside room) (bid_tallies inside room bs n)
+        EachPair (CountsOther inside usable) (bid_tallies inside usable bs n)
     bids_other [] n fine jobs = tt
     bids_other (b ∷ bs) n fine jobs =
-        EachPair-append (CountsOther inside room) _ _
-        (tallies_other inside room (λ s. filter-ascends (λ p. list_all (has (set_at i s)) (part_at parts p)) (range_with_len 0 (length parts)) (range-ascends 0 (length parts))) b.job b.expr (n + 1) fine.0.1)
-        (bids_other bs (n + 1 + width inside room b.expr) fine.1 jobs.1)
-        (Each-across (λ c. c.job ≡ b.job) (λ d. b.job ≡ d.job → ⊥) (CountsOther inside room) (λ c d p q e f g. q (sym p ∙ e)) _ _
-        (Each-map (IsOf inside room b.job (leaves b.expr)) (λ c. c.job ≡ b.job) (λ c o. o.job) _ (tallies_leaf inside room b.job b.expr (n + 1)))
-        (of_others bs (n + 1 + width inside room b.expr) jobs.0))
+        EachPair-append (CountsOther inside usable) _ _
+        (tallies_other inside usable (λ s. filter-ascends (λ p. list_all (has (set_at i s)) (part_at parts p)) (range_with_len 0 (length parts)) (range-ascends 0 (length parts))) b.job b.expr (n + 1) fine.0.1)
+        (bids_other bs (n + 1 + width inside usable b.expr) fine.1 jobs.1)
+        (Each-across (λ c. c.job ≡ b.job) (λ d. b.job ≡ d.job → ⊥) (CountsOther inside usable) (λ c d p q e f g. q (sym p ∙ e)) _ _
+        (Each-map (IsOf inside usable b.job (leaves b.expr)) (λ c. c.job ≡ b.job) (λ c o. o.job) _ (tallies_leaf inside usable b.job b.expr (n + 1)))
+        (of_others bs (n + 1 + width inside usable b.expr) jobs.0))
       where
-        of_others : (cs : List Bid) (m : ℕ) → Each (λ c. b.job ≡ c.job → ⊥) cs → Each (λ d. b.job ≡ d.job → ⊥) (bid_tallies inside room cs m)
+        of_others : (cs : List Bid) (m : ℕ) → Each (λ c. b.job ≡ c.job → ⊥) cs → Each (λ d. b.job ≡ d.job → ⊥) (bid_tallies inside usable cs m)
         of_others [] m h = tt
         of_others (c ∷ cs) m h =
             Each-append (λ d. b.job ≡ d.job → ⊥) _ _
-            (Each-map (IsOf inside room c.job (leaves c.expr)) (λ d. b.job ≡ d.job → ⊥) (λ d o e. h.0 (e ∙ o.job)) _ (tallies_leaf inside room c.job c.expr (m + 1)))
-            (of_others cs (m + 1 + width inside room c.expr) h.1)
+            (Each-map (IsOf inside usable c.job (leaves c.expr)) (λ d. b.job ≡ d.job → ⊥) (λ d o e. h.0 (e ∙ o.job)) _ (tallies_leaf inside usable c.job c.expr (m + 1)))
+            (of_others cs (m + 1 + width inside usable c.expr) h.1)
 
     -- ---- the supply of a partition at a slot
     module _ (x : ℕ → ℕ) (p t : ℕ) where
@@ -276,7 +280,7 @@ module _ (i : Space) (os : List Bid) (parts : List (List ℕ)) (a : List Grant) 
           apart j.told.bid l.told.bid c.leaf d.leaf j.told.among l.told.among j.told.of_bid.leaf l.told.of_bid.leaf s r n t p q j.early j.late l.early l.late) f) e)
           a (Each-all (λ g. Unit {0}) (λ g. tt) a) fair.apart
 
-      pub supply_le : (cs : List Tally) → Each IsHeldTally cs → EachPair (CountsOther inside room) cs → at_point x (tally_form cs) ≤ room p t
+      pub supply_le : (cs : List Tally) → Each IsHeldTally cs → EachPair (CountsOther inside usable) cs → at_point x (tally_form cs) ≤ room p t
       supply_le cs h other =
           subst (λ n. n ≤ room p t) (sym (tally_sum cs))
           (le_trans
@@ -289,7 +293,7 @@ module _ (i : Space) (os : List Bid) (parts : List (List ℕ)) (a : List Grant) 
         where
           each_other : (g : Grant) → EachPair (λ c d. suits c.job c.leaf.num g ≡ true → suits d.job d.leaf.num g ≡ true → ⊥) cs
           each_other g =
-              EachPair-with IsHeldTally (CountsOther inside room) (λ c d. suits c.job c.leaf.num g ≡ true → suits d.job d.leaf.num g ≡ true → ⊥)
+              EachPair-with IsHeldTally (CountsOther inside usable) (λ c d. suits c.job c.leaf.num g ≡ true → suits d.job d.leaf.num g ≡ true → ⊥)
               (λ c d j k o s r.
               let one = and_parts (g.job == c.job) (g.leaf == c.leaf.num) s in
               let two = and_parts (g.job == d.job) (g.leaf == d.leaf.num) r in
@@ -297,7 +301,7 @@ module _ (i : Space) (os : List Bid) (parts : List (List ℕ)) (a : List Grant) 
               (sym (eq_from_test g.leaf c.leaf.num one.1) ∙ eq_from_test g.leaf d.leaf.num two.1)
               (j.part ∙ sym k.part)) cs h other
 
-    supply_met : (x : ℕ → ℕ) (cs : List Tally) (slots ps : List ℕ) → Each (IsTold x) cs → EachPair (CountsOther inside room) cs → AreMet x (supply inside room cs slots ps)
+    supply_met : (x : ℕ → ℕ) (cs : List Tally) (slots ps : List ℕ) → Each (IsTold x) cs → EachPair (CountsOther inside usable) cs → AreMet x (supply room cs slots ps)
     supply_met x cs slots [] told other = tt
     supply_met x cs slots (p ∷ ps) told other = AreMet-append x _ _ (part_met slots) (supply_met x cs slots ps told other)
       where
@@ -310,10 +314,10 @@ module _ (i : Space) (os : List Bid) (parts : List (List ℕ)) (a : List Grant) 
             Each-both (IsTold x) (λ c. is_held p t c ≡ true) (IsHeldTally x p t) (λ c k e. held_tally x p t c k e) (filter (is_held p t) cs)
             (Each-filter (IsTold x) (is_held p t) cs told) (Each-passed (λ c. is_held p t c ≡ true) (is_held p t) (λ c e. e) cs)
 
-        part_met : (ts : List ℕ) → AreMet x (part_supply inside room cs p ts)
+        part_met : (ts : List ℕ) → AreMet x (part_supply room cs p ts)
         part_met [] = tt
         part_met (t ∷ ts) = AreMet-append x _ _ (one_met t (filter (is_held p t) cs)
-            (supply_le x p t (filter (is_held p t) cs) (all_held t) (EachPair-filter (CountsOther inside room) (is_held p t) cs other))) (part_met ts)
+            (supply_le x p t (filter (is_held p t) cs) (all_held t) (EachPair-filter (CountsOther inside usable) (is_held p t) cs other))) (part_met ts)
 
     -- the point of the allotment meets every row of the program, and its objective is at least the sum_of
     pub first_law : (x : ℕ → ℕ) → Reads x 0 (values_of_bids inside parts keep os) →
@@ -322,6 +326,6 @@ module _ (i : Space) (os : List Bid) (parts : List (List ℕ)) (a : List Grant) 
         let all = Each-from (Contains os) os (λ b at. at) in
         let here = bids_hold x os 0 all reads in (
           AreMet-append x _ _ here.0
-              (supply_met x (bid_tallies inside room os 0) (range_with_len i.now i.window) (range_with_len 0 (length parts)) (bids_told x os 0 all reads) (bids_other os 0 fair.sound fair.jobs)),
+              (supply_met x (bid_tallies inside usable os 0) (range_with_len i.now i.window) (range_with_len 0 (length parts)) (bids_told x os 0 all reads) (bids_other os 0 fair.sound fair.jobs)),
           here.1,
         )

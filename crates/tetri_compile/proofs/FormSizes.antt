@@ -5,6 +5,7 @@ use Rattle.std.proofs.Math.Nat.{mul-le-mul_left, div-mul-le_self}
 use Rattle.std.proofs.lemmas.Bool.{cond_both}
 use Rattle.std.proofs.lemmas.Bool.Decides.{nat_tests}
 use Rattle.std.proofs.lemmas.List.{length-append, length-map}
+use Rattle.tetri_strl.specs.declared.expr.Leaf.{Leaf}
 use Rattle.tetri_strl.specs.Tree.{greatest, least, added, Tree, one, join, scale, barrier, Trees, none, more}
 use Rattle.tetri_strl.specs.WellMade.{peak, peaks, IsSound, AreSound}
 use Rattle.tetri_strl.specs.Worth.{greatest_of, added_of}
@@ -48,10 +49,10 @@ least_small n b m le = by_test (b == 0) (λ e. some b e)
     by_test true f = tt
     by_test false f = (omega (arith, f refl), tt)
 
-module _ (inside : ℕ → List ℕ) (room : ℕ → ℕ → ℕ) where
+module _ (inside : ℕ → List ℕ) (usable : ℕ → Leaf → ℕ) where
   mutual
     -- each coefficient of a form is at most the peak
-    pub form_small : (t : Tree) → IsSound t → (i n : ℕ) → Each (λ s. s.by ≤ peak t) (form inside room t i n)
+    pub form_small : (t : Tree) → IsSound t → (i n : ℕ) → Each (λ s. s.by ≤ peak t) (form inside usable t i n)
     form_small (one l) sound i n =
         cond_both l.linear (run (l.v / l.k) n (inside l.set)) (share i l.v ∷ []) (λ f. Each (λ s. s.by ≤ l.v) f)
         (λ e. run_small (l.v / l.k) l.v n (inside l.set) (omega (arith, mul-le-mul_left (l.v / l.k) sound.0.some_nodes, div-mul-le_self l.v l.k)))
@@ -60,15 +61,15 @@ module _ (inside : ℕ → List ℕ) (room : ℕ → ℕ → ℕ) where
     form_small (join least ts) sound i n =
         least_small n (best (join least ts)) (greatest_of (peaks ts)) (worth_le_peak (λ l. l.v) (λ l g. omega arith) (join least ts) sound)
     form_small (join added ts) sound i n = forms_small ts sound.1 (added_of (peaks ts)) (below_added (peaks ts)) n (n + length (ones ts))
-    form_small (scale t s) sound i n = times_small s (peak t) (form inside room t i n) (form_small t sound.0 i n)
+    form_small (scale t s) sound i n = times_small s (peak t) (form inside usable t i n) (form_small t sound.0 i n)
     form_small (barrier t v) sound i n = (omega arith, tt)
 
-    forms_small : (ts : Trees) → AreSound ts → (m : ℕ) → AllBelow m (peaks ts) → (j n : ℕ) → Each (λ s. s.by ≤ m) (forms inside room ts j n)
+    forms_small : (ts : Trees) → AreSound ts → (m : ℕ) → AllBelow m (peaks ts) → (j n : ℕ) → Each (λ s. s.by ≤ m) (forms inside usable ts j n)
     forms_small none sound m h j n = tt
     forms_small (more t ts) sound m h j n =
-        Each-append (λ s. s.by ≤ m) (form inside room t j n) (forms inside room ts (j + 1) (n + width inside room t))
-        (Each-map (λ s. s.by ≤ peak t) (λ s. s.by ≤ m) (λ s le. le_trans le h.0) (form inside room t j n) (form_small t sound.0 j n))
-        (forms_small ts sound.1 m h.1 (j + 1) (n + width inside room t))
+        Each-append (λ s. s.by ≤ m) (form inside usable t j n) (forms inside usable ts (j + 1) (n + width inside usable t))
+        (Each-map (λ s. s.by ≤ peak t) (λ s. s.by ≤ m) (λ s le. le_trans le h.0) (form inside usable t j n) (form_small t sound.0 j n))
+        (forms_small ts sound.1 m h.1 (j + 1) (n + width inside usable t))
 
   -- ---- columns
   pub run_in : {X : Type 0} (b n top : ℕ) (xs : List X) → n + length xs ≤ top → Each (λ s. s.column < top) (run b n xs)
@@ -80,24 +81,24 @@ module _ (inside : ℕ → List ℕ) (room : ℕ → ℕ → ℕ) where
   times_in s top (p ∷ ps) h = (h.0, times_in s top ps h.1)
 
   mutual
-    pub form_in : (t : Tree) (i n top : ℕ) → i < top → n + width inside room t ≤ top → Each (λ s. s.column < top) (form inside room t i n)
+    pub form_in : (t : Tree) (i n top : ℕ) → i < top → n + width inside usable t ≤ top → Each (λ s. s.column < top) (form inside usable t i n)
     form_in (one l) i n top low le =
         cond_both l.linear (run (l.v / l.k) n (inside l.set)) (share i l.v ∷ []) (λ f. Each (λ s. s.column < top) f)
-        (λ e. run_in (l.v / l.k) n top (inside l.set) (omega (arith, length-map (inside l.set) (λ p. min l.k (room p l.start)))))
+        (λ e. run_in (l.v / l.k) n top (inside l.set) (omega (arith, length-map (inside l.set) (λ p. min l.k (usable p l)))))
         (λ e. (low, tt))
     form_in (join greatest ts) i n top low le =
-        let w = length-append (ones ts) (uppers_of inside room ts) in
+        let w = length-append (ones ts) (uppers_of inside usable ts) in
         forms_in ts n (n + length (ones ts)) top (omega (arith, w)) (omega (arith, w))
     form_in (join least ts) i n top low le = cond_both (best (join least ts) == 0) [] (share n 1 ∷ []) (λ f. Each (λ s. s.column < top) f) (λ e. tt) (λ e. (omega arith, tt))
     form_in (join added ts) i n top low le =
-        let w = length-append (ones ts) (uppers_of inside room ts) in
+        let w = length-append (ones ts) (uppers_of inside usable ts) in
         forms_in ts n (n + length (ones ts)) top (omega (arith, w)) (omega (arith, w))
-    form_in (scale t s) i n top low le = times_in s top (form inside room t i n) (form_in t i n top low le)
+    form_in (scale t s) i n top low le = times_in s top (form inside usable t i n) (form_in t i n top low le)
     form_in (barrier t v) i n top low le = (low, tt)
 
-    forms_in : (ts : Trees) (j n top : ℕ) → j + length (ones ts) ≤ top → n + length (uppers_of inside room ts) ≤ top → Each (λ s. s.column < top) (forms inside room ts j n)
+    forms_in : (ts : Trees) (j n top : ℕ) → j + length (ones ts) ≤ top → n + length (uppers_of inside usable ts) ≤ top → Each (λ s. s.column < top) (forms inside usable ts j n)
     forms_in none j n top low le = tt
     forms_in (more t ts) j n top low le =
-        let w = length-append (uppers inside room t) (uppers_of inside room ts) in
-        Each-append (λ s. s.column < top) (form inside room t j n) (forms inside room ts (j + 1) (n + width inside room t))
-        (form_in t j n top (omega arith) (omega (arith, w))) (forms_in ts (j + 1) (n + width inside room t) top (omega arith) (omega (arith, w)))
+        let w = length-append (uppers inside usable t) (uppers_of inside usable ts) in
+        Each-append (λ s. s.column < top) (form inside usable t j n) (forms inside usable ts (j + 1) (n + width inside usable t))
+        (form_in t j n top (omega arith) (omega (arith, w))) (forms_in ts (j + 1) (n + width inside usable t) top (omega arith) (omega (arith, w)))

@@ -1,5 +1,6 @@
 pub mod BoxLemmas
 pub mod ByPartLemmas
+pub mod CoefficientLemmas
 pub mod CompileLemmas
 pub mod CountLemmas
 pub mod EntryLemmas
@@ -9,11 +10,13 @@ pub mod FitLemmas
 pub mod FlatLemmas
 pub mod FormLemmas
 pub mod FormSizes
+pub mod GainLaws
 pub mod GainLemmas
 pub mod GrantLemmas
 pub mod KidLemmas
 pub mod LawLemmas
 pub mod LawfulLemmas
+pub mod NumberLemmas
 pub mod OutlineLemmas
 pub mod ProgramLemmas
 pub mod RoomLemmas

@@ -120,28 +120,28 @@ module _ (from to : ℕ) where
           in_range n p q = grind (arith, nat_tests)
 
 -- parts walked, one further
-module _ (inside : ℕ → List ℕ) (room : ℕ → ℕ → ℕ) (job j : ℕ) (t : Tree) (ts : Trees) (old new : Outline) (f : Form)
-    (is : f ≡ form inside room t j (next_column old)) (grows : Grows old new (uppers inside room t) (rows inside room t j (next_column old)) (tallies inside room job t (next_column old))) where
-  pub next_is : next_column new ≡ next_column old + width inside room t
-  next_is = grows_length old new (uppers inside room t) (rows inside room t j (next_column old)) (tallies inside room job t (next_column old)) grows
+module _ (inside : ℕ → List ℕ) (usable : ℕ → Leaf → ℕ) (job j : ℕ) (t : Tree) (ts : Trees) (old new : Outline) (f : Form)
+    (is : f ≡ form inside usable t j (next_column old)) (grows : Grows old new (uppers inside usable t) (rows inside usable t j (next_column old)) (tallies inside usable job t (next_column old))) where
+  pub next_is : next_column new ≡ next_column old + width inside usable t
+  next_is = grows_length old new (uppers inside usable t) (rows inside usable t j (next_column old)) (tallies inside usable job t (next_column old)) grows
 
-  pub forms_next : (before after : Form) → after ≡ before ++ f → after ++ forms inside room ts (j + 1) (next_column new) ≡ before ++ forms inside room (more t ts) j (next_column old)
+  pub forms_next : (before after : Form) → after ≡ before ++ f → after ++ forms inside usable ts (j + 1) (next_column new) ≡ before ++ forms inside usable (more t ts) j (next_column old)
   forms_next before after e =
-      ap (λ g. g ++ forms inside room ts (j + 1) (next_column new)) (e ∙ ap (λ g. before ++ g) is)
-      ∙ append_assoc before (form inside room t j (next_column old)) (forms inside room ts (j + 1) (next_column new))
-      ∙ ap (λ n. before ++ (form inside room t j (next_column old) ++ forms inside room ts (j + 1) n)) next_is
+      ap (λ g. g ++ forms inside usable ts (j + 1) (next_column new)) (e ∙ ap (λ g. before ++ g) is)
+      ∙ append_assoc before (form inside usable t j (next_column old)) (forms inside usable ts (j + 1) (next_column new))
+      ∙ ap (λ n. before ++ (form inside usable t j (next_column old) ++ forms inside usable ts (j + 1) n)) next_is
 
-  pub uppers_next : new.uppers.items ++ uppers_of inside room ts ≡ old.uppers.items ++ uppers_of inside room (more t ts)
-  uppers_next = ap (λ us. us ++ uppers_of inside room ts) grows.uppers ∙ append_assoc old.uppers.items (uppers inside room t) (uppers_of inside room ts)
+  pub uppers_next : new.uppers.items ++ uppers_of inside usable ts ≡ old.uppers.items ++ uppers_of inside usable (more t ts)
+  uppers_next = ap (λ us. us ++ uppers_of inside usable ts) grows.uppers ∙ append_assoc old.uppers.items (uppers inside usable t) (uppers_of inside usable ts)
 
-  pub rows_next : map plain_limit new.rows.items ++ rows_of inside room ts (j + 1) (next_column new) ≡ map plain_limit old.rows.items ++ rows_of inside room (more t ts) j (next_column old)
+  pub rows_next : map plain_limit new.rows.items ++ rows_of inside usable ts (j + 1) (next_column new) ≡ map plain_limit old.rows.items ++ rows_of inside usable (more t ts) j (next_column old)
   rows_next =
-      ap (λ rs. rs ++ rows_of inside room ts (j + 1) (next_column new)) grows.rows
-      ∙ append_assoc (map plain_limit old.rows.items) (rows inside room t j (next_column old)) (rows_of inside room ts (j + 1) (next_column new))
-      ∙ ap (λ n. map plain_limit old.rows.items ++ (rows inside room t j (next_column old) ++ rows_of inside room ts (j + 1) n)) next_is
+      ap (λ rs. rs ++ rows_of inside usable ts (j + 1) (next_column new)) grows.rows
+      ∙ append_assoc (map plain_limit old.rows.items) (rows inside usable t j (next_column old)) (rows_of inside usable ts (j + 1) (next_column new))
+      ∙ ap (λ n. map plain_limit old.rows.items ++ (rows inside usable t j (next_column old) ++ rows_of inside usable ts (j + 1) n)) next_is
 
-  pub tallies_next : new.tallies.items ++ tallies_of inside room job ts (next_column new) ≡ old.tallies.items ++ tallies_of inside room job (more t ts) (next_column old)
+  pub tallies_next : new.tallies.items ++ tallies_of inside usable job ts (next_column new) ≡ old.tallies.items ++ tallies_of inside usable job (more t ts) (next_column old)
   tallies_next =
-      ap (λ cs. cs ++ tallies_of inside room job ts (next_column new)) grows.tallies
-      ∙ append_assoc old.tallies.items (tallies inside room job t (next_column old)) (tallies_of inside room job ts (next_column new))
-      ∙ ap (λ n. old.tallies.items ++ (tallies inside room job t (next_column old) ++ tallies_of inside room job ts n)) next_is
+      ap (λ cs. cs ++ tallies_of inside usable job ts (next_column new)) grows.tallies
+      ∙ append_assoc old.tallies.items (tallies inside usable job t (next_column old)) (tallies_of inside usable job ts (next_column new))
+      ∙ ap (λ n. old.tallies.items ++ (tallies inside usable job t (next_column old) ++ tallies_of inside usable job ts n)) next_is

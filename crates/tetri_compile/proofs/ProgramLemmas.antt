@@ -66,22 +66,22 @@ nothing_grown o rs e = record {
   tallies = sym (append-nil o.tallies.items);
 }
 
-module _ (inside : ℕ → List ℕ) (room : ℕ → ℕ → ℕ) (cs : List Tally) where
+module _ (room : ℕ → ℕ → ℕ) (cs : List Tally) where
   pub part_next : (p : ℕ) (start old new : Outline) (a m : ℕ) (all : List Limit) → a < m → Grows old new [] (supply_row (filter (is_held p a) cs) (room p a)) [] →
-      map plain_limit old.rows.items ++ part_supply inside room cs p (range_with_len a (m - a)) ≡ map plain_limit start.rows.items ++ all →
-      map plain_limit new.rows.items ++ part_supply inside room cs p (range_with_len (a + 1) (m - (a + 1))) ≡ map plain_limit start.rows.items ++ all
+      map plain_limit old.rows.items ++ part_supply room cs p (range_with_len a (m - a)) ≡ map plain_limit start.rows.items ++ all →
+      map plain_limit new.rows.items ++ part_supply room cs p (range_with_len (a + 1) (m - (a + 1))) ≡ map plain_limit start.rows.items ++ all
   part_next p start old new a m all lt g h =
-      ap (λ rs. rs ++ part_supply inside room cs p (range_with_len (a + 1) (m - (a + 1)))) g.rows
-      ∙ append_assoc (map plain_limit old.rows.items) (supply_row (filter (is_held p a) cs) (room p a)) (part_supply inside room cs p (range_with_len (a + 1) (m - (a + 1))))
-      ∙ ap (λ ts. map plain_limit old.rows.items ++ part_supply inside room cs p ts) (sym (range_more a m lt)) ∙ h
+      ap (λ rs. rs ++ part_supply room cs p (range_with_len (a + 1) (m - (a + 1)))) g.rows
+      ∙ append_assoc (map plain_limit old.rows.items) (supply_row (filter (is_held p a) cs) (room p a)) (part_supply room cs p (range_with_len (a + 1) (m - (a + 1))))
+      ∙ ap (λ ts. map plain_limit old.rows.items ++ part_supply room cs p ts) (sym (range_more a m lt)) ∙ h
 
-  pub supply_next : (slots : List ℕ) (start old new : Outline) (a m : ℕ) (all : List Limit) → a < m → Grows old new [] (part_supply inside room cs a slots) [] →
-      map plain_limit old.rows.items ++ supply inside room cs slots (range_with_len a (m - a)) ≡ map plain_limit start.rows.items ++ all →
-      map plain_limit new.rows.items ++ supply inside room cs slots (range_with_len (a + 1) (m - (a + 1))) ≡ map plain_limit start.rows.items ++ all
+  pub supply_next : (slots : List ℕ) (start old new : Outline) (a m : ℕ) (all : List Limit) → a < m → Grows old new [] (part_supply room cs a slots) [] →
+      map plain_limit old.rows.items ++ supply room cs slots (range_with_len a (m - a)) ≡ map plain_limit start.rows.items ++ all →
+      map plain_limit new.rows.items ++ supply room cs slots (range_with_len (a + 1) (m - (a + 1))) ≡ map plain_limit start.rows.items ++ all
   supply_next slots start old new a m all lt g h =
-      ap (λ rs. rs ++ supply inside room cs slots (range_with_len (a + 1) (m - (a + 1)))) g.rows
-      ∙ append_assoc (map plain_limit old.rows.items) (part_supply inside room cs a slots) (supply inside room cs slots (range_with_len (a + 1) (m - (a + 1))))
-      ∙ ap (λ ps. map plain_limit old.rows.items ++ supply inside room cs slots ps) (sym (range_more a m lt)) ∙ h
+      ap (λ rs. rs ++ supply room cs slots (range_with_len (a + 1) (m - (a + 1)))) g.rows
+      ∙ append_assoc (map plain_limit old.rows.items) (part_supply room cs a slots) (supply room cs slots (range_with_len (a + 1) (m - (a + 1))))
+      ∙ ap (λ ps. map plain_limit old.rows.items ++ supply room cs slots ps) (sym (range_more a m lt)) ∙ h
 
 -- ---- by columns
 coefficient_most : (f : Form) (j : ℕ) → Each (λ s. s.by ≤ PEAK) f → coefficient f j ≤ length f * PEAK

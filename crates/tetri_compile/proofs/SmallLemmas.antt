@@ -38,9 +38,9 @@ length_times s (p ∷ f) = ap suc (length_times s f)
 share_small : (top i b : ℕ) → i < top → b ≤ PEAK → IsSmallForm top (share i b ∷ [])
 share_small top i b lt le = record { columns = (lt, tt); numbers = (le, tt); few = omega (arith, lt) }
 
-run_form : {X : Type 0} (inside : ℕ → List ℕ) (room : ℕ → ℕ → ℕ) (top b n : ℕ) (xs : List X) → b ≤ PEAK → n + length xs ≤ top → IsSmallForm top (run b n xs)
-run_form inside room top b n xs small le = record {
-  columns = run_in inside room b n top xs le;
+run_form : {X : Type 0} (inside : ℕ → List ℕ) (usable : ℕ → Leaf → ℕ) (top b n : ℕ) (xs : List X) → b ≤ PEAK → n + length xs ≤ top → IsSmallForm top (run b n xs)
+run_form inside usable top b n xs small le = record {
+  columns = run_in inside usable b n top xs le;
   numbers = run_small b PEAK n xs small;
   few = omega (arith, length_run b n xs, le);
 }
@@ -48,112 +48,112 @@ run_form inside room top b n xs small le = record {
 limit_small : (top : ℕ) (f g : Form) → IsSmallForm top f → IsSmallForm top g → IsSmallLimit top (limit f g)
 limit_small top f g h k = record { most = h; under = k; plus = omega arith }
 
-module _ (inside : ℕ → List ℕ) (room : ℕ → ℕ → ℕ) where
+module _ (inside : ℕ → List ℕ) (usable : ℕ → Leaf → ℕ) where
   mutual
-    form_length : (t : Tree) (i n : ℕ) → length (form inside room t i n) ≤ width inside room t + 1
+    form_length : (t : Tree) (i n : ℕ) → length (form inside usable t i n) ≤ width inside usable t + 1
     form_length (one l) i n =
-        cond_both l.linear (run (l.v / l.k) n (inside l.set)) (share i l.v ∷ []) (λ f. length f ≤ width inside room (one l) + 1)
-        (λ e. omega (arith, length_run (l.v / l.k) n (inside l.set), length-map (inside l.set) (λ p. min l.k (room p l.start)))) (λ e. omega arith)
-    form_length (join greatest ts) i n = omega (arith, length-append (ones ts) (uppers_of inside room ts), forms_length ts n (n + length (ones ts)))
-    form_length (join least ts) i n = cond_both (best (join least ts) == 0) [] (share n 1 ∷ []) (λ f. length f ≤ width inside room (join least ts) + 1) (λ e. omega arith) (λ e. omega arith)
-    form_length (join added ts) i n = omega (arith, length-append (ones ts) (uppers_of inside room ts), forms_length ts n (n + length (ones ts)))
-    form_length (scale t s) i n = omega (arith, length_times s (form inside room t i n), form_length t i n)
+        cond_both l.linear (run (l.v / l.k) n (inside l.set)) (share i l.v ∷ []) (λ f. length f ≤ width inside usable (one l) + 1)
+        (λ e. omega (arith, length_run (l.v / l.k) n (inside l.set), length-map (inside l.set) (λ p. min l.k (usable p l)))) (λ e. omega arith)
+    form_length (join greatest ts) i n = omega (arith, length-append (ones ts) (uppers_of inside usable ts), forms_length ts n (n + length (ones ts)))
+    form_length (join least ts) i n = cond_both (best (join least ts) == 0) [] (share n 1 ∷ []) (λ f. length f ≤ width inside usable (join least ts) + 1) (λ e. omega arith) (λ e. omega arith)
+    form_length (join added ts) i n = omega (arith, length-append (ones ts) (uppers_of inside usable ts), forms_length ts n (n + length (ones ts)))
+    form_length (scale t s) i n = omega (arith, length_times s (form inside usable t i n), form_length t i n)
     form_length (barrier t v) i n = omega arith
 
-    forms_length : (ts : Trees) (j n : ℕ) → length (forms inside room ts j n) ≤ length (ones ts) + length (uppers_of inside room ts)
+    forms_length : (ts : Trees) (j n : ℕ) → length (forms inside usable ts j n) ≤ length (ones ts) + length (uppers_of inside usable ts)
     forms_length none j n = omega arith
     forms_length (more t ts) j n =
         omega (
           arith,
-          length-append (form inside room t j n) (forms inside room ts (j + 1) (n + width inside room t)),
-          length-append (uppers inside room t) (uppers_of inside room ts),
+          length-append (form inside usable t j n) (forms inside usable ts (j + 1) (n + width inside usable t)),
+          length-append (uppers inside usable t) (uppers_of inside usable ts),
           form_length t j n,
-          forms_length ts (j + 1) (n + width inside room t),
+          forms_length ts (j + 1) (n + width inside usable t),
         )
 
-  pub form_is_small : (t : Tree) → IsSound t → (i n top : ℕ) → i < n → n + width inside room t ≤ top → IsSmallForm top (form inside room t i n)
+  pub form_is_small : (t : Tree) → IsSound t → (i n top : ℕ) → i < n → n + width inside usable t ≤ top → IsSmallForm top (form inside usable t i n)
   form_is_small t sound i n top lt le = record {
-    columns = form_in inside room t i n top (omega (arith, lt, le)) le;
-    numbers = Each-map (λ s. s.by ≤ peak t) (λ s. s.by ≤ PEAK) (λ s h. le_trans h (peak_small t sound)) (form inside room t i n) (form_small inside room t sound i n);
+    columns = form_in inside usable t i n top (omega (arith, lt, le)) le;
+    numbers = Each-map (λ s. s.by ≤ peak t) (λ s. s.by ≤ PEAK) (λ s h. le_trans h (peak_small t sound)) (form inside usable t i n) (form_small inside usable t sound i n);
     few = omega (arith, form_length t i n, lt, le);
   }
 
   module _ (top : ℕ) (few : top ≤ 2000) where
     mutual
-      rows_small : (t : Tree) → IsSound t → (i n : ℕ) → i < n → n + width inside room t ≤ top → Each (IsSmallLimit top) (rows inside room t i n)
+      rows_small : (t : Tree) → IsSound t → (i n : ℕ) → i < n → n + width inside usable t ≤ top → Each (IsSmallLimit top) (rows inside usable t i n)
       rows_small (one l) sound i n lt le =
-          let counts : IsSmallForm top (run 1 n (inside l.set)) = run_form inside room top 1 n (inside l.set) (omega arith) (omega (arith, le, length-map (inside l.set) (λ p. min l.k (room p l.start)))) in
+          let counts : IsSmallForm top (run 1 n (inside l.set)) = run_form inside usable top 1 n (inside l.set) (omega arith) (omega (arith, le, length-map (inside l.set) (λ p. min l.k (usable p l)))) in
           let wanted : IsSmallForm top (share i l.k ∷ []) = share_small top i l.k (omega (arith, lt, le)) (omega (arith, sound.0.few_nodes)) in (
             limit_small top (run 1 n (inside l.set)) (share i l.k ∷ []) counts wanted,
             cond_both l.linear [] (limit (share i l.k ∷ []) (run 1 n (inside l.set)) ∷ []) (Each (IsSmallLimit top)) (λ e. tt)
                 (λ e. (limit_small top (share i l.k ∷ []) (run 1 n (inside l.set)) wanted counts, tt)),
           )
       rows_small (join greatest ts) sound i n lt le =
-          let w = length-append (ones ts) (uppers_of inside room ts) in (
-            limit_small top (run 1 n (ones ts)) (share i 1 ∷ []) (run_form inside room top 1 n (ones ts) (omega arith) (omega (arith, le, w))) (share_small top i 1 (omega (arith, lt, le)) (omega arith)),
+          let w = length-append (ones ts) (uppers_of inside usable ts) in (
+            limit_small top (run 1 n (ones ts)) (share i 1 ∷ []) (run_form inside usable top 1 n (ones ts) (omega arith) (omega (arith, le, w))) (share_small top i 1 (omega (arith, lt, le)) (omega arith)),
             rows_of_small ts sound.1 n (n + length (ones ts)) (omega arith) (omega (arith, le, w)),
           )
       rows_small (join least ts) sound i n lt le = rows_under_small ts sound.1 i n (n + 1) (omega (arith, lt)) (omega arith) (omega (arith, le))
       rows_small (join added ts) sound i n lt le =
-          let w = length-append (ones ts) (uppers_of inside room ts) in (
-            limit_small top (run 1 n (ones ts)) (share i (length (ones ts)) ∷ []) (run_form inside room top 1 n (ones ts) (omega arith) (omega (arith, le, w)))
+          let w = length-append (ones ts) (uppers_of inside usable ts) in (
+            limit_small top (run 1 n (ones ts)) (share i (length (ones ts)) ∷ []) (run_form inside usable top 1 n (ones ts) (omega arith) (omega (arith, le, w)))
                 (share_small top i (length (ones ts)) (omega (arith, lt, le)) (omega (arith, few, le, w))),
             rows_of_small ts sound.1 n (n + length (ones ts)) (omega arith) (omega (arith, le, w)),
           )
       rows_small (scale t s) sound i n lt le = rows_small t sound.0 i n lt le
       rows_small (barrier t v) sound i n lt le =
-          Each-append (IsSmallLimit top) (rows inside room t i n) (limit (share i v ∷ []) (form inside room t i n) ∷ []) (rows_small t sound.0 i n lt le)
-          (limit_small top (share i v ∷ []) (form inside room t i n) (share_small top i v (omega (arith, lt, le)) sound.1) (form_is_small t sound.0 i n top lt le), tt)
+          Each-append (IsSmallLimit top) (rows inside usable t i n) (limit (share i v ∷ []) (form inside usable t i n) ∷ []) (rows_small t sound.0 i n lt le)
+          (limit_small top (share i v ∷ []) (form inside usable t i n) (share_small top i v (omega (arith, lt, le)) sound.1) (form_is_small t sound.0 i n top lt le), tt)
 
-      rows_of_small : (ts : Trees) → AreSound ts → (j n : ℕ) → j + length (ones ts) ≤ n → n + length (uppers_of inside room ts) ≤ top → Each (IsSmallLimit top) (rows_of inside room ts j n)
+      rows_of_small : (ts : Trees) → AreSound ts → (j n : ℕ) → j + length (ones ts) ≤ n → n + length (uppers_of inside usable ts) ≤ top → Each (IsSmallLimit top) (rows_of inside usable ts j n)
       rows_of_small none sound j n low le = tt
       rows_of_small (more t ts) sound j n low le =
-          let w = length-append (uppers inside room t) (uppers_of inside room ts) in
-          Each-append (IsSmallLimit top) (rows inside room t j n) (rows_of inside room ts (j + 1) (n + width inside room t))
+          let w = length-append (uppers inside usable t) (uppers_of inside usable ts) in
+          Each-append (IsSmallLimit top) (rows inside usable t j n) (rows_of inside usable ts (j + 1) (n + width inside usable t))
           (rows_small t sound.0 j n (omega (arith, low)) (omega (arith, le, w)))
-          (rows_of_small ts sound.1 (j + 1) (n + width inside room t) (omega (arith, low)) (omega (arith, le, w)))
+          (rows_of_small ts sound.1 (j + 1) (n + width inside usable t) (omega (arith, low)) (omega (arith, le, w)))
 
-      rows_under_small : (ts : Trees) → AreSound ts → (i c n : ℕ) → i < n → c < n → n + length (uppers_of inside room ts) ≤ top → Each (IsSmallLimit top) (rows_under inside room ts i c n)
+      rows_under_small : (ts : Trees) → AreSound ts → (i c n : ℕ) → i < n → c < n → n + length (uppers_of inside usable ts) ≤ top → Each (IsSmallLimit top) (rows_under inside usable ts i c n)
       rows_under_small none sound i c n lt lc le = tt
       rows_under_small (more t ts) sound i c n lt lc le =
-          let w = length-append (uppers inside room t) (uppers_of inside room ts) in
-          Each-append (IsSmallLimit top) (rows inside room t i n) (limit (share c 1 ∷ []) (form inside room t i n) ∷ rows_under inside room ts i c (n + width inside room t))
+          let w = length-append (uppers inside usable t) (uppers_of inside usable ts) in
+          Each-append (IsSmallLimit top) (rows inside usable t i n) (limit (share c 1 ∷ []) (form inside usable t i n) ∷ rows_under inside usable ts i c (n + width inside usable t))
           (rows_small t sound.0 i n lt (omega (arith, le, w))) (
-            limit_small top (share c 1 ∷ []) (form inside room t i n) (share_small top c 1 (omega (arith, lc, le)) (omega arith)) (form_is_small t sound.0 i n top lt (omega (arith, le, w))),
-            rows_under_small ts sound.1 i c (n + width inside room t) (omega (arith, lt)) (omega (arith, lc)) (omega (arith, le, w)),
+            limit_small top (share c 1 ∷ []) (form inside usable t i n) (share_small top c 1 (omega (arith, lc, le)) (omega arith)) (form_is_small t sound.0 i n top lt (omega (arith, le, w))),
+            rows_under_small ts sound.1 i c (n + width inside usable t) (omega (arith, lt)) (omega (arith, lc)) (omega (arith, le, w)),
           )
 
-    pub bid_rows_small : (bs : List Bid) (n : ℕ) → Each (λ b. IsSound b.expr) bs → n + length (bid_uppers inside room bs) ≤ top → Each (IsSmallLimit top) (bid_rows inside room bs n)
+    pub bid_rows_small : (bs : List Bid) (n : ℕ) → Each (λ b. IsSound b.expr) bs → n + length (bid_uppers inside usable bs) ≤ top → Each (IsSmallLimit top) (bid_rows inside usable bs n)
     bid_rows_small [] n sound le = tt
     bid_rows_small (b ∷ bs) n sound le =
-        let w = length-append (uppers inside room b.expr) (bid_uppers inside room bs) in
-        Each-append (IsSmallLimit top) (rows inside room b.expr n (n + 1)) (bid_rows inside room bs (n + 1 + width inside room b.expr))
+        let w = length-append (uppers inside usable b.expr) (bid_uppers inside usable bs) in
+        Each-append (IsSmallLimit top) (rows inside usable b.expr n (n + 1)) (bid_rows inside usable bs (n + 1 + width inside usable b.expr))
         (rows_small b.expr sound.0 n (n + 1) (omega arith) (omega (arith, le, w)))
-        (bid_rows_small bs (n + 1 + width inside room b.expr) sound.1 (omega (arith, le, w)))
+        (bid_rows_small bs (n + 1 + width inside usable b.expr) sound.1 (omega (arith, le, w)))
 
-    pub objective_few : (bs : List Bid) (n : ℕ) → length (objective inside room bs n) ≤ length (bid_uppers inside room bs)
+    pub objective_few : (bs : List Bid) (n : ℕ) → length (objective inside usable bs n) ≤ length (bid_uppers inside usable bs)
     objective_few [] n = omega arith
     objective_few (b ∷ bs) n =
         omega (
           arith,
-          length-append (form inside room b.expr n (n + 1)) (objective inside room bs (n + 1 + width inside room b.expr)),
-          length-append (uppers inside room b.expr) (bid_uppers inside room bs),
+          length-append (form inside usable b.expr n (n + 1)) (objective inside usable bs (n + 1 + width inside usable b.expr)),
+          length-append (uppers inside usable b.expr) (bid_uppers inside usable bs),
           form_length b.expr n (n + 1),
-          objective_few bs (n + 1 + width inside room b.expr),
+          objective_few bs (n + 1 + width inside usable b.expr),
         )
 
-    objective_columns : (bs : List Bid) (n : ℕ) → Each (λ b. IsSound b.expr) bs → n + length (bid_uppers inside room bs) ≤ top →
-        Each (λ s. s.column < top) (objective inside room bs n) × Each (λ s. s.by ≤ PEAK) (objective inside room bs n)
+    objective_columns : (bs : List Bid) (n : ℕ) → Each (λ b. IsSound b.expr) bs → n + length (bid_uppers inside usable bs) ≤ top →
+        Each (λ s. s.column < top) (objective inside usable bs n) × Each (λ s. s.by ≤ PEAK) (objective inside usable bs n)
     objective_columns [] n sound le = (tt, tt)
     objective_columns (b ∷ bs) n sound le =
-        let w = length-append (uppers inside room b.expr) (bid_uppers inside room bs) in
+        let w = length-append (uppers inside usable b.expr) (bid_uppers inside usable bs) in
         let here = form_is_small b.expr sound.0 n (n + 1) top (omega arith) (omega (arith, le, w)) in
-        let rest = objective_columns bs (n + 1 + width inside room b.expr) sound.1 (omega (arith, le, w)) in (
-          Each-append (λ s. s.column < top) (form inside room b.expr n (n + 1)) (objective inside room bs (n + 1 + width inside room b.expr)) here.columns rest.0,
-          Each-append (λ s. s.by ≤ PEAK) (form inside room b.expr n (n + 1)) (objective inside room bs (n + 1 + width inside room b.expr)) here.numbers rest.1,
+        let rest = objective_columns bs (n + 1 + width inside usable b.expr) sound.1 (omega (arith, le, w)) in (
+          Each-append (λ s. s.column < top) (form inside usable b.expr n (n + 1)) (objective inside usable bs (n + 1 + width inside usable b.expr)) here.columns rest.0,
+          Each-append (λ s. s.by ≤ PEAK) (form inside usable b.expr n (n + 1)) (objective inside usable bs (n + 1 + width inside usable b.expr)) here.numbers rest.1,
         )
 
-    pub objective_small : (bs : List Bid) → Each (λ b. IsSound b.expr) bs → length (bid_uppers inside room bs) ≤ top → IsSmallForm top (objective inside room bs 0)
+    pub objective_small : (bs : List Bid) → Each (λ b. IsSound b.expr) bs → length (bid_uppers inside usable bs) ≤ top → IsSmallForm top (objective inside usable bs 0)
     objective_small bs sound le =
         let both = objective_columns bs 0 sound (omega (arith, le)) in
         record { columns = both.0; numbers = both.1; few = omega (arith, objective_few bs 0, le) }
@@ -168,55 +168,55 @@ module _ (inside : ℕ → List ℕ) (room : ℕ → ℕ → ℕ) where
     leaf_tallies_few job l (p ∷ ps) n = ap suc (leaf_tallies_few job l ps (n + 1))
 
     mutual
-      tallies_in : (job : ℕ) (t : Tree) (n : ℕ) → n + width inside room t ≤ top → Each (λ c. c.column < top) (tallies inside room job t n)
-      tallies_in job (one l) n le = leaf_tallies_in job l (inside l.set) n (omega (arith, le, length-map (inside l.set) (λ p. min l.k (room p l.start))))
+      tallies_in : (job : ℕ) (t : Tree) (n : ℕ) → n + width inside usable t ≤ top → Each (λ c. c.column < top) (tallies inside usable job t n)
+      tallies_in job (one l) n le = leaf_tallies_in job l (inside l.set) n (omega (arith, le, length-map (inside l.set) (λ p. min l.k (usable p l))))
       tallies_in job (join op ts) n le =
-          tallies_of_in job ts (n + length (own_uppers inside room op ts)) (omega (arith, le, length-append (own_uppers inside room op ts) (uppers_of inside room ts)))
+          tallies_of_in job ts (n + length (own_uppers inside usable op ts)) (omega (arith, le, length-append (own_uppers inside usable op ts) (uppers_of inside usable ts)))
       tallies_in job (scale t s) n le = tallies_in job t n le
       tallies_in job (barrier t v) n le = tallies_in job t n le
 
-      tallies_of_in : (job : ℕ) (ts : Trees) (n : ℕ) → n + length (uppers_of inside room ts) ≤ top → Each (λ c. c.column < top) (tallies_of inside room job ts n)
+      tallies_of_in : (job : ℕ) (ts : Trees) (n : ℕ) → n + length (uppers_of inside usable ts) ≤ top → Each (λ c. c.column < top) (tallies_of inside usable job ts n)
       tallies_of_in job none n le = tt
       tallies_of_in job (more t ts) n le =
-          let w = length-append (uppers inside room t) (uppers_of inside room ts) in
-          Each-append (λ c. c.column < top) (tallies inside room job t n) (tallies_of inside room job ts (n + width inside room t))
-          (tallies_in job t n (omega (arith, le, w))) (tallies_of_in job ts (n + width inside room t) (omega (arith, le, w)))
+          let w = length-append (uppers inside usable t) (uppers_of inside usable ts) in
+          Each-append (λ c. c.column < top) (tallies inside usable job t n) (tallies_of inside usable job ts (n + width inside usable t))
+          (tallies_in job t n (omega (arith, le, w))) (tallies_of_in job ts (n + width inside usable t) (omega (arith, le, w)))
 
     mutual
-      tallies_few : (job : ℕ) (t : Tree) (n : ℕ) → length (tallies inside room job t n) ≤ width inside room t
-      tallies_few job (one l) n = omega (arith, leaf_tallies_few job l (inside l.set) n, length-map (inside l.set) (λ p. min l.k (room p l.start)))
+      tallies_few : (job : ℕ) (t : Tree) (n : ℕ) → length (tallies inside usable job t n) ≤ width inside usable t
+      tallies_few job (one l) n = omega (arith, leaf_tallies_few job l (inside l.set) n, length-map (inside l.set) (λ p. min l.k (usable p l)))
       tallies_few job (join op ts) n =
-          omega (arith, tallies_of_few job ts (n + length (own_uppers inside room op ts)), length-append (own_uppers inside room op ts) (uppers_of inside room ts))
+          omega (arith, tallies_of_few job ts (n + length (own_uppers inside usable op ts)), length-append (own_uppers inside usable op ts) (uppers_of inside usable ts))
       tallies_few job (scale t s) n = tallies_few job t n
       tallies_few job (barrier t v) n = tallies_few job t n
 
-      tallies_of_few : (job : ℕ) (ts : Trees) (n : ℕ) → length (tallies_of inside room job ts n) ≤ length (uppers_of inside room ts)
+      tallies_of_few : (job : ℕ) (ts : Trees) (n : ℕ) → length (tallies_of inside usable job ts n) ≤ length (uppers_of inside usable ts)
       tallies_of_few job none n = omega arith
       tallies_of_few job (more t ts) n =
           omega (
             arith,
-            length-append (tallies inside room job t n) (tallies_of inside room job ts (n + width inside room t)),
-            length-append (uppers inside room t) (uppers_of inside room ts),
+            length-append (tallies inside usable job t n) (tallies_of inside usable job ts (n + width inside usable t)),
+            length-append (uppers inside usable t) (uppers_of inside usable ts),
             tallies_few job t n,
-            tallies_of_few job ts (n + width inside room t),
+            tallies_of_few job ts (n + width inside usable t),
           )
 
-    pub bid_tallies_in : (bs : List Bid) (n : ℕ) → n + length (bid_uppers inside room bs) ≤ top → Each (λ c. c.column < top) (bid_tallies inside room bs n)
+    pub bid_tallies_in : (bs : List Bid) (n : ℕ) → n + length (bid_uppers inside usable bs) ≤ top → Each (λ c. c.column < top) (bid_tallies inside usable bs n)
     bid_tallies_in [] n le = tt
     bid_tallies_in (b ∷ bs) n le =
-        let w = length-append (uppers inside room b.expr) (bid_uppers inside room bs) in
-        Each-append (λ c. c.column < top) (tallies inside room b.job b.expr (n + 1)) (bid_tallies inside room bs (n + 1 + width inside room b.expr))
-        (tallies_in b.job b.expr (n + 1) (omega (arith, le, w))) (bid_tallies_in bs (n + 1 + width inside room b.expr) (omega (arith, le, w)))
+        let w = length-append (uppers inside usable b.expr) (bid_uppers inside usable bs) in
+        Each-append (λ c. c.column < top) (tallies inside usable b.job b.expr (n + 1)) (bid_tallies inside usable bs (n + 1 + width inside usable b.expr))
+        (tallies_in b.job b.expr (n + 1) (omega (arith, le, w))) (bid_tallies_in bs (n + 1 + width inside usable b.expr) (omega (arith, le, w)))
 
-    pub bid_tallies_few : (bs : List Bid) (n : ℕ) → length (bid_tallies inside room bs n) ≤ length (bid_uppers inside room bs)
+    pub bid_tallies_few : (bs : List Bid) (n : ℕ) → length (bid_tallies inside usable bs n) ≤ length (bid_uppers inside usable bs)
     bid_tallies_few [] n = omega arith
     bid_tallies_few (b ∷ bs) n =
         omega (
           arith,
-          length-append (tallies inside room b.job b.expr (n + 1)) (bid_tallies inside room bs (n + 1 + width inside room b.expr)),
-          length-append (uppers inside room b.expr) (bid_uppers inside room bs),
+          length-append (tallies inside usable b.job b.expr (n + 1)) (bid_tallies inside usable bs (n + 1 + width inside usable b.expr)),
+          length-append (uppers inside usable b.expr) (bid_uppers inside usable bs),
           tallies_few b.job b.expr (n + 1),
-          bid_tallies_few bs (n + 1 + width inside room b.expr),
+          bid_tallies_few bs (n + 1 + width inside usable b.expr),
         )
 
     -- ---- the supply
@@ -235,22 +235,22 @@ module _ (inside : ℕ → List ℕ) (room : ℕ → ℕ → ℕ) where
         as_many [] = refl
         as_many (d ∷ ds) = ap suc (as_many ds)
 
-    module _ (roomy : (p t : ℕ) → room p t ≤ PEAK) (cs : List Tally) (among : Each (λ c. c.column < top) cs) (as_few : length cs ≤ top) where
+    module _ (room : ℕ → ℕ → ℕ) (roomy : (p t : ℕ) → room p t ≤ PEAK) (cs : List Tally) (among : Each (λ c. c.column < top) cs) (as_few : length cs ≤ top) where
       row_small : (ds : List Tally) (m : ℕ) → m ≤ PEAK → Each (λ c. c.column < top) ds → length ds ≤ top → Each (IsSmallLimit top) (supply_row ds m)
       row_small [] m le h k = tt
       row_small (d ∷ ds) m le h k =
           (record { most = tally_form_small (d ∷ ds) h k; under = record { columns = tt; numbers = tt; few = omega arith }; plus = le }, tt)
 
-      part_supply_small : (p : ℕ) (ts : List ℕ) → Each (IsSmallLimit top) (part_supply inside room cs p ts)
+      part_supply_small : (p : ℕ) (ts : List ℕ) → Each (IsSmallLimit top) (part_supply room cs p ts)
       part_supply_small p [] = tt
       part_supply_small p (t ∷ ts) =
-          Each-append (IsSmallLimit top) (supply_row (filter (is_held p t) cs) (room p t)) (part_supply inside room cs p ts)
+          Each-append (IsSmallLimit top) (supply_row (filter (is_held p t) cs) (room p t)) (part_supply room cs p ts)
           (row_small (filter (is_held p t) cs) (room p t) (roomy p t) (Each-filter (λ c. c.column < top) (is_held p t) cs among) (le_trans (filter_shorter (is_held p t) cs) as_few))
           (part_supply_small p ts)
 
-      pub supply_small : (slots ps : List ℕ) → Each (IsSmallLimit top) (supply inside room cs slots ps)
+      pub supply_small : (slots ps : List ℕ) → Each (IsSmallLimit top) (supply room cs slots ps)
       supply_small slots [] = tt
-      supply_small slots (p ∷ ps) = Each-append (IsSmallLimit top) (part_supply inside room cs p slots) (supply inside room cs slots ps) (part_supply_small p slots) (supply_small slots ps)
+      supply_small slots (p ∷ ps) = Each-append (IsSmallLimit top) (part_supply room cs p slots) (supply room cs slots ps) (part_supply_small p slots) (supply_small slots ps)
 
 -- ---- what is free
 count_few : {X : Type 0} (p : X → Bool) (xs : List X) → count p xs ≤ length xs

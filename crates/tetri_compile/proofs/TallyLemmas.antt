@@ -34,7 +34,7 @@ mutual
       ⊎_elim (λ h. Contains-append_left (numbers t) (numbers_of ts) l.num (number_of t l h))
       (λ h. Contains-append_right (numbers t) (numbers_of ts) l.num (number_of_all ts l h)) (Contains-append_cases (leaves t) (leaves_of ts) l at)
 
-module _ (inside : ℕ → List ℕ) (room : ℕ → ℕ → ℕ) where
+module _ (inside : ℕ → List ℕ) (usable : ℕ → Leaf → ℕ) where
   module _ (x : ℕ → ℕ) (value : Leaf → ℕ) (taken : Leaf → ℕ → ℕ) where
     abbrev pub IsRead : Tally → Type 0
     IsRead c = x c.column ≡ taken c.leaf c.part
@@ -44,19 +44,19 @@ module _ (inside : ℕ → List ℕ) (room : ℕ → ℕ → ℕ) where
     leaf_read job l (p ∷ ps) n h = (h.0, leaf_read job l ps (n + 1) h.1)
 
     mutual
-      pub tallies_read : (job : ℕ) (t : Tree) (n : ℕ) → Reads x n (values inside value taken t) → Each IsRead (tallies inside room job t n)
+      pub tallies_read : (job : ℕ) (t : Tree) (n : ℕ) → Reads x n (values inside value taken t) → Each IsRead (tallies inside usable job t n)
       tallies_read job (one l) n h = leaf_read job l (inside l.set) n h
       tallies_read job (join op ts) n h =
-          tallies_read_of job ts (n + length (own_uppers inside room op ts))
-          (Reads-split x n (length (own_uppers inside room op ts)) (own_values inside value taken op ts) (values_of inside value taken ts) (length-own inside room value taken [] op ts) h).1
+          tallies_read_of job ts (n + length (own_uppers inside usable op ts))
+          (Reads-split x n (length (own_uppers inside usable op ts)) (own_values inside value taken op ts) (values_of inside value taken ts) (length-own inside usable value taken [] op ts) h).1
       tallies_read job (scale t s) n h = tallies_read job t n h
       tallies_read job (barrier t v) n h = tallies_read job t n h
 
-      tallies_read_of : (job : ℕ) (ts : Trees) (n : ℕ) → Reads x n (values_of inside value taken ts) → Each IsRead (tallies_of inside room job ts n)
+      tallies_read_of : (job : ℕ) (ts : Trees) (n : ℕ) → Reads x n (values_of inside value taken ts) → Each IsRead (tallies_of inside usable job ts n)
       tallies_read_of job none n h = tt
       tallies_read_of job (more t ts) n h =
-          let parts = Reads-split x n (width inside room t) (values inside value taken t) (values_of inside value taken ts) (length-values inside room value taken [] t) h in
-          Each-append IsRead _ _ (tallies_read job t n parts.0) (tallies_read_of job ts (n + width inside room t) parts.1)
+          let parts = Reads-split x n (width inside usable t) (values inside value taken t) (values_of inside value taken ts) (length-values inside usable value taken [] t) h in
+          Each-append IsRead _ _ (tallies_read job t n parts.0) (tallies_read_of job ts (n + width inside usable t) parts.1)
 
   all_contained : (ps : List ℕ) → Each (Contains ps) ps
   all_contained ps = Each-from (Contains ps) ps (λ p at. at)
@@ -78,18 +78,18 @@ module _ (inside : ℕ → List ℕ) (room : ℕ → ℕ → ℕ) where
   leaf_of job l (p ∷ ps) n h = (record { job = refl; leaf = (0, omega arith, refl); part = h.0 }, leaf_of job l ps (n + 1) h.1)
 
   mutual
-    pub tallies_leaf : (job : ℕ) (t : Tree) (n : ℕ) → Each (IsOf job (leaves t)) (tallies inside room job t n)
+    pub tallies_leaf : (job : ℕ) (t : Tree) (n : ℕ) → Each (IsOf job (leaves t)) (tallies inside usable job t n)
     tallies_leaf job (one l) n = leaf_of job l (inside l.set) n (all_contained (inside l.set))
-    tallies_leaf job (join op ts) n = tallies_leaf_of job ts (n + length (own_uppers inside room op ts))
+    tallies_leaf job (join op ts) n = tallies_leaf_of job ts (n + length (own_uppers inside usable op ts))
     tallies_leaf job (scale t s) n = tallies_leaf job t n
     tallies_leaf job (barrier t v) n = tallies_leaf job t n
 
-    pub tallies_leaf_of : (job : ℕ) (ts : Trees) (n : ℕ) → Each (IsOf job (leaves_of ts)) (tallies_of inside room job ts n)
+    pub tallies_leaf_of : (job : ℕ) (ts : Trees) (n : ℕ) → Each (IsOf job (leaves_of ts)) (tallies_of inside usable job ts n)
     tallies_leaf_of job none n = tt
     tallies_leaf_of job (more t ts) n =
         Each-append (IsOf job (leaves t ++ leaves_of ts)) _ _
         (Each-map (IsOf job (leaves t)) (IsOf job (leaves t ++ leaves_of ts)) (λ c h. IsOf-left job (leaves t) (leaves_of ts) c h) _ (tallies_leaf job t n))
-        (Each-map (IsOf job (leaves_of ts)) (IsOf job (leaves t ++ leaves_of ts)) (λ c h. IsOf-right job (leaves t) (leaves_of ts) c h) _ (tallies_leaf_of job ts (n + width inside room t)))
+        (Each-map (IsOf job (leaves_of ts)) (IsOf job (leaves t ++ leaves_of ts)) (λ c h. IsOf-right job (leaves t) (leaves_of ts) c h) _ (tallies_leaf_of job ts (n + width inside usable t)))
 
   -- no two count the same leaf and partition
   abbrev pub CountsOther : Tally → Tally → Type 0
@@ -111,16 +111,16 @@ module _ (inside : ℕ → List ℕ) (room : ℕ → ℕ → ℕ) where
 
   module _ (sorted : (s : ℕ) → Ascends (inside s)) where
     mutual
-      pub tallies_other : (job : ℕ) (t : Tree) (n : ℕ) → AreApart t → EachPair CountsOther (tallies inside room job t n)
+      pub tallies_other : (job : ℕ) (t : Tree) (n : ℕ) → AreApart t → EachPair CountsOther (tallies inside usable job t n)
       tallies_other job (one l) n apart = leaf_other job l (inside l.set) n (sorted l.set)
-      tallies_other job (join op ts) n apart = tallies_other_of job ts (n + length (own_uppers inside room op ts)) apart
+      tallies_other job (join op ts) n apart = tallies_other_of job ts (n + length (own_uppers inside usable op ts)) apart
       tallies_other job (scale t s) n apart = tallies_other job t n apart
       tallies_other job (barrier t v) n apart = tallies_other job t n apart
 
-      tallies_other_of : (job : ℕ) (ts : Trees) (n : ℕ) → AreApartOf ts → EachPair CountsOther (tallies_of inside room job ts n)
+      tallies_other_of : (job : ℕ) (ts : Trees) (n : ℕ) → AreApartOf ts → EachPair CountsOther (tallies_of inside usable job ts n)
       tallies_other_of job none n apart = tt
       tallies_other_of job (more t ts) n apart =
-          EachPair-append CountsOther _ _ (tallies_other job t n apart.0) (tallies_other_of job ts (n + width inside room t) apart.1)
+          EachPair-append CountsOther _ _ (tallies_other job t n apart.0) (tallies_other_of job ts (n + width inside usable t) apart.1)
           (Each-across (IsOf job (leaves t)) (IsOf job (leaves_of ts)) CountsOther
           (λ c d p q a b e. apart.2 c.leaf.num (number_of t c.leaf p.leaf) (subst (Contains (numbers_of ts)) (sym b) (number_of_all ts d.leaf q.leaf)))
-          _ _ (tallies_leaf job t n) (tallies_leaf_of job ts (n + width inside room t)))
+          _ _ (tallies_leaf job t n) (tallies_leaf_of job ts (n + width inside usable t)))

@@ -124,7 +124,7 @@ bar_row v w f y le e = by_test (nat_le v w) (λ t. le_from_test v w t) e
 barred_zero : (v w : ℕ) → w ≡ 0 → cond (nat_le v w) v 0 ≡ 0
 barred_zero v w e = grind (arith, nat_tests)
 
-module _ (inside : ℕ → List ℕ) (room : ℕ → ℕ → ℕ) (value : Leaf → ℕ) (taken : Leaf → ℕ → ℕ) (held : List ℕ) where
+module _ (inside : ℕ → List ℕ) (usable : ℕ → Leaf → ℕ) (value : Leaf → ℕ) (taken : Leaf → ℕ → ℕ) (held : List ℕ) where
   -- what an allotment gives to a leaf
   pub record IsRight (l : Leaf) : Type 0 where
     pub good : IsGoodLeaf l
@@ -165,33 +165,33 @@ module _ (inside : ℕ → List ℕ) (room : ℕ → ℕ → ℕ) (value : Leaf 
   length-marks none = refl
   length-marks (more t ts) = ap suc (length-marks ts)
 
-  pub length-own : (op : Operator) (ts : Trees) → length (own_values inside value taken op ts) ≡ length (own_uppers inside room op ts)
+  pub length-own : (op : Operator) (ts : Trees) → length (own_values inside value taken op ts) ≡ length (own_uppers inside usable op ts)
   length-own greatest ts = length-marks ts
   length-own least ts = refl
   length-own added ts = length-marks ts
 
   mutual
-    pub length-values : (t : Tree) → length (values inside value taken t) ≡ width inside room t
-    length-values (one l) = length-map (inside l.set) (taken l) ∙ sym (length-map (inside l.set) (λ p. min l.k (room p l.start)))
+    pub length-values : (t : Tree) → length (values inside value taken t) ≡ width inside usable t
+    length-values (one l) = length-map (inside l.set) (taken l) ∙ sym (length-map (inside l.set) (λ p. min l.k (usable p l)))
     length-values (join op ts) =
         length-append (own_values inside value taken op ts) (values_of inside value taken ts)
         ∙ ap (λ n. n + length (values_of inside value taken ts)) (length-own op ts)
-        ∙ ap (λ n. length (own_uppers inside room op ts) + n) (length-values_of ts)
-        ∙ sym (length-append (own_uppers inside room op ts) (uppers_of inside room ts))
+        ∙ ap (λ n. length (own_uppers inside usable op ts) + n) (length-values_of ts)
+        ∙ sym (length-append (own_uppers inside usable op ts) (uppers_of inside usable ts))
     length-values (scale t s) = length-values t
     length-values (barrier t v) = length-values t
 
-    pub length-values_of : (ts : Trees) → length (values_of inside value taken ts) ≡ length (uppers_of inside room ts)
+    pub length-values_of : (ts : Trees) → length (values_of inside value taken ts) ≡ length (uppers_of inside usable ts)
     length-values_of none = refl
     length-values_of (more t ts) =
         length-append (values inside value taken t) (values_of inside value taken ts)
         ∙ ap (λ n. n + length (values_of inside value taken ts)) (length-values t)
-        ∙ ap (λ n. width inside room t + n) (length-values_of ts)
-        ∙ sym (length-append (uppers inside room t) (uppers_of inside room ts))
+        ∙ ap (λ n. width inside usable t + n) (length-values_of ts)
+        ∙ sym (length-append (uppers inside usable t) (uppers_of inside usable ts))
 
   module _ (x : ℕ → ℕ) where
     abbrev Holds : Tree → ℕ → ℕ → Type 0
-    Holds t i n = AreMet x (rows inside room t i n) × (worth_by value t ≤ at_point x (form inside room t i n))
+    Holds t i n = AreMet x (rows inside usable t i n) × (worth_by value t ≤ at_point x (form inside usable t i n))
 
     gang_rows : (l : Leaf) (i n w g : ℕ) (linear same : Bool) → (same ≡ true → g ≡ l.k) → (w ≡ 0 → g ≡ 0) →
         w ≡ cond linear (l.v / l.k * min l.k g) (cond same l.v 0) → g ≤ l.k → at_point x (run 1 n (inside l.set)) ≡ g → x i ≡ mark w →
@@ -238,33 +238,33 @@ module _ (inside : ℕ → List ℕ) (room : ℕ → ℕ → ℕ) (value : Leaf 
           let w = worth_by value t in
           let same = same_mark (s * w) w (λ e. bare_worth t h (thrifty.0 e)) (λ e. ap (λ m. s * m) e ∙ mul-zero s) in
           let below = hold t h thrifty.1 i n (at ∙ same) reads in
-          (below.0, omega (arith, at_point-times x s (form inside room t i n), mul-le-mul_left s below.1))
+          (below.0, omega (arith, at_point-times x s (form inside usable t i n), mul-le-mul_left s below.1))
       hold (barrier t v) h thrifty i n at reads =
           let w = worth_by value t in
           let same = same_mark (worth_by value (barrier t v)) w (λ e. bare_worth t h (thrifty.0 e)) (λ e. barred_of_zero v w e) in
           let below = hold t h thrifty.1 i n (at ∙ same) reads in
-          let bar = bar_row v w (at_point x (form inside room t i n)) (x i) below.1 at in
+          let bar = bar_row v w (at_point x (form inside usable t i n)) (x i) below.1 at in
           (AreMet-append x _ _ below.0 (bar.0, tt), bar.1)
 
       hold_of : (ts : Trees) → EachLeafOf IsRight ts → AreThrifty value held ts → (j n : ℕ) → Reads x j (map mark (worths_by value ts)) →
           Reads x n (values_of inside value taken ts) →
-          AreMet x (rows_of inside room ts j n) × (added_of (worths_by value ts) ≤ at_point x (forms inside room ts j n))
+          AreMet x (rows_of inside usable ts j n) × (added_of (worths_by value ts) ≤ at_point x (forms inside usable ts j n))
       hold_of none h thrifty j n marks reads = (tt, omega arith)
       hold_of (more t ts) h thrifty j n marks reads =
-          let parts = Reads-split x n (width inside room t) (values inside value taken t) (values_of inside value taken ts) (length-values t) reads in
+          let parts = Reads-split x n (width inside usable t) (values inside value taken t) (values_of inside value taken ts) (length-values t) reads in
           let here = hold t h.0 thrifty.0 j n marks.0 parts.0 in
-          let rest = hold_of ts h.1 thrifty.1 (j + 1) (n + width inside room t) marks.1 parts.1 in (
+          let rest = hold_of ts h.1 thrifty.1 (j + 1) (n + width inside usable t) marks.1 parts.1 in (
             AreMet-append x _ _ here.0 rest.0,
-            omega (arith, here.1, rest.1, at_point-append x (form inside room t j n) (forms inside room ts (j + 1) (n + width inside room t))),
+            omega (arith, here.1, rest.1, at_point-append x (form inside usable t j n) (forms inside usable ts (j + 1) (n + width inside usable t))),
           )
 
       hold_under : (ts : Trees) → EachLeafOf IsRight ts → AreThrifty value held ts → (low : ℕ) → IsBelowEach low (worths_by value ts) →
           (low ≡ 0 → IsBare value held (numbers_of ts)) → (i c n : ℕ) → x i ≡ mark low → x c ≡ low → Reads x n (values_of inside value taken ts) →
-          AreMet x (rows_under inside room ts i c n)
+          AreMet x (rows_under inside usable ts i c n)
       hold_under none h thrifty low floor bare i c n at own reads = tt
       hold_under (more t ts) h thrifty low floor bare i c n at own reads =
-          let parts = Reads-split x n (width inside room t) (values inside value taken t) (values_of inside value taken ts) (length-values t) reads in
+          let parts = Reads-split x n (width inside usable t) (values inside value taken t) (values_of inside value taken ts) (length-values t) reads in
           let worthless : low ≡ 0 → worth_by value t ≡ 0 = λ e. bare_worth t h.0 (left_bare (numbers t) (numbers_of ts) (bare e)) in
           let here = hold t h.0 thrifty.0 i n (at ∙ same_mark low (worth_by value t) worthless (λ e. omega (arith, floor.0))) parts.0 in
-          let rest = hold_under ts h.1 thrifty.1 low floor.1 (λ e. right_bare (numbers t) (numbers_of ts) (bare e)) i c (n + width inside room t) at own parts.1 in
+          let rest = hold_under ts h.1 thrifty.1 low floor.1 (λ e. right_bare (numbers t) (numbers_of ts) (bare e)) i c (n + width inside usable t) at own parts.1 in
           AreMet-append x _ _ here.0 (omega (arith, here.1, floor.0), rest)

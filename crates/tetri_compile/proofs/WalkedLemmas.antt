@@ -10,64 +10,64 @@ use Rattle.tetri_compile.specs.declared.outline.Tally.{Tally}
 use Rattle.tetri_compile.specs.Draft.{bid_rows, bid_tallies, bid_uppers, objective, tallies, tallies_of}
 use Rattle.tetri_compile.specs.Forms.{Form, Limit, limit, run, share, plain_limit}
 use Rattle.tetri_compile.specs.Walk.{best, ones, uppers, uppers_of, width, width_of, form, forms, rows, rows_of, rows_under}
-use Rattle.tetri_compile.specs.Walked.{Grows, IsWalked, AreWalked, inside, next_column, room}
+use Rattle.tetri_compile.specs.Walked.{Grows, IsWalked, AreWalked, inside, next_column, usable}
 use Rattle.tetri_compile.proofs.OutlineLemmas.{forms_next, uppers_next, rows_next, tallies_next, next_is, grows_more, grows_length}
 
 module _ (s : Space) (job : ℕ) (ts : Trees) (i b : ℕ) (old new : Outline) (f : Form) where
   pub under_walked : b ≡ best (join least ts) → f ≡ (if b == 0 then [] else (share (next_column old) 1 ∷ [])) →
-      Grows old new (b ∷ uppers_of (inside s) (room s) ts) (rows_under (inside s) (room s) ts i (next_column old) (next_column old + 1))
-      (tallies_of (inside s) (room s) job ts (next_column old + 1)) →
+      Grows old new (b ∷ uppers_of (inside s) (usable s) ts) (rows_under (inside s) (usable s) ts i (next_column old) (next_column old + 1))
+      (tallies_of (inside s) (usable s) job ts (next_column old + 1)) →
       IsWalked s job (join least ts) i old new f
   under_walked e is g = record {
     form = is ∙ ap (λ (k : ℕ). if k == 0 then [] else (share (next_column old) 1 ∷ [])) e;
-    grows = subst (λ (k : ℕ). Grows old new (k ∷ uppers_of (inside s) (room s) ts) (rows_under (inside s) (room s) ts i (next_column old) (next_column old + 1))
-        (tallies_of (inside s) (room s) job ts (next_column old + 1))) e g;
+    grows = subst (λ (k : ℕ). Grows old new (k ∷ uppers_of (inside s) (usable s) ts) (rows_under (inside s) (usable s) ts i (next_column old) (next_column old + 1))
+        (tallies_of (inside s) (usable s) job ts (next_column old + 1))) e g;
   }
 
-  pub sum_walked : b ≡ length (ones ts) → f ≡ forms (inside s) (room s) ts (next_column old) (next_column old + length (ones ts)) →
-      Grows old new (ones ts ++ uppers_of (inside s) (room s) ts)
-      (limit (run 1 (next_column old) (ones ts)) (share i b ∷ []) ∷ rows_of (inside s) (room s) ts (next_column old) (next_column old + length (ones ts)))
-      (tallies_of (inside s) (room s) job ts (next_column old + length (ones ts))) →
+  pub sum_walked : b ≡ length (ones ts) → f ≡ forms (inside s) (usable s) ts (next_column old) (next_column old + length (ones ts)) →
+      Grows old new (ones ts ++ uppers_of (inside s) (usable s) ts)
+      (limit (run 1 (next_column old) (ones ts)) (share i b ∷ []) ∷ rows_of (inside s) (usable s) ts (next_column old) (next_column old + length (ones ts)))
+      (tallies_of (inside s) (usable s) job ts (next_column old + length (ones ts))) →
       IsWalked s job (join added ts) i old new f
   sum_walked e is g = record {
     form = is;
-    grows = subst (λ (k : ℕ). Grows old new (ones ts ++ uppers_of (inside s) (room s) ts)
-        (limit (run 1 (next_column old) (ones ts)) (share i k ∷ []) ∷ rows_of (inside s) (room s) ts (next_column old) (next_column old + length (ones ts)))
-        (tallies_of (inside s) (room s) job ts (next_column old + length (ones ts)))) e g;
+    grows = subst (λ (k : ℕ). Grows old new (ones ts ++ uppers_of (inside s) (usable s) ts)
+        (limit (run 1 (next_column old) (ones ts)) (share i k ∷ []) ∷ rows_of (inside s) (usable s) ts (next_column old) (next_column old + length (ones ts)))
+        (tallies_of (inside s) (usable s) job ts (next_column old + length (ones ts)))) e g;
   }
 
 pub marked_grows : (s : Space) (job : ℕ) (ts : Trees) (i b first : ℕ) (old mid new : Outline) (f : Form) → first ≡ next_column old →
     Grows old mid (ones ts) (limit (run 1 (next_column old) (ones ts)) (share i b ∷ []) ∷ []) [] → AreWalked s job ts first mid new f →
-    Grows old new (ones ts ++ uppers_of (inside s) (room s) ts)
-    (limit (run 1 (next_column old) (ones ts)) (share i b ∷ []) ∷ rows_of (inside s) (room s) ts (next_column old) (next_column old + length (ones ts)))
-    (tallies_of (inside s) (room s) job ts (next_column old + length (ones ts)))
+    Grows old new (ones ts ++ uppers_of (inside s) (usable s) ts)
+    (limit (run 1 (next_column old) (ones ts)) (share i b ∷ []) ∷ rows_of (inside s) (usable s) ts (next_column old) (next_column old + length (ones ts)))
+    (tallies_of (inside s) (usable s) job ts (next_column old + length (ones ts)))
 marked_grows s job ts i b first old mid new f e ahead walked =
     let top = limit (run 1 (next_column old) (ones ts)) (share i b ∷ []) in
     let long : next_column mid ≡ next_column old + length (ones ts) = grows_length old mid (ones ts) (top ∷ []) [] ahead in
-    let all = grows_more old mid new (ones ts) (uppers_of (inside s) (room s) ts) (top ∷ []) (rows_of (inside s) (room s) ts first (next_column mid)) [] (tallies_of (inside s) (room s) job ts (next_column mid)) ahead walked.grows in
+    let all = grows_more old mid new (ones ts) (uppers_of (inside s) (usable s) ts) (top ∷ []) (rows_of (inside s) (usable s) ts first (next_column mid)) [] (tallies_of (inside s) (usable s) job ts (next_column mid)) ahead walked.grows in
     record {
       uppers = all.uppers;
-      rows = all.rows ∙ ap (λ (j : ℕ). map plain_limit old.rows.items ++ (top ∷ rows_of (inside s) (room s) ts j (next_column mid))) e
-          ∙ ap (λ (m : ℕ). map plain_limit old.rows.items ++ (top ∷ rows_of (inside s) (room s) ts (next_column old) m)) long;
-      tallies = all.tallies ∙ ap (λ (m : ℕ). old.tallies.items ++ tallies_of (inside s) (room s) job ts m) long;
+      rows = all.rows ∙ ap (λ (j : ℕ). map plain_limit old.rows.items ++ (top ∷ rows_of (inside s) (usable s) ts j (next_column mid))) e
+          ∙ ap (λ (m : ℕ). map plain_limit old.rows.items ++ (top ∷ rows_of (inside s) (usable s) ts (next_column old) m)) long;
+      tallies = all.tallies ∙ ap (λ (m : ℕ). old.tallies.items ++ tallies_of (inside s) (usable s) job ts m) long;
     }
 
 -- one more part, where the parts from a place on were still to be walked
 pub place_next : (s : Space) (job : ℕ) (t : Tree) (rest here all : Trees) (first k : ℕ) (start old new : Outline) (before after f : Form) →
     here ≡ more t rest → IsWalked s job t (first + k) old new f → after ≡ before ++ f →
-    next_column old + width_of (inside s) (room s) here < 2 ^ 31 →
-    before ++ forms (inside s) (room s) here (first + k) (next_column old) ≡ forms (inside s) (room s) all first (next_column start) →
-    old.uppers.items ++ uppers_of (inside s) (room s) here ≡ start.uppers.items ++ uppers_of (inside s) (room s) all →
-    map plain_limit old.rows.items ++ rows_of (inside s) (room s) here (first + k) (next_column old) ≡ map plain_limit start.rows.items ++ rows_of (inside s) (room s) all first (next_column start) →
-    old.tallies.items ++ tallies_of (inside s) (room s) job here (next_column old) ≡ start.tallies.items ++ tallies_of (inside s) (room s) job all (next_column start) →
-    (next_column new + width_of (inside s) (room s) rest < 2 ^ 31)
-    × (after ++ forms (inside s) (room s) rest (first + (k + 1)) (next_column new) ≡ forms (inside s) (room s) all first (next_column start))
-    × (new.uppers.items ++ uppers_of (inside s) (room s) rest ≡ start.uppers.items ++ uppers_of (inside s) (room s) all)
-    × (map plain_limit new.rows.items ++ rows_of (inside s) (room s) rest (first + (k + 1)) (next_column new) ≡ map plain_limit start.rows.items ++ rows_of (inside s) (room s) all first (next_column start))
-    × (new.tallies.items ++ tallies_of (inside s) (room s) job rest (next_column new) ≡ start.tallies.items ++ tallies_of (inside s) (room s) job all (next_column start))
+    next_column old + width_of (inside s) (usable s) here < 2 ^ 31 →
+    before ++ forms (inside s) (usable s) here (first + k) (next_column old) ≡ forms (inside s) (usable s) all first (next_column start) →
+    old.uppers.items ++ uppers_of (inside s) (usable s) here ≡ start.uppers.items ++ uppers_of (inside s) (usable s) all →
+    map plain_limit old.rows.items ++ rows_of (inside s) (usable s) here (first + k) (next_column old) ≡ map plain_limit start.rows.items ++ rows_of (inside s) (usable s) all first (next_column start) →
+    old.tallies.items ++ tallies_of (inside s) (usable s) job here (next_column old) ≡ start.tallies.items ++ tallies_of (inside s) (usable s) job all (next_column start) →
+    (next_column new + width_of (inside s) (usable s) rest < 2 ^ 31)
+    × (after ++ forms (inside s) (usable s) rest (first + (k + 1)) (next_column new) ≡ forms (inside s) (usable s) all first (next_column start))
+    × (new.uppers.items ++ uppers_of (inside s) (usable s) rest ≡ start.uppers.items ++ uppers_of (inside s) (usable s) all)
+    × (map plain_limit new.rows.items ++ rows_of (inside s) (usable s) rest (first + (k + 1)) (next_column new) ≡ map plain_limit start.rows.items ++ rows_of (inside s) (usable s) all first (next_column start))
+    × (new.tallies.items ++ tallies_of (inside s) (usable s) job rest (next_column new) ≡ start.tallies.items ++ tallies_of (inside s) (usable s) job all (next_column start))
 place_next s job t rest here all first k start old new before after f cut walked put fits h_form h_uppers h_rows h_tallies =
     let ins = inside s in
-    let rm = room s in
+    let rm = usable s in
     let step : first + (k + 1) ≡ (first + k) + 1 = omega arith in
     let wide = length-append (uppers ins rm t) (uppers_of ins rm rest) in
     let size : width_of ins rm here ≡ width_of ins rm (more t rest) = ap (width_of ins rm) cut in
@@ -87,19 +87,19 @@ place_next s job t rest here all first k start old new before after f cut walked
 pub bid_next : (s : Space) (b : Bid) (rest here all : List Bid) (i : ℕ) (start old mid new : Outline) (before after f : Form) →
     here ≡ b ∷ rest → i ≡ next_column old → mid.uppers.items ≡ old.uppers.items ++ 1 ∷ [] → mid.rows.items ≡ old.rows.items → mid.tallies.items ≡ old.tallies.items →
     IsWalked s b.job b.expr i mid new f → after ≡ before ++ f →
-    next_column old + length (bid_uppers (inside s) (room s) here) < 2 ^ 31 →
-    before ++ objective (inside s) (room s) here (next_column old) ≡ objective (inside s) (room s) all (next_column start) →
-    old.uppers.items ++ bid_uppers (inside s) (room s) here ≡ start.uppers.items ++ bid_uppers (inside s) (room s) all →
-    map plain_limit old.rows.items ++ bid_rows (inside s) (room s) here (next_column old) ≡ map plain_limit start.rows.items ++ bid_rows (inside s) (room s) all (next_column start) →
-    old.tallies.items ++ bid_tallies (inside s) (room s) here (next_column old) ≡ start.tallies.items ++ bid_tallies (inside s) (room s) all (next_column start) →
-    (next_column new + length (bid_uppers (inside s) (room s) rest) < 2 ^ 31)
-    × (after ++ objective (inside s) (room s) rest (next_column new) ≡ objective (inside s) (room s) all (next_column start))
-    × (new.uppers.items ++ bid_uppers (inside s) (room s) rest ≡ start.uppers.items ++ bid_uppers (inside s) (room s) all)
-    × (map plain_limit new.rows.items ++ bid_rows (inside s) (room s) rest (next_column new) ≡ map plain_limit start.rows.items ++ bid_rows (inside s) (room s) all (next_column start))
-    × (new.tallies.items ++ bid_tallies (inside s) (room s) rest (next_column new) ≡ start.tallies.items ++ bid_tallies (inside s) (room s) all (next_column start))
+    next_column old + length (bid_uppers (inside s) (usable s) here) < 2 ^ 31 →
+    before ++ objective (inside s) (usable s) here (next_column old) ≡ objective (inside s) (usable s) all (next_column start) →
+    old.uppers.items ++ bid_uppers (inside s) (usable s) here ≡ start.uppers.items ++ bid_uppers (inside s) (usable s) all →
+    map plain_limit old.rows.items ++ bid_rows (inside s) (usable s) here (next_column old) ≡ map plain_limit start.rows.items ++ bid_rows (inside s) (usable s) all (next_column start) →
+    old.tallies.items ++ bid_tallies (inside s) (usable s) here (next_column old) ≡ start.tallies.items ++ bid_tallies (inside s) (usable s) all (next_column start) →
+    (next_column new + length (bid_uppers (inside s) (usable s) rest) < 2 ^ 31)
+    × (after ++ objective (inside s) (usable s) rest (next_column new) ≡ objective (inside s) (usable s) all (next_column start))
+    × (new.uppers.items ++ bid_uppers (inside s) (usable s) rest ≡ start.uppers.items ++ bid_uppers (inside s) (usable s) all)
+    × (map plain_limit new.rows.items ++ bid_rows (inside s) (usable s) rest (next_column new) ≡ map plain_limit start.rows.items ++ bid_rows (inside s) (usable s) all (next_column start))
+    × (new.tallies.items ++ bid_tallies (inside s) (usable s) rest (next_column new) ≡ start.tallies.items ++ bid_tallies (inside s) (usable s) all (next_column start))
 bid_next s b rest here all i start old mid new before after f cut is_i put same_rows same_tallies walked ext fits h_form h_uppers h_rows h_tallies =
     let ins = inside s in
-    let rm = room s in
+    let rm = usable s in
     let n = next_column old in
     let us = uppers ins rm b.expr in
     let mid_is : next_column mid ≡ n + 1 = ap length put ∙ length-append old.uppers.items (1 ∷ []) in

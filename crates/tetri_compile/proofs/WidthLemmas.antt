@@ -28,39 +28,40 @@ use Rattle.tetri_compile.specs.Draft.{leaf_tallies, is_held, supply_row, tallies
 use Rattle.tetri_compile.specs.Flat.{column_count, row_count}
 use Rattle.tetri_compile.specs.Forms.{Limit, limit, share, run}
 use Rattle.tetri_compile.specs.Sizes.{width_by, widths_by, widths_marked, row_total, row_totals, row_totals_under, covers, leaves_in, is_used, IsUsable, HasUsableParts}
+use Rattle.tetri_compile.specs.Usable.{usable_by}
 use Rattle.tetri_compile.specs.Walked.{IsReady}
 use Rattle.tetri_compile.specs.Walk.{ones, own_uppers, uppers, uppers_of, width, form, rows, rows_of, rows_under}
 
 -- ---- the columns of a walk
-module _ (many : ℕ → ℕ) (inside : ℕ → List ℕ) (room : ℕ → ℕ → ℕ) where
+module _ (many : ℕ → ℕ) (inside : ℕ → List ℕ) (usable : ℕ → Leaf → ℕ) where
   abbrev IsCounted : Leaf → Type 0
   IsCounted l = many l.set ≡ length (inside l.set)
 
   mutual
-    pub width_is : (t : Tree) → EachLeaf IsCounted t → width inside room t ≡ width_by many t
+    pub width_is : (t : Tree) → EachLeaf IsCounted t → width inside usable t ≡ width_by many t
     width_is (one l) h = length-map (inside l.set) _ ∙ sym h
-    width_is (join greatest ts) h = length-append (ones ts) (uppers_of inside room ts) ∙ marked_is ts h
+    width_is (join greatest ts) h = length-append (ones ts) (uppers_of inside usable ts) ∙ marked_is ts h
     width_is (join least ts) h = omega (arith, widths_is ts h)
-    width_is (join added ts) h = length-append (ones ts) (uppers_of inside room ts) ∙ marked_is ts h
+    width_is (join added ts) h = length-append (ones ts) (uppers_of inside usable ts) ∙ marked_is ts h
     width_is (scale t s) h = width_is t h
     width_is (barrier t v) h = width_is t h
 
-    widths_is : (ts : Trees) → EachLeafOf IsCounted ts → length (uppers_of inside room ts) ≡ widths_by many ts
+    widths_is : (ts : Trees) → EachLeafOf IsCounted ts → length (uppers_of inside usable ts) ≡ widths_by many ts
     widths_is none h = refl
-    widths_is (more t ts) h = omega (arith, length-append (uppers inside room t) (uppers_of inside room ts), width_is t h.0, widths_is ts h.1)
+    widths_is (more t ts) h = omega (arith, length-append (uppers inside usable t) (uppers_of inside usable ts), width_is t h.0, widths_is ts h.1)
 
-    marked_is : (ts : Trees) → EachLeafOf IsCounted ts → length (ones ts) + length (uppers_of inside room ts) ≡ widths_marked many ts
+    marked_is : (ts : Trees) → EachLeafOf IsCounted ts → length (ones ts) + length (uppers_of inside usable ts) ≡ widths_marked many ts
     marked_is none h = refl
-    marked_is (more t ts) h = omega (arith, length-append (uppers inside room t) (uppers_of inside room ts), width_is t h.0, marked_is ts h.1)
+    marked_is (more t ts) h = omega (arith, length-append (uppers inside usable t) (uppers_of inside usable ts), width_is t h.0, marked_is ts h.1)
 
-  pub columns_are : (bs : List Bid) → Each (λ b. EachLeaf IsCounted b.expr) bs → length (bid_uppers inside room bs) ≡ sum_of (λ b. 1 + width_by many b.expr) bs
+  pub columns_are : (bs : List Bid) → Each (λ b. EachLeaf IsCounted b.expr) bs → length (bid_uppers inside usable bs) ≡ sum_of (λ b. 1 + width_by many b.expr) bs
   columns_are [] h = refl
-  columns_are (b ∷ bs) h = omega (arith, length-append (uppers inside room b.expr) (bid_uppers inside room bs), width_is b.expr h.0, columns_are bs h.1)
+  columns_are (b ∷ bs) h = omega (arith, length-append (uppers inside usable b.expr) (bid_uppers inside usable bs), width_is b.expr h.0, columns_are bs h.1)
 
 -- ---- the rows of a walk
-module _ (inside : ℕ → List ℕ) (room : ℕ → ℕ → ℕ) where
+module _ (inside : ℕ → List ℕ) (usable : ℕ → Leaf → ℕ) where
   mutual
-    pub rows_are : (t : Tree) (i n : ℕ) → length (rows inside room t i n) ≡ row_total t
+    pub rows_are : (t : Tree) (i n : ℕ) → length (rows inside usable t i n) ≡ row_total t
     rows_are (one l) i n = by_kind l.linear (limit (run 1 n (inside l.set)) (share i l.k ∷ [])) (limit (share i l.k ∷ []) (run 1 n (inside l.set)))
       where
         by_kind : (b : Bool) (r q : Limit) → length (r ∷ cond b [] (q ∷ [])) ≡ cond b 1 2
@@ -70,22 +71,22 @@ module _ (inside : ℕ → List ℕ) (room : ℕ → ℕ → ℕ) where
     rows_are (join least ts) i n = rows_under_are ts i n (n + 1)
     rows_are (join added ts) i n = omega (arith, rows_of_are ts n (n + length (ones ts)))
     rows_are (scale t s) i n = rows_are t i n
-    rows_are (barrier t v) i n = omega (arith, length-append (rows inside room t i n) (limit (share i v ∷ []) (form inside room t i n) ∷ []), rows_are t i n)
+    rows_are (barrier t v) i n = omega (arith, length-append (rows inside usable t i n) (limit (share i v ∷ []) (form inside usable t i n) ∷ []), rows_are t i n)
 
-    rows_of_are : (ts : Trees) (j n : ℕ) → length (rows_of inside room ts j n) ≡ row_totals ts
+    rows_of_are : (ts : Trees) (j n : ℕ) → length (rows_of inside usable ts j n) ≡ row_totals ts
     rows_of_are none j n = refl
     rows_of_are (more t ts) j n =
-        omega (arith, length-append (rows inside room t j n) (rows_of inside room ts (j + 1) (n + width inside room t)), rows_are t j n, rows_of_are ts (j + 1) (n + width inside room t))
+        omega (arith, length-append (rows inside usable t j n) (rows_of inside usable ts (j + 1) (n + width inside usable t)), rows_are t j n, rows_of_are ts (j + 1) (n + width inside usable t))
 
-    rows_under_are : (ts : Trees) (i c n : ℕ) → length (rows_under inside room ts i c n) ≡ row_totals_under ts
+    rows_under_are : (ts : Trees) (i c n : ℕ) → length (rows_under inside usable ts i c n) ≡ row_totals_under ts
     rows_under_are none i c n = refl
     rows_under_are (more t ts) i c n =
-        omega (arith, length-append (rows inside room t i n) (limit (share c 1 ∷ []) (form inside room t i n) ∷ rows_under inside room ts i c (n + width inside room t)), rows_are t i n, rows_under_are ts i c (n + width inside room t))
+        omega (arith, length-append (rows inside usable t i n) (limit (share c 1 ∷ []) (form inside usable t i n) ∷ rows_under inside usable ts i c (n + width inside usable t)), rows_are t i n, rows_under_are ts i c (n + width inside usable t))
 
-  pub bid_rows_are : (bs : List Bid) (n : ℕ) → length (bid_rows inside room bs n) ≡ sum_of (λ b. row_total b.expr) bs
+  pub bid_rows_are : (bs : List Bid) (n : ℕ) → length (bid_rows inside usable bs n) ≡ sum_of (λ b. row_total b.expr) bs
   bid_rows_are [] n = refl
   bid_rows_are (b ∷ bs) n =
-      omega (arith, length-append (rows inside room b.expr n (n + 1)) (bid_rows inside room bs (n + 1 + width inside room b.expr)), rows_are b.expr n (n + 1), bid_rows_are bs (n + 1 + width inside room b.expr))
+      omega (arith, length-append (rows inside usable b.expr n (n + 1)) (bid_rows inside usable bs (n + 1 + width inside usable b.expr)), rows_are b.expr n (n + 1), bid_rows_are bs (n + 1 + width inside usable b.expr))
 
   -- ---- the rows of supply
   module _ (p t : ℕ) where
@@ -108,30 +109,30 @@ module _ (inside : ℕ → List ℕ) (room : ℕ → ℕ → ℕ) where
         spread false false c d = refl
 
     mutual
-      tallies_held : (job : ℕ) (u : Tree) (n : ℕ) → list_any (is_held p t) (tallies inside room job u n) ≡ is_used inside (leaves u) p t
+      tallies_held : (job : ℕ) (u : Tree) (n : ℕ) → list_any (is_held p t) (tallies inside usable job u n) ≡ is_used inside (leaves u) p t
       tallies_held job (one l) n = leaf_held job l (inside l.set) n ∙ or_false (covers l t && has (inside l.set) p)
         where
           or_false : (b : Bool) → b ≡ (b || false)
           or_false true = refl
           or_false false = refl
-      tallies_held job (join op us) n = tallies_held_of job us (n + length (own_uppers inside room op us))
+      tallies_held job (join op us) n = tallies_held_of job us (n + length (own_uppers inside usable op us))
       tallies_held job (scale u s) n = tallies_held job u n
       tallies_held job (barrier u v) n = tallies_held job u n
 
-      tallies_held_of : (job : ℕ) (us : Trees) (n : ℕ) → list_any (is_held p t) (tallies_of inside room job us n) ≡ is_used inside (leaves_of us) p t
+      tallies_held_of : (job : ℕ) (us : Trees) (n : ℕ) → list_any (is_held p t) (tallies_of inside usable job us n) ≡ is_used inside (leaves_of us) p t
       tallies_held_of job none n = refl
       tallies_held_of job (more u us) n =
-          list_any-append (is_held p t) (tallies inside room job u n) (tallies_of inside room job us (n + width inside room u))
-          ∙ ap (λ b. b || list_any (is_held p t) (tallies_of inside room job us (n + width inside room u))) (tallies_held job u n)
-          ∙ ap (λ b. is_used inside (leaves u) p t || b) (tallies_held_of job us (n + width inside room u))
+          list_any-append (is_held p t) (tallies inside usable job u n) (tallies_of inside usable job us (n + width inside usable u))
+          ∙ ap (λ b. b || list_any (is_held p t) (tallies_of inside usable job us (n + width inside usable u))) (tallies_held job u n)
+          ∙ ap (λ b. is_used inside (leaves u) p t || b) (tallies_held_of job us (n + width inside usable u))
           ∙ sym (list_any-append (λ l. covers l t && has (inside l.set) p) (leaves u) (leaves_of us))
 
-    bids_held : (bs : List Bid) (n : ℕ) → list_any (is_held p t) (bid_tallies inside room bs n) ≡ is_used inside (leaves_in bs) p t
+    bids_held : (bs : List Bid) (n : ℕ) → list_any (is_held p t) (bid_tallies inside usable bs n) ≡ is_used inside (leaves_in bs) p t
     bids_held [] n = refl
     bids_held (b ∷ bs) n =
-        list_any-append (is_held p t) (tallies inside room b.job b.expr (n + 1)) (bid_tallies inside room bs (n + 1 + width inside room b.expr))
-        ∙ ap (λ c. c || list_any (is_held p t) (bid_tallies inside room bs (n + 1 + width inside room b.expr))) (tallies_held b.job b.expr (n + 1))
-        ∙ ap (λ c. is_used inside (leaves b.expr) p t || c) (bids_held bs (n + 1 + width inside room b.expr))
+        list_any-append (is_held p t) (tallies inside usable b.job b.expr (n + 1)) (bid_tallies inside usable bs (n + 1 + width inside usable b.expr))
+        ∙ ap (λ c. c || list_any (is_held p t) (bid_tallies inside usable bs (n + 1 + width inside usable b.expr))) (tallies_held b.job b.expr (n + 1))
+        ∙ ap (λ c. is_used inside (leaves b.expr) p t || c) (bids_held bs (n + 1 + width inside usable b.expr))
         ∙ sym (list_any-append (λ l. covers l t && has (inside l.set) p) (leaves b.expr) (leaves_in bs))
 
   supply_row_is : (cs : List Tally) (q : Tally → Bool) (m : ℕ) → length (supply_row (filter q cs) m) ≡ bit (list_any q cs)
@@ -142,23 +143,24 @@ module _ (inside : ℕ → List ℕ) (room : ℕ → ℕ → ℕ) where
       by_test true h = refl
       by_test false h = h
 
-  part_rows_are : (cs : List Tally) (p : ℕ) (ts : List ℕ) → length (part_supply inside room cs p ts) ≡ sum_of (λ t. bit (list_any (is_held p t) cs)) ts
-  part_rows_are cs p [] = refl
-  part_rows_are cs p (t ∷ ts) =
-      omega (arith, length-append (supply_row (filter (is_held p t) cs) (room p t)) (part_supply inside room cs p ts), supply_row_is cs (is_held p t) (room p t), part_rows_are cs p ts)
+  module _ (room : ℕ → ℕ → ℕ) where
+    part_rows_are : (cs : List Tally) (p : ℕ) (ts : List ℕ) → length (part_supply room cs p ts) ≡ sum_of (λ t. bit (list_any (is_held p t) cs)) ts
+    part_rows_are cs p [] = refl
+    part_rows_are cs p (t ∷ ts) =
+        omega (arith, length-append (supply_row (filter (is_held p t) cs) (room p t)) (part_supply room cs p ts), supply_row_is cs (is_held p t) (room p t), part_rows_are cs p ts)
 
-  supply_are : (cs : List Tally) (ts ps : List ℕ) → length (supply inside room cs ts ps) ≡ sum_of (λ p. sum_of (λ t. bit (list_any (is_held p t) cs)) ts) ps
-  supply_are cs ts [] = refl
-  supply_are cs ts (p ∷ ps) = omega (arith, length-append (part_supply inside room cs p ts) (supply inside room cs ts ps), part_rows_are cs p ts, supply_are cs ts ps)
+    supply_are : (cs : List Tally) (ts ps : List ℕ) → length (supply room cs ts ps) ≡ sum_of (λ p. sum_of (λ t. bit (list_any (is_held p t) cs)) ts) ps
+    supply_are cs ts [] = refl
+    supply_are cs ts (p ∷ ps) = omega (arith, length-append (part_supply room cs p ts) (supply room cs ts ps), part_rows_are cs p ts, supply_are cs ts ps)
 
-  pub supply_rows_are : (bs : List Bid) (n : ℕ) (ts ps : List ℕ) →
-      length (supply inside room (bid_tallies inside room bs n) ts ps) ≡ sum_of (λ t. count (λ p. is_used inside (leaves_in bs) p t) ps) ts
-  supply_rows_are bs n ts ps =
-      supply_are (bid_tallies inside room bs n) ts ps
-      ∙ sum_of-swap (λ p t. bit (list_any (is_held p t) (bid_tallies inside room bs n))) ps ts
-      ∙ sum_of-eq (λ t. sum_of (λ p. bit (list_any (is_held p t) (bid_tallies inside room bs n))) ps) (λ t. count (λ p. is_used inside (leaves_in bs) p t) ps) ts
-      (Each-all _ (λ t. sum_of-eq (λ p. bit (list_any (is_held p t) (bid_tallies inside room bs n))) (λ p. bit (is_used inside (leaves_in bs) p t)) ps
-      (Each-all _ (λ p. ap bit (bids_held p t bs n)) ps)) ts)
+    pub supply_rows_are : (bs : List Bid) (n : ℕ) (ts ps : List ℕ) →
+        length (supply room (bid_tallies inside usable bs n) ts ps) ≡ sum_of (λ t. count (λ p. is_used inside (leaves_in bs) p t) ps) ts
+    supply_rows_are bs n ts ps =
+        supply_are (bid_tallies inside usable bs n) ts ps
+        ∙ sum_of-swap (λ p t. bit (list_any (is_held p t) (bid_tallies inside usable bs n))) ps ts
+        ∙ sum_of-eq (λ t. sum_of (λ p. bit (list_any (is_held p t) (bid_tallies inside usable bs n))) ps) (λ t. count (λ p. is_used inside (leaves_in bs) p t) ps) ts
+        (Each-all _ (λ t. sum_of-eq (λ p. bit (list_any (is_held p t) (bid_tallies inside usable bs n))) (λ p. bit (is_used inside (leaves_in bs) p t)) ps
+        (Each-all _ (λ p. ap bit (bids_held p t bs n)) ps)) ts)
 
 -- ---- bounds
 mutual
@@ -327,12 +329,12 @@ module _ (s : Space) (sound : IsSoundSpace s) (p : Parts) (are : ArePartitionsOf
               EachLeaf-at IsGoodLeaf b.expr l (each_good b.expr (subst (OfLeft (IsLess s.now (s.now + s.window) (peak h.whole.expr))) h.left (left_sound s.now (s.now + s.window) h.whole.expr whole.well_made.sound)).0) below
 
   -- ---- the two numbers
-  counted : Each (λ b. EachLeaf (IsCounted many inside (available s (partitions s))) b.expr) (live_bids s)
-  counted = each_bid (IsCounted many inside (available s (partitions s))) (λ b l at below. ap length (found b l at below).1)
+  counted : Each (λ b. EachLeaf (IsCounted many inside (usable_by s (partitions s))) b.expr) (live_bids s)
+  counted = each_bid (IsCounted many inside (usable_by s (partitions s))) (λ b l at below. ap length (found b l at below).1)
 
   pub columns_counted : column_count s ≡ sum_of (λ b. 1 + width_by many b.expr) p.bids
   columns_counted =
-      columns_are many inside (available s (partitions s)) (live_bids s) counted ∙ ap (sum_of (λ b. 1 + width_by many b.expr)) (sym are.bids)
+      columns_are many inside (usable_by s (partitions s)) (live_bids s) counted ∙ ap (sum_of (λ b. 1 + width_by many b.expr)) (sym are.bids)
 
   same_used : (ls : List Leaf) (q t : ℕ) → All (λ (l : Leaf). parts_found p l.set ≡ inside l.set) ls → is_used (parts_found p) ls q t ≡ is_used inside ls q t
   same_used [] q t h = refl
@@ -343,10 +345,11 @@ module _ (s : Space) (sound : IsSoundSpace s) (p : Parts) (are : ArePartitionsOf
   pub rows_counted : row_count s ≡ sum_of (λ b. row_total b.expr) p.bids
       + sum_of (λ t. count (λ q. is_used (parts_found p) (leaves_in p.bids) q t) (range_with_len 0 (length p.groups))) (range_with_len s.now s.window)
   rows_counted =
+      let usable = usable_by s (partitions s) in
       let room = available s (partitions s) in
       let slots = range_with_len s.now s.window in
       let ps = range_with_len 0 (length (partitions s)) in
-      let supplied = supply_rows_are inside room (live_bids s) 0 slots ps in
+      let supplied = supply_rows_are inside usable room (live_bids s) 0 slots ps in
       let moved : sum_of (λ t. count (λ q. is_used inside (leaves_in (live_bids s)) q t) ps) slots
       ≡ sum_of (λ t. count (λ q. is_used (parts_found p) (leaves_in p.bids) q t) (range_with_len 0 (length p.groups))) slots =
       sum_of-eq (λ t. count (λ q. is_used inside (leaves_in (live_bids s)) q t) ps) (λ t. count (λ q. is_used (parts_found p) (leaves_in (live_bids s)) q t) ps) slots
@@ -354,8 +357,8 @@ module _ (s : Space) (sound : IsSoundSpace s) (p : Parts) (are : ArePartitionsOf
       (Each-all _ (λ q. ap bit (sym (same_used (leaves_in (live_bids s)) q t (all_leaves (λ l. parts_found p l.set ≡ inside l.set) (live_bids s) (λ b l at below. (found b l at below).1))))) ps)) slots)
       ∙ ap (λ bs. sum_of (λ t. count (λ q. is_used (parts_found p) (leaves_in bs) q t) ps) slots) (sym are.bids)
       ∙ ap (λ n. sum_of (λ t. count (λ q. is_used (parts_found p) (leaves_in p.bids) q t) (range_with_len 0 n)) slots) (sym (ap length are.groups)) in
-      length-append (bid_rows inside room (live_bids s) 0) (supply inside room (bid_tallies inside room (live_bids s) 0) slots ps)
-      ∙ omega (arith, bid_rows_are inside room (live_bids s) 0, supplied, moved, ap (sum_of (λ b. row_total b.expr)) (sym are.bids))
+      length-append (bid_rows inside usable (live_bids s) 0) (supply room (bid_tallies inside usable (live_bids s) 0) slots ps)
+      ∙ omega (arith, bid_rows_are inside usable (live_bids s) 0, supplied, moved, ap (sum_of (λ b. row_total b.expr)) (sym are.bids))
 
   -- ---- and that they are small
   bid_small : (b : Bid) → Contains (live_bids s) b → (width_by many b.expr ≤ 532480) × (row_total b.expr ≤ 8320)

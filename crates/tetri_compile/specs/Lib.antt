@@ -10,5 +10,6 @@ pub mod Marks
 pub mod Room
 pub mod Sizes
 pub mod Small
+pub mod Usable
 pub mod Walk
 pub mod Walked

@@ -24,8 +24,8 @@ module _ (inside : ℕ → List ℕ) where
       limit (run 1 n (inside l.set)) (share i l.k ∷ [])
       ∷ (if l.linear then [] else (limit (share i l.k ∷ []) (run 1 n (inside l.set)) ∷ []))
 
--- `inside` gives the partitions in a set, and `room` how many nodes of a partition are free at a slot
-module _ (inside : ℕ → List ℕ) (room : ℕ → ℕ → ℕ) where
+-- `inside` gives the partitions in a set, and `usable` how many nodes of a partition a leaf may get
+module _ (inside : ℕ → List ℕ) (usable : ℕ → Leaf → ℕ) where
   -- the upper bounds of the columns that a join has itself
   abbrev pub own_uppers : Operator → Trees → List ℕ
   own_uppers greatest ts = ones ts
@@ -35,7 +35,7 @@ module _ (inside : ℕ → List ℕ) (room : ℕ → ℕ → ℕ) where
   abbrev mutual
     -- the upper bounds of the columns of a walk, in order; each lower bound is 0
     pub uppers : Tree → List ℕ
-    uppers (one l) = map (λ p. min l.k (room p l.start)) (inside l.set)
+    uppers (one l) = map (λ p. min l.k (usable p l)) (inside l.set)
     uppers (join op ts) = own_uppers op ts ++ uppers_of ts
     uppers (scale t s) = uppers t
     uppers (barrier t v) = uppers t

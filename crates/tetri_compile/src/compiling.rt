@@ -12,11 +12,12 @@ ghost use Rattle.tetri_space.specs.Space.{space};
 ghost use Rattle.tetri_space.specs.Total.{total_in};
 ghost use Rattle.tetri_compile.specs.Allotted.{point_of};
 ghost use Rattle.tetri_compile.specs.Counting.{AreCountsOf};
-ghost use Rattle.tetri_compile.specs.Draft.{bid_rows, bid_tallies, bid_uppers, objective};
+ghost use Rattle.tetri_compile.specs.Draft.{bid_rows, bid_tallies, bid_uppers, draft, objective, outline_draft};
 ghost use Rattle.tetri_compile.specs.Flat.{IsCompiled, column_count, row_count};
 ghost use Rattle.tetri_compile.specs.Gain.{most_gain};
 ghost use Rattle.tetri_compile.specs.Room.{AreRooms};
-ghost use Rattle.tetri_compile.specs.Walked.{Grows, IsReady, inside, next_column, room};
+ghost use Rattle.tetri_compile.specs.Small.{HasSmallNumbers};
+ghost use Rattle.tetri_compile.specs.Walked.{Grows, IsReady, inside, next_column, usable};
 
 use crate::flattening::{counts_from, flatten};
 use crate::outline::{Outline, Share};
@@ -61,12 +62,12 @@ fn walk_bids(
     requires partitions { ArePartitionsOf (space inst.now) (parts_of parts.now) }
     requires rooms { AreRooms (space inst.now) rooms.now }
     requires ready { Each (λ b. IsSound b.expr × EachLeaf (IsReady (space inst.now) (parts_of parts.now)) b.expr) (parts_of parts.now).bids }
-    requires fits { next_column out.old + length (bid_uppers (inside (space inst.now)) (room (space inst.now)) (parts_of parts.now).bids) < 2 ^ 31 }
-    ensures form { IfOk result (λ f. f.items ≡ objective (inside (space inst.entry.now)) (room (space inst.entry.now)) (parts_of parts.now).bids (next_column out.old)) }
+    requires fits { next_column out.old + length (bid_uppers (inside (space inst.now)) (usable (space inst.now)) (parts_of parts.now).bids) < 2 ^ 31 }
+    ensures form { IfOk result (λ f. f.items ≡ objective (inside (space inst.entry.now)) (usable (space inst.entry.now)) (parts_of parts.now).bids (next_column out.old)) }
     ensures grows { OnOk result (Grows out.old out.new
-        (bid_uppers (inside (space inst.entry.now)) (room (space inst.entry.now)) (parts_of parts.now).bids)
-        (bid_rows (inside (space inst.entry.now)) (room (space inst.entry.now)) (parts_of parts.now).bids (next_column out.old))
-        (bid_tallies (inside (space inst.entry.now)) (room (space inst.entry.now)) (parts_of parts.now).bids (next_column out.old))) }
+        (bid_uppers (inside (space inst.entry.now)) (usable (space inst.entry.now)) (parts_of parts.now).bids)
+        (bid_rows (inside (space inst.entry.now)) (usable (space inst.entry.now)) (parts_of parts.now).bids (next_column out.old))
+        (bid_tallies (inside (space inst.entry.now)) (usable (space inst.entry.now)) (parts_of parts.now).bids (next_column out.old))) }
 {
     let mut form = Vec::new(alloc);
     for offer in parts.offers() {
@@ -87,9 +88,35 @@ fn walk_bids(
     Ok(form)
 }
 
+// What is written down of an instance: its outline, and what the columns earn.
+#[derive(Drop)]
+struct Written {
+    form: Vec<Share>,
+    outline: Outline,
+}
+
+// The walks of all expressions, and the supply.
+fn write_down(alloc: Global, inst: &Instance, parts: &Partitions) -> Result<Written, AllocError>
+    requires sound { IsSoundSpace (space inst.now) }
+    requires partitions { ArePartitionsOf (space inst.now) (parts_of parts.now) }
+    requires columns { column_count (space inst.now) ≤ 2000 }
+    ensures { IfOk result (λ w. outline_draft w.outline w.form.items ≡ draft (space inst.entry.now)) }
+{
+    let rooms = rooms_of(alloc, inst, parts)?;
+    let mut outline = Outline {
+        uppers: Vec::new(alloc),
+        rows: Vec::new(alloc),
+        tallies: Vec::new(alloc),
+    };
+    let form = walk_bids(alloc, inst, parts, &rooms, &mut outline)?;
+    add_supply(alloc, inst, parts, &rooms, &mut outline)?;
+    Ok(Written { form, outline })
+}
+
 /// The program of an instance, and its columns that count nodes. Every lawful allotment has a point of
 /// the program at which the program earns no less than the allotment's total. The program is fit, its
-/// lower bounds are 0, and its columns can earn at most 2^64 - 1 together. Linear in the program and in
+/// lower bounds are 0, each number is at most 10^12 in size, and its columns can earn at most 2^64 - 1
+/// together. Linear in the program and in
 /// the nodes of the partitions for each slot of the window and each level of an expression, but for the
 /// sorting of each row's terms and of each partition's nodes.
 pub fn compile(alloc: Global, inst: &Instance, parts: &Partitions) -> Result<Compiled, AllocError>
@@ -105,16 +132,10 @@ pub fn compile(alloc: Global, inst: &Instance, parts: &Partitions) -> Result<Com
     ensures lower { IfOk result (λ c. All (λ z. z ≡ pos 0) c.program.lower.items) }
     ensures counts { IfOk result (λ c. AreCountsOf c.program c.counts.items) }
     ensures bounded { IfOk result (λ c. most_gain c.program < 2 ^ 64) }
+    ensures small { IfOk result (λ c. HasSmallNumbers c.program) }
 {
-    let rooms = rooms_of(alloc, inst, parts)?;
-    let mut out = Outline {
-        uppers: Vec::new(alloc),
-        rows: Vec::new(alloc),
-        tallies: Vec::new(alloc),
-    };
-    let form = walk_bids(alloc, inst, parts, &rooms, &mut out)?;
-    add_supply(alloc, inst, parts, &rooms, &mut out)?;
-    let program = flatten(alloc, &form, &out)?;
-    let counts = counts_from(alloc, &out.tallies)?;
+    let written = write_down(alloc, inst, parts)?;
+    let program = flatten(alloc, &written.form, &written.outline)?;
+    let counts = counts_from(alloc, &written.outline.tallies)?;
     Ok(Compiled { program, counts })
 }

@@ -5,6 +5,7 @@
 
 mod compiling;
 mod flattening;
+mod laws;
 mod outline;
 mod rooms;
 mod sizes;
@@ -14,5 +15,6 @@ mod terms;
 mod walking;
 
 pub use compiling::{Compiled, Count, compile};
+pub use laws::most_gain_bounds_points;
 pub use sizes::size;
 pub use taking::{Taken, counts_of};

@@ -9,7 +9,7 @@ ghost use Rattle.tetri_compile.specs.ByPart.{list_at};
 ghost use Rattle.tetri_compile.specs.Draft.{is_held, part_supply, supply, supply_row, tally_form};
 ghost use Rattle.tetri_compile.specs.Room.{AreRooms};
 ghost use Rattle.tetri_compile.specs.Sizes.{covers};
-ghost use Rattle.tetri_compile.specs.Walked.{Grows, inside, room};
+ghost use Rattle.tetri_compile.specs.Walked.{Grows, room};
 
 use crate::outline::{Inequality, Outline, Share, Tally};
 use crate::rooms::{Rooms, room_at};
@@ -96,7 +96,7 @@ fn add_part(
     requires rooms { AreRooms (space inst.now) rooms.now }
     requires there { part < length (partitions (space inst.now)) }
     ensures { OnOk result ((cs : List TallyRow) → tallies.now ≡ filter (λ c. c.part == part) cs →
-        Grows out.old out.new [] (part_supply (inside (space inst.entry.now)) (room (space inst.entry.now)) cs part
+        Grows out.old out.new [] (part_supply (room (space inst.entry.now)) cs part
         (range_with_len inst.entry.now.now inst.entry.now.window)) []) }
 {
     for slot in inst.now..inst.now + inst.window {
@@ -118,7 +118,7 @@ pub fn add_supply(
     requires partitions { ArePartitionsOf (space inst.now) (parts_of parts.now) }
     requires rooms { AreRooms (space inst.now) rooms.now }
     ensures { OnOk result (Grows out.old out.new []
-        (supply (inside (space inst.entry.now)) (room (space inst.entry.now)) out.old.tallies.items
+        (supply (room (space inst.entry.now)) out.old.tallies.items
         (range_with_len inst.entry.now.now inst.entry.now.window) (range_with_len 0 (length (partitions (space inst.entry.now))))) []) }
 {
     let lists = by_part(alloc, parts.count(), &out.tallies)?;

@@ -11,7 +11,7 @@ ghost use Rattle.tetri_compile.specs.Draft.{leaf_tallies, tallies_of};
 ghost use Rattle.tetri_compile.specs.Forms.{limit, run, share, times};
 ghost use Rattle.tetri_compile.specs.Room.{AreRooms};
 ghost use Rattle.tetri_compile.specs.Walk.{forms, leaf_form, leaf_rows, ones, rows_of, rows_under, uppers_of, width, width_of};
-ghost use Rattle.tetri_compile.specs.Walked.{AreWalked, Grows, IsReady, IsWalked, inside, next_column, room};
+ghost use Rattle.tetri_compile.specs.Walked.{AreWalked, Grows, IsReady, IsWalked, inside, next_column, usable};
 
 use crate::outline::{Inequality, Outline, Share, Tally};
 use crate::rooms::{Rooms, room_at};
@@ -68,7 +68,7 @@ fn add_counts(
     requires ready { IsReady (space inst.now) (parts_of parts.now) leaf.now }
     requires fits { next_column out.old + length (parts_found (parts_of parts.now) leaf.now.set) < 2 ^ 32 }
     ensures { OnOk result (Grows out.old out.new
-        (map (λ p. min leaf.now.k (room (space inst.entry.now) p leaf.now.start)) (parts_found (parts_of parts.now) leaf.now.set)) []
+        (map (λ p. min leaf.now.k (usable (space inst.entry.now) p leaf.now)) (parts_found (parts_of parts.now) leaf.now.set)) []
         (leaf_tallies job leaf.now (parts_found (parts_of parts.now) leaf.now.set) (next_column out.old))) }
 {
     for part in parts.parts_in(leaf.set) {
@@ -104,7 +104,7 @@ fn walk_leaf(
     requires fits { next_column out.old + length (parts_found (parts_of parts.now) leaf.now.set) < 2 ^ 32 }
     ensures form { IfOk result (λ f. f.items ≡ leaf_form (inside (space inst.entry.now)) leaf.now indicator (next_column out.old)) }
     ensures grows { OnOk result (Grows out.old out.new
-        (map (λ p. min leaf.now.k (room (space inst.entry.now) p leaf.now.start)) (inside (space inst.entry.now) leaf.now.set))
+        (map (λ p. min leaf.now.k (usable (space inst.entry.now) p leaf.now)) (inside (space inst.entry.now) leaf.now.set))
         (leaf_rows (inside (space inst.entry.now)) leaf.now indicator (next_column out.old))
         (leaf_tallies job leaf.now (inside (space inst.entry.now) leaf.now.set) (next_column out.old))) }
 {
@@ -159,14 +159,14 @@ fn walk_marked(
     requires rooms { AreRooms (space inst.now) rooms.now }
     requires kids_sound { AreSound (trees kids.now) }
     requires ready { EachLeafOf (IsReady (space inst.now) (parts_of parts.now)) (trees kids.now) }
-    requires fits { next_column out.old + length (ones (trees kids.now) ++ uppers_of (inside (space inst.now)) (room (space inst.now)) (trees kids.now)) < 2 ^ 31 }
-    ensures form { IfOk result (λ f. f.items ≡ forms (inside (space inst.entry.now)) (room (space inst.entry.now)) (trees kids.now)
+    requires fits { next_column out.old + length (ones (trees kids.now) ++ uppers_of (inside (space inst.now)) (usable (space inst.now)) (trees kids.now)) < 2 ^ 31 }
+    ensures form { IfOk result (λ f. f.items ≡ forms (inside (space inst.entry.now)) (usable (space inst.entry.now)) (trees kids.now)
         (next_column out.old) (next_column out.old + length (ones (trees kids.now)))) }
     ensures grows { OnOk result (Grows out.old out.new
-        (ones (trees kids.now) ++ uppers_of (inside (space inst.entry.now)) (room (space inst.entry.now)) (trees kids.now))
+        (ones (trees kids.now) ++ uppers_of (inside (space inst.entry.now)) (usable (space inst.entry.now)) (trees kids.now))
         (limit (run 1 (next_column out.old) (ones (trees kids.now))) (share indicator most ∷ [])
-        ∷ rows_of (inside (space inst.entry.now)) (room (space inst.entry.now)) (trees kids.now) (next_column out.old) (next_column out.old + length (ones (trees kids.now))))
-        (tallies_of (inside (space inst.entry.now)) (room (space inst.entry.now)) job (trees kids.now) (next_column out.old + length (ones (trees kids.now))))) }
+        ∷ rows_of (inside (space inst.entry.now)) (usable (space inst.entry.now)) (trees kids.now) (next_column out.old) (next_column out.old + length (ones (trees kids.now))))
+        (tallies_of (inside (space inst.entry.now)) (usable (space inst.entry.now)) job (trees kids.now) (next_column out.old + length (ones (trees kids.now))))) }
 {
     let first = out.uppers.len() as u32;
     add_marks(kids.len(), out)?;
@@ -196,7 +196,7 @@ fn walk_each(
     requires rooms { AreRooms (space inst.now) rooms.now }
     requires kids_sound { AreSound (trees kids.now) }
     requires ready { EachLeafOf (IsReady (space inst.now) (parts_of parts.now)) (trees kids.now) }
-    requires fits { next_column out.old + width_of (inside (space inst.now)) (room (space inst.now)) (trees kids.now) < 2 ^ 31 }
+    requires fits { next_column out.old + width_of (inside (space inst.now)) (usable (space inst.now)) (trees kids.now) < 2 ^ 31 }
     requires marks { first + length kids.now < 2 ^ 32 }
     ensures { IfOk result (λ f. AreWalked (space inst.entry.now) job (trees kids.now) first out.old out.new f.items) }
 {
@@ -236,12 +236,12 @@ fn walk_under(
     requires rooms { AreRooms (space inst.now) rooms.now }
     requires kids_sound { AreSound (trees kids.now) }
     requires ready { EachLeafOf (IsReady (space inst.now) (parts_of parts.now)) (trees kids.now) }
-    requires fits { next_column out.old + 1 + width_of (inside (space inst.now)) (room (space inst.now)) (trees kids.now) < 2 ^ 31 }
+    requires fits { next_column out.old + 1 + width_of (inside (space inst.now)) (usable (space inst.now)) (trees kids.now) < 2 ^ 31 }
     ensures form { IfOk result (λ f. f.items ≡ (if best == 0 then [] else (share (next_column out.old) 1 ∷ []))) }
     ensures grows { OnOk result (Grows out.old out.new
-        (best ∷ uppers_of (inside (space inst.entry.now)) (room (space inst.entry.now)) (trees kids.now))
-        (rows_under (inside (space inst.entry.now)) (room (space inst.entry.now)) (trees kids.now) indicator (next_column out.old) (next_column out.old + 1))
-        (tallies_of (inside (space inst.entry.now)) (room (space inst.entry.now)) job (trees kids.now) (next_column out.old + 1))) }
+        (best ∷ uppers_of (inside (space inst.entry.now)) (usable (space inst.entry.now)) (trees kids.now))
+        (rows_under (inside (space inst.entry.now)) (usable (space inst.entry.now)) (trees kids.now) indicator (next_column out.old) (next_column out.old + 1))
+        (tallies_of (inside (space inst.entry.now)) (usable (space inst.entry.now)) job (trees kids.now) (next_column out.old + 1))) }
 {
     let column = out.uppers.len() as u32;
     out.uppers.push(best)?;
@@ -277,7 +277,7 @@ pub fn walk(
     requires rooms { AreRooms (space inst.now) rooms.now }
     requires tree_sound { IsSound (tree e.now) }
     requires ready { EachLeaf (IsReady (space inst.now) (parts_of parts.now)) (tree e.now) }
-    requires fits { next_column out.old + width (inside (space inst.now)) (room (space inst.now)) (tree e.now) < 2 ^ 31 }
+    requires fits { next_column out.old + width (inside (space inst.now)) (usable (space inst.now)) (tree e.now) < 2 ^ 31 }
     ensures { IfOk result (λ f. IsWalked (space inst.entry.now) job (tree e.now) indicator out.old out.new f.items) }
 {
     match e {

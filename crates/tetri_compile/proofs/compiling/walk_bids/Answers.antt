@@ -11,7 +11,7 @@ use Rattle.tetri_compile.specs.declared.outline.Outline.{Outline}
 use Rattle.tetri_compile.specs.declared.outline.Share.{Share}
 use Rattle.tetri_compile.specs.Draft.{bid_uppers}
 use Rattle.tetri_compile.specs.Walk.{uppers}
-use Rattle.tetri_compile.specs.Walked.{IsReady, IsWalked, inside, next_column, room}
+use Rattle.tetri_compile.specs.Walked.{IsReady, IsWalked, inside, next_column, usable}
 use Rattle.tetri_compile.proofs.WalkedLemmas.{bid_next}
 use Rattle.tetri_compile.proofs.compiling.walk_bids.Goals as goal
 
@@ -35,9 +35,9 @@ walk-requires-clause-fits c =
     let e = tree c.offer-item.result.expr in
     let rest : List Bid = drop (i + 1) (map bid os) in
     let cut = next_bid os i c.offer-item.result c.loop-offer-test.true c.offer-item.is in
-    let size = ap (λ (bs : List Bid). length (bid_uppers (inside s) (room s) bs)) cut in
+    let size = ap (λ (bs : List Bid). length (bid_uppers (inside s) (usable s) bs)) cut in
     let put = ap (λ (us : List ℕ). length us) c.in_ok-push.ensures.items ∙ length-append c.loop-offer.out.uppers.items (1 ∷ []) in
-    omega (arith, c.loop-offer.invariant.fits, size, put, length-append (uppers (inside s) (room s) e) (bid_uppers (inside s) (room s) rest))
+    omega (arith, c.loop-offer.invariant.fits, size, put, length-append (uppers (inside s) (usable s) e) (bid_uppers (inside s) (usable s) rest))
 
 pub loop-offer-preserved : goal.loop-offer-preserved
 loop-offer-preserved c =

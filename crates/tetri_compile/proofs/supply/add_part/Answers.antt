@@ -3,7 +3,7 @@ use Rattle.std.proofs.lemmas.List.{append-nil}
 use Rattle.tetri_space.specs.Space.{space}
 use Rattle.tetri_compile.specs.Draft.{part_supply}
 use Rattle.tetri_compile.specs.Forms.{plain_limit}
-use Rattle.tetri_compile.specs.Walked.{inside, room}
+use Rattle.tetri_compile.specs.Walked.{room}
 use Rattle.tetri_compile.proofs.ProgramLemmas.{part_next, range_over}
 use Rattle.tetri_compile.proofs.supply.add_part.Goals as goal
 
@@ -14,7 +14,7 @@ loop-slot-preserved c = λ cs e.
     let g = c.in_ok-add_slot.ensures cs e in
     record {
       uppers = g.uppers ∙ append-nil c.loop-slot.out.uppers.items ∙ h.uppers;
-      rows = part_next (inside s) (room s) cs c.args.part c.args.out.now c.loop-slot.out c.add_slot.new.out c.loop-slot.slot (s.now + s.window) _ c.loop-slot-test.true g h.rows;
+      rows = part_next (room s) cs c.args.part c.args.out.now c.loop-slot.out c.add_slot.new.out c.loop-slot.slot (s.now + s.window) _ c.loop-slot-test.true g h.rows;
       tallies = g.tallies ∙ append-nil c.loop-slot.out.tallies.items ∙ h.tallies;
     }
 
@@ -26,6 +26,6 @@ returns c = λ cs e.
     record {
       uppers = h.uppers ∙ sym (append-nil c.args.out.now.uppers.items);
       rows = sym (append-nil (map plain_limit c.loop-slot.out.rows.items))
-          ∙ ap (λ ts. map plain_limit c.loop-slot.out.rows.items ++ part_supply (inside s) (room s) cs c.args.part ts) (sym over) ∙ h.rows;
+          ∙ ap (λ ts. map plain_limit c.loop-slot.out.rows.items ++ part_supply (room s) cs c.args.part ts) (sym over) ∙ h.rows;
       tallies = h.tallies ∙ sym (append-nil c.args.out.now.tallies.items);
     }

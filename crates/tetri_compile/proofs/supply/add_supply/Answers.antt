@@ -4,7 +4,7 @@ use Rattle.std.proofs.lemmas.List.{append-nil}
 use Rattle.tetri_space.specs.Partitions.{partitions}
 use Rattle.tetri_space.specs.Space.{space}
 use Rattle.tetri_compile.specs.declared.outline.Tally.{Tally}
-use Rattle.tetri_compile.specs.Walked.{inside, room}
+use Rattle.tetri_compile.specs.Walked.{room}
 use Rattle.tetri_compile.proofs.ByPartLemmas.{list_is}
 use Rattle.tetri_compile.proofs.ProgramLemmas.{supply_next}
 use Rattle.tetri_compile.proofs.supply.add_supply.Goals as goal
@@ -24,6 +24,6 @@ loop-part-preserved c =
     let g = c.in_ok-add_part.ensures cs mine in
     record {
       uppers = g.uppers ∙ append-nil c.loop-part.out.uppers.items ∙ h.uppers;
-      rows = supply_next (inside s) (room s) cs (range_with_len s.now s.window) c.args.out.now c.loop-part.out c.add_part.new.out p m _ lt g h.rows;
+      rows = supply_next (room s) cs (range_with_len s.now s.window) c.args.out.now c.loop-part.out c.add_part.new.out p m _ lt g h.rows;
       tallies = g.tallies ∙ append-nil c.loop-part.out.tallies.items ∙ h.tallies;
     }

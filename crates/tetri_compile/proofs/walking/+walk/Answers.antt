@@ -17,7 +17,7 @@ use Rattle.tetri_compile.specs.declared.outline.Outline.{Outline}
 use Rattle.tetri_compile.specs.declared.outline.Share.{Share}
 use Rattle.tetri_compile.specs.Forms.{Form, limit, run, share, plain_limit}
 use Rattle.tetri_compile.specs.Walk.{best, ones, uppers_of, form, forms, rows}
-use Rattle.tetri_compile.specs.Walked.{Grows, IsReady, IsWalked, inside, next_column, room}
+use Rattle.tetri_compile.specs.Walked.{Grows, IsReady, IsWalked, inside, next_column, usable}
 use Rattle.tetri_compile.proofs.FormSizes.{form_small}
 use Rattle.tetri_compile.proofs.KidLemmas.{kids_next}
 use Rattle.tetri_compile.proofs.OutlineLemmas.{ones_are, ones_long, rows_pushed, sides_are, top_is_best}
@@ -33,10 +33,10 @@ walk-times_of-requires t c =
     let sound : IsSound (scale kid by) = subst IsSound same c.requires.tree_sound in
     let made = c.in_ok-form-in-Scale.ensures in
     let n = next_column c.args.out.now in
-    let small : Each (λ (p : Share). p.by ≤ peak kid) (form (inside s) (room s) kid c.args.indicator n) = form_small (inside s) (room s) kid sound.0 c.args.indicator n in
+    let small : Each (λ (p : Share). p.by ≤ peak kid) (form (inside s) (usable s) kid c.args.indicator n) = form_small (inside s) (usable s) kid sound.0 c.args.indicator n in
     subst (λ (f : Form). Each (λ (p : Share). by * p.by < 2 ^ 64) f) (sym made.form)
     (Each-map (λ (p : Share). p.by ≤ peak kid) (λ (p : Share). by * p.by < 2 ^ 64) (λ p le. omega (arith, mul-le-mul_left by le, sound.2))
-    (form (inside s) (room s) kid c.args.indicator n) small)
+    (form (inside s) (usable s) kid c.args.indicator n) small)
 
 pub walk-returns-in_ok-form-in-Min : goal.walk-returns-in_ok-form-in-Min
 walk-returns-in_ok-form-in-Min t c =
@@ -79,9 +79,9 @@ walk-returns-in_ok-form-in-Barrier-2 t c =
     let g = made.grows in
     let most : c.in_ok-one_share-in-Barrier.field-0.items ≡ share i v ∷ [] = c.in_ok-one_share-in-Barrier.ensures in
     let row : Inequality = record { most = c.in_ok-one_share-in-Barrier.field-0; under = c.in_ok-form-in-Barrier.form; plus = 0 } in
-    let said : plain_limit row ≡ limit (share i v ∷ []) (form (inside s) (room s) kid i n) = sides_are row (share i v ∷ []) (form (inside s) (room s) kid i n) most made.form refl in
-    let rs : map plain_limit c.push.new.self.items ≡ map plain_limit c.args.out.now.rows.items ++ rows (inside s) (room s) (barrier kid v) i n =
-    rows_pushed c.args.out.now.rows.items c.walk-in-Barrier.new.out.rows.items c.push.new.self.items (rows (inside s) (room s) kid i n) row (limit (share i v ∷ []) (form (inside s) (room s) kid i n)) g.rows
+    let said : plain_limit row ≡ limit (share i v ∷ []) (form (inside s) (usable s) kid i n) = sides_are row (share i v ∷ []) (form (inside s) (usable s) kid i n) most made.form refl in
+    let rs : map plain_limit c.push.new.self.items ≡ map plain_limit c.args.out.now.rows.items ++ rows (inside s) (usable s) (barrier kid v) i n =
+    rows_pushed c.args.out.now.rows.items c.walk-in-Barrier.new.out.rows.items c.push.new.self.items (rows (inside s) (usable s) kid i n) row (limit (share i v ∷ []) (form (inside s) (usable s) kid i n)) g.rows
     c.in_ok-push-in-Barrier.ensures.items said in
     let new : Outline = record { uppers = c.walk-in-Barrier.new.out.uppers; rows = c.push.new.self; tallies = c.walk-in-Barrier.new.out.tallies } in
     let all : IsWalked s c.args.job (barrier kid v) i c.args.out.now new c.in_ok-form-in-Barrier-2.form.items = record {
@@ -121,7 +121,7 @@ walk_marked-returns-clause-form t c =
     let first : c.len-first.result ≡ n = omega (arith, c.len-first.ensures, c.args.out.now.uppers.ok.0) in
     let marks = c.in_ok-add_marks.ensures in
     let more : next_column c.add_marks.new.out ≡ n + length (ones ts) = ap length (marks.uppers ∙ ap (λ (us : List ℕ). c.args.out.now.uppers.items ++ us) (sym (ones_are c.args.kids.now))) ∙ length-append c.args.out.now.uppers.items (ones ts) in
-    c.in_ok-form.ensures.form ∙ ap (λ j. forms (inside s) (room s) ts j (next_column c.add_marks.new.out)) first ∙ ap (λ m. forms (inside s) (room s) ts n m) more
+    c.in_ok-form.ensures.form ∙ ap (λ j. forms (inside s) (usable s) ts j (next_column c.add_marks.new.out)) first ∙ ap (λ m. forms (inside s) (usable s) ts n m) more
 
 pub walk_marked-returns-clause-grows : goal.walk_marked-returns-clause-grows
 walk_marked-returns-clause-grows t c =
@@ -148,14 +148,14 @@ pub walk_marked-run_of-requires : goal.walk_marked-run_of-requires
 walk_marked-run_of-requires t c =
     let s = space c.args.inst.now in
     let ts = trees c.args.kids.now in
-    let long = length-append (ones ts) (uppers_of (inside s) (room s) ts) in
+    let long = length-append (ones ts) (uppers_of (inside s) (usable s) ts) in
     omega (arith, c.len-first.ensures, c.args.out.now.uppers.ok.0, c.requires.fits, long, ones_long c.args.kids.now)
 
 pub walk_marked-walk_each-requires : goal.walk_marked-walk_each-requires
 walk_marked-walk_each-requires t c =
     let s = space c.args.inst.now in
     let ts = trees c.args.kids.now in
-    let long = length-append (ones ts) (uppers_of (inside s) (room s) ts) in
+    let long = length-append (ones ts) (uppers_of (inside s) (usable s) ts) in
     let marks = c.in_ok-add_marks.ensures in
     let more : next_column c.add_marks.new.out ≡ next_column c.args.out.now + length (ones ts) = ap length (marks.uppers ∙ ap (λ (us : List ℕ). c.args.out.now.uppers.items ++ us) (sym (ones_are c.args.kids.now))) ∙ length-append c.args.out.now.uppers.items (ones ts) in (
       search rules,

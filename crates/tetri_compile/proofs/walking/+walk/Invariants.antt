@@ -7,33 +7,33 @@ use Rattle.tetri_space.specs.Space.{space}
 use Rattle.tetri_compile.specs.Draft.{tallies_of}
 use Rattle.tetri_compile.specs.Forms.{plain_limit}
 use Rattle.tetri_compile.specs.Walk.{forms, rows_of, rows_under, uppers_of, width_of}
-use Rattle.tetri_compile.specs.Walked.{IsReady, inside, next_column, room}
+use Rattle.tetri_compile.specs.Walked.{IsReady, inside, next_column, usable}
 use Rattle.tetri_compile.proofs.walking.+walk.Given as goal
 
 abbrev pub invariant-walk_each-loop-place : goal.invariant-walk_each-loop-place
 invariant-walk_each-loop-place l = record {
   sound : AreSound (trees (drop l.place l.kids));
   ready : EachLeafOf (IsReady (space l.inst) (parts_of l.parts)) (trees (drop l.place l.kids));
-  fits : next_column l.out + width_of (inside (space l.inst)) (room (space l.inst)) (trees (drop l.place l.kids)) < 2 ^ 31;
-  form : l.form.items ++ forms (inside (space l.inst)) (room (space l.inst)) (trees (drop l.place l.kids)) (l.first + l.place) (next_column l.out)
-      ≡ forms (inside (space l.inst)) (room (space l.inst)) (trees l.kids) l.first (next_column l.fn.out);
-  uppers : l.out.uppers.items ++ uppers_of (inside (space l.inst)) (room (space l.inst)) (trees (drop l.place l.kids))
-      ≡ l.fn.out.uppers.items ++ uppers_of (inside (space l.inst)) (room (space l.inst)) (trees l.kids);
-  rows : map plain_limit l.out.rows.items ++ rows_of (inside (space l.inst)) (room (space l.inst)) (trees (drop l.place l.kids)) (l.first + l.place) (next_column l.out)
-      ≡ map plain_limit l.fn.out.rows.items ++ rows_of (inside (space l.inst)) (room (space l.inst)) (trees l.kids) l.first (next_column l.fn.out);
-  tallies : l.out.tallies.items ++ tallies_of (inside (space l.inst)) (room (space l.inst)) l.job (trees (drop l.place l.kids)) (next_column l.out)
-      ≡ l.fn.out.tallies.items ++ tallies_of (inside (space l.inst)) (room (space l.inst)) l.job (trees l.kids) (next_column l.fn.out);
+  fits : next_column l.out + width_of (inside (space l.inst)) (usable (space l.inst)) (trees (drop l.place l.kids)) < 2 ^ 31;
+  form : l.form.items ++ forms (inside (space l.inst)) (usable (space l.inst)) (trees (drop l.place l.kids)) (l.first + l.place) (next_column l.out)
+      ≡ forms (inside (space l.inst)) (usable (space l.inst)) (trees l.kids) l.first (next_column l.fn.out);
+  uppers : l.out.uppers.items ++ uppers_of (inside (space l.inst)) (usable (space l.inst)) (trees (drop l.place l.kids))
+      ≡ l.fn.out.uppers.items ++ uppers_of (inside (space l.inst)) (usable (space l.inst)) (trees l.kids);
+  rows : map plain_limit l.out.rows.items ++ rows_of (inside (space l.inst)) (usable (space l.inst)) (trees (drop l.place l.kids)) (l.first + l.place) (next_column l.out)
+      ≡ map plain_limit l.fn.out.rows.items ++ rows_of (inside (space l.inst)) (usable (space l.inst)) (trees l.kids) l.first (next_column l.fn.out);
+  tallies : l.out.tallies.items ++ tallies_of (inside (space l.inst)) (usable (space l.inst)) l.job (trees (drop l.place l.kids)) (next_column l.out)
+      ≡ l.fn.out.tallies.items ++ tallies_of (inside (space l.inst)) (usable (space l.inst)) l.job (trees l.kids) (next_column l.fn.out);
 }
 
 abbrev pub invariant-walk_under-loop-kid : goal.invariant-walk_under-loop-kid
 invariant-walk_under-loop-kid l = record {
   sound : AreSound (trees (drop l.kid-index l.kids));
   ready : EachLeafOf (IsReady (space l.inst) (parts_of l.parts)) (trees (drop l.kid-index l.kids));
-  fits : next_column l.out + width_of (inside (space l.inst)) (room (space l.inst)) (trees (drop l.kid-index l.kids)) < 2 ^ 31;
-  uppers : l.out.uppers.items ++ uppers_of (inside (space l.inst)) (room (space l.inst)) (trees (drop l.kid-index l.kids))
-      ≡ l.fn.out.uppers.items ++ (l.best ∷ uppers_of (inside (space l.inst)) (room (space l.inst)) (trees l.kids));
-  rows : map plain_limit l.out.rows.items ++ rows_under (inside (space l.inst)) (room (space l.inst)) (trees (drop l.kid-index l.kids)) l.indicator l.column (next_column l.out)
-      ≡ map plain_limit l.fn.out.rows.items ++ rows_under (inside (space l.inst)) (room (space l.inst)) (trees l.kids) l.indicator l.column (next_column l.fn.out + 1);
-  tallies : l.out.tallies.items ++ tallies_of (inside (space l.inst)) (room (space l.inst)) l.job (trees (drop l.kid-index l.kids)) (next_column l.out)
-      ≡ l.fn.out.tallies.items ++ tallies_of (inside (space l.inst)) (room (space l.inst)) l.job (trees l.kids) (next_column l.fn.out + 1);
+  fits : next_column l.out + width_of (inside (space l.inst)) (usable (space l.inst)) (trees (drop l.kid-index l.kids)) < 2 ^ 31;
+  uppers : l.out.uppers.items ++ uppers_of (inside (space l.inst)) (usable (space l.inst)) (trees (drop l.kid-index l.kids))
+      ≡ l.fn.out.uppers.items ++ (l.best ∷ uppers_of (inside (space l.inst)) (usable (space l.inst)) (trees l.kids));
+  rows : map plain_limit l.out.rows.items ++ rows_under (inside (space l.inst)) (usable (space l.inst)) (trees (drop l.kid-index l.kids)) l.indicator l.column (next_column l.out)
+      ≡ map plain_limit l.fn.out.rows.items ++ rows_under (inside (space l.inst)) (usable (space l.inst)) (trees l.kids) l.indicator l.column (next_column l.fn.out + 1);
+  tallies : l.out.tallies.items ++ tallies_of (inside (space l.inst)) (usable (space l.inst)) l.job (trees (drop l.kid-index l.kids)) (next_column l.out)
+      ≡ l.fn.out.tallies.items ++ tallies_of (inside (space l.inst)) (usable (space l.inst)) l.job (trees l.kids) (next_column l.fn.out + 1);
 }

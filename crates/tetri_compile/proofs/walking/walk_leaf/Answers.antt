@@ -3,7 +3,7 @@ use Rattle.tetri_space.specs.Space.{space}
 use Rattle.tetri_compile.specs.declared.outline.Inequality.{Inequality}
 use Rattle.tetri_compile.specs.Draft.{leaf_tallies}
 use Rattle.tetri_compile.specs.Forms.{Form, limit, run, share, plain_limit}
-use Rattle.tetri_compile.specs.Walked.{inside, next_column, room}
+use Rattle.tetri_compile.specs.Walked.{inside, next_column, usable}
 use Rattle.tetri_compile.proofs.OutlineLemmas.{rows_pushed, sides_are}
 use Rattle.tetri_compile.proofs.walking.walk_leaf.Goals as goal
 
@@ -22,7 +22,7 @@ returns-then-leaf-clause-grows c =
     let row : Inequality = record { most = c.in_ok-run_of.field-0; under = c.in_ok-one_share.field-0; plus = 0 } in
     let said : plain_limit row ≡ limit (run 1 n ps) (share c.args.indicator l.k ∷ []) = sides_are row (run 1 n ps) (share c.args.indicator l.k ∷ []) most under refl in
     record {
-      uppers = g.uppers ∙ ap (λ (qs : List ℕ). c.args.out.now.uppers.items ++ map (λ p. min l.k (room s p l.start)) qs) same;
+      uppers = g.uppers ∙ ap (λ (qs : List ℕ). c.args.out.now.uppers.items ++ map (λ p. min l.k (usable s p l)) qs) same;
       rows =
           rows_pushed c.args.out.now.rows.items c.add_counts.new.out.rows.items c.push.new.self.items [] row _ g.rows c.in_ok-push.ensures.items said
           ∙ ap (λ (b : Bool). map plain_limit c.args.out.now.rows.items ++ (limit (run 1 n ps) (share c.args.indicator l.k ∷ [])
@@ -51,7 +51,7 @@ returns-clause-grows c =
     let one = rows_pushed c.args.out.now.rows.items c.add_counts.new.out.rows.items c.push.new.self.items [] row (limit counts wanted) g.rows c.in_ok-push.ensures.items
     (sides_are row counts wanted most under refl) in
     record {
-      uppers = g.uppers ∙ ap (λ (qs : List ℕ). c.args.out.now.uppers.items ++ map (λ p. min l.k (room s p l.start)) qs) same;
+      uppers = g.uppers ∙ ap (λ (qs : List ℕ). c.args.out.now.uppers.items ++ map (λ p. min l.k (usable s p l)) qs) same;
       rows =
           rows_pushed c.args.out.now.rows.items c.push.new.self.items c.push-2.new.self.items (limit counts wanted ∷ []) row-2 (limit wanted counts) one c.in_ok-push-2.ensures.items
           (sides_are row-2 wanted counts most-2 under-2 refl)
