@@ -14,7 +14,7 @@ use Rattle.tetri_ip.specs.declared.programs.Row.{Row}
 use Rattle.tetri_ip.specs.declared.programs.Term.{Term}
 use Rattle.tetri_ip.specs.Points.{IsFit, IsFitRow, IsWithin, cost_reach, number_at, reach, right_of, size_at, terms_of}
 use Rattle.tetri_ip.proofs.Steps.{right_of_at, terms_of_at}
-use Rattle.tetri_simplex_bench.specs.Small.{AreSmall, IsSmallRow}
+use Rattle.tetri_simplex_bench.specs.Small.{AreSmall, AreUpper, IsSmallRow}
 
 -- one step further by a gap
 pub gap_between : (a b gap : ℕ) → a < b → a * gap + gap ≤ b * gap
@@ -35,13 +35,10 @@ number : (n : ℕ) (z : ℤ) (xs : List ℤ) (k : ℕ) → xs ≡ replicate n z 
 number n z xs k is lt = ap (λ ys. number_at ys k) is ∙ get_or-replicate n k z (pos 0) lt
 
 -- ---- from 0 to 200
-abbrev pub AreUpper : List ℤ → Type 0
-AreUpper xs = All (λ z. (pos 0 ≤ℤ z) × (z ≤ℤ pos 200)) xs
-
 pub ones : (n : ℕ) (xs : List ℤ) → xs ≡ replicate n (pos 1) → AreUpper xs
-ones n xs is k d lt =
+ones n xs is k lt =
     let l : k < n = omega (arith, lt, ap length is, length-replicate n (pos 1)) in
-    subst (λ z. (pos 0 ≤ℤ z) × (z ≤ℤ pos 200)) (sym (ap (λ ys. get_or ys k d) is ∙ get_or-replicate n k (pos 1) d l)) (omega (arith, ints), omega (arith, ints))
+    subst (λ z. (pos 0 ≤ℤ z) × (z ≤ℤ pos 200)) (sym (number n (pos 1) xs k is l)) (omega (arith, ints), omega (arith, ints))
 
 zero_size : (n j : ℕ) (xs : List ℤ) → xs ≡ replicate n (pos 0) → unsigned_abs (number_at xs j) ≤ 200
 zero_size n j xs is = elim (cases_lt j n) [
@@ -53,7 +50,7 @@ zero_size n j xs is = elim (cases_lt j n) [
 
 upper_size : (j : ℕ) (xs : List ℤ) → AreUpper xs → unsigned_abs (number_at xs j) ≤ 200
 upper_size j xs are = elim (cases_lt j (length xs)) [
-  | inl lt ↦ let h = are j (pos 0) lt in sized (number_at xs j) h.0 h.1
+  | inl lt ↦ let h = are j lt in sized (number_at xs j) h.0 h.1
   | inr past ↦ subst (λ y. unsigned_abs y ≤ 200) (sym (get_or_past xs j (pos 0) past)) (omega arith)
 ]
   where
@@ -121,7 +118,7 @@ module _ (p : Program) (columns : ℕ) (small : columns ≤ 4096) (cost_count : 
       low k lt = number columns (pos 0) p.lower.items k lower lt
 
       high : (k : ℕ) → k < columns → (pos 0 ≤ℤ number_at p.upper.items k) × (number_at p.upper.items k ≤ℤ pos 200)
-      high k lt = upper k (pos 0) (omega (arith, lt, upper_count))
+      high k lt = upper k (omega (arith, lt, upper_count))
 
       width : (z : ℤ) → pos 0 ≤ℤ z → z ≤ℤ pos 200 → IsWithin (z -ℤ pos 0)
       width z h k = omega (arith, ints)

@@ -1,9 +1,9 @@
-//! Programs from a text of numbers: columns and rows; cost and upper bound of each column; of each
-//! row its right side, how many terms it has, and their columns and coefficients.
+//! Programs from a text of numbers: columns and rows; the costs of the columns; their upper bounds; of
+//! each row its right side, how many terms it has, and their columns and coefficients.
 
-ghost use Rattle.std.specs.Prelude.{◌≡◌, ◌<◌, ◌≤◌, All, IfOk, length, pos, replicate, unsigned_abs, ◌≤ℤ◌};
+ghost use Rattle.std.specs.Prelude.{◌≡◌, ◌≤◌, IfOk, length, pos, unsigned_abs, ◌≤ℤ◌};
 ghost use Rattle.tetri_ip.specs.Points.{IsFit};
-ghost use Rattle.tetri_simplex_bench.specs.Small.{AreSmall, IsSmallRow};
+ghost use Rattle.tetri_simplex_bench.specs.Small.{AreSmall, AreUpper, IsSmallRow};
 
 use crate::made::copies;
 use std::alloc::{AllocError, Global};
@@ -47,6 +47,14 @@ fn small(number: i128) -> i128
     number.max(-200).min(200)
 }
 
+// The number, or the nearest one from 0 to 200.
+fn not_below(number: i128) -> i128
+    ensures above { pos 0 ≤ℤ result }
+    ensures below { result ≤ℤ pos 200 }
+{
+    number.max(0).min(200)
+}
+
 // The number, or the nearest one from 0 to the most.
 fn up_to(number: i128, most: u32) -> u32
     ensures { result ≤ most }
@@ -60,24 +68,27 @@ fn up_to(number: i128, most: u32) -> u32
     }
 }
 
-// Costs, or upper bounds, which are at least 0: every second number from the first or the second on.
-fn pairs(
-    alloc: Global,
-    numbers: &mut Numbers,
-    columns: u32,
-) -> Result<(Vec<i128>, Vec<i128>), AllocError>
-    ensures cost_count { IfOk result (λ x. length x.0.items ≡ columns) }
-    ensures costs { IfOk result (λ x. AreSmall x.0.items) }
-    ensures upper_count { IfOk result (λ x. length x.1.items ≡ columns) }
-    ensures upper { IfOk result (λ x. All (λ z. (pos 0 ≤ℤ z) × (z ≤ℤ pos 200)) x.1.items) }
+fn costs(alloc: Global, numbers: &mut Numbers, columns: u32) -> Result<Vec<i128>, AllocError>
+    ensures count { IfOk result (λ v. length v.items ≡ columns) }
+    ensures small { IfOk result (λ v. AreSmall v.items) }
 {
     let mut costs = Vec::new(alloc);
-    let mut upper = Vec::new(alloc);
     for _ in 0..columns {
         costs.push(small(numbers.next()))?;
-        upper.push(i128::from(up_to(numbers.next(), 200)))?;
     }
-    Ok((costs, upper))
+    Ok(costs)
+}
+
+// Upper bounds, which are at least 0.
+fn upper_bounds(alloc: Global, numbers: &mut Numbers, columns: u32) -> Result<Vec<i128>, AllocError>
+    ensures count { IfOk result (λ v. length v.items ≡ columns) }
+    ensures upper { IfOk result (λ v. AreUpper v.items) }
+{
+    let mut upper = Vec::new(alloc);
+    for _ in 0..columns {
+        upper.push(not_below(numbers.next()))?;
+    }
+    Ok(upper)
 }
 
 // A row. Terms out of order, and those of no column, are left out.
@@ -91,10 +102,14 @@ fn row(alloc: Global, numbers: &mut Numbers, columns: u32) -> Result<Row, AllocE
     for _ in 0..count {
         let column = up_to(numbers.next(), columns);
         let by = small(numbers.next());
-        if least <= column && column < columns {
-            terms.push(Term { column, by })?;
-            least = column + 1;
+        if column < least {
+            continue;
         }
+        if column == columns {
+            continue;
+        }
+        terms.push(Term { column, by })?;
+        least = column + 1;
     }
     Ok(Row { terms, right })
 }
@@ -106,7 +121,8 @@ pub fn program(alloc: Global, numbers: &mut Numbers) -> Result<Program, AllocErr
 {
     let columns = up_to(numbers.next(), 4096);
     let count = up_to(numbers.next(), 8192);
-    let (costs, upper) = pairs(alloc, numbers, columns)?;
+    let costs = costs(alloc, numbers, columns)?;
+    let upper = upper_bounds(alloc, numbers, columns)?;
     let mut rows = Vec::new(alloc);
     for _ in 0..count {
         rows.push(row(alloc, numbers, columns)?)?;

@@ -64,14 +64,14 @@ fn square(side: u32, kinds: u32) -> Program {
     Program { upper: vec![1; costs.len()], costs, rows: along.chain(across).collect() }
 }
 
-/// The numbers of a file: columns and rows; cost and upper bound of each column; of each row its right
-/// side, how many terms it has, and their columns and coefficients.
+/// The numbers of a file: columns and rows; the costs; the upper bounds; of each row its right side, how many terms it has, and their columns and coefficients.
 fn read(path: &str) -> Program {
     let text = std::fs::read_to_string(path).expect("a file to read");
     let mut numbers = text.split_whitespace().map(|word| word.parse::<i128>().expect("a number"));
     let mut next = || numbers.next().expect("a number more");
     let (columns, rows) = (next(), next());
-    let (costs, upper) = (0..columns).map(|_| (next(), next())).unzip();
+    let costs = (0..columns).map(|_| next()).collect();
+    let upper = (0..columns).map(|_| next()).collect();
     let mut row = || {
         let (right, terms) = (next(), next());
         Row { right, terms: (0..terms).map(|_| Term { column: next() as usize, by: next() }).collect() }

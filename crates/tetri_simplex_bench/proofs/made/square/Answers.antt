@@ -1,4 +1,4 @@
-use Rattle.std.proofs.Common.{◌≡◌, ◌*◌, ◌≤◌, ap, length, ◌∙◌, arith}
+use Rattle.std.proofs.Common.{◌*◌, ap, length, ◌∙◌, arith}
 use Rattle.std.proofs.Math.Nat.{mul-le-mul}
 use Rattle.std.proofs.lemmas.List.{length-replicate}
 use lib.IntN.{pos}
