@@ -1,1 +1,2 @@
-pub mod SquareLemmas
+pub mod SmallLemmas
+pub mod ReadLemmas

@@ -7,7 +7,7 @@ ghost use Rattle.tetri_simplex_bench.specs.Small.{AreSmall, IsSmallRow};
 use std::alloc::{AllocError, Global};
 use tetri_ip::{Program, Row, Term};
 
-fn copies(alloc: Global, value: i128, count: u32) -> Result<Vec<i128>, AllocError>
+pub(crate) fn copies(alloc: Global, value: i128, count: u32) -> Result<Vec<i128>, AllocError>
     ensures { IfOk result (λ v. v.items ≡ replicate count value) }
 {
     let mut list = Vec::with_capacity(alloc, count as usize)?;

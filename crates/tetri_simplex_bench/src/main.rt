@@ -1,37 +1,61 @@
 //! Times the dual run.
 //!
-//! `tetri_simplex_bench SIDE KINDS` runs the program of a square of columns, with limits for each
-//! row and each column of the square. It writes the multiplier and the sum of the weights of the
-//! best point to standard output, and the nanoseconds of the run to standard error. Without
-//! arguments it runs a small program, and no time is written.
+//! `tetri_simplex_bench full|sparse SIDE KINDS` runs the program of a square of columns, with limits
+//! for each row and each column of the square, over full tables or over rows of entries.
+//! `tetri_simplex_bench full|sparse FILE` runs the program of a file of numbers (`read::program`). It
+//! writes the multiplier and the sum of the weights of the best point to standard output, and the
+//! nanoseconds of the run to standard error. Without arguments it runs a small program both ways,
+//! and no time is written.
 #![tactic(auto)]
 
 ghost use Rattle.std.specs.Prelude.{◌≤◌};
+ghost use Rattle.tetri_ip.specs.Points.{IsFit};
 
 mod made;
+mod read;
 
 use made::square;
+use read::{Numbers, program};
 use std::alloc::Global;
 use std::time::CpuClock;
-use std::{env, io};
-use tetri_ip::{Region, Weight};
-use tetri_simplex::{Outcome, dual_run};
+use std::{env, fs, io};
+use tetri_ip::{Program, Region, Weight};
+use tetri_simplex::{Full, Outcome, Sparse, run_on};
 
 fn main(rt: HostRuntime) -> io::Result<()> {
+    let alloc = rt.alloc();
+    let mut sparse = false;
     let mut sizes: [u32; 2] = [3, 3];
-    let mut given = false;
-    for (place, argument) in env::args(&rt)?.skip(1).enumerate() {
-        given = true;
-        match argument.as_str().parse::<u32>() {
-            Ok(size) if place < 2 => sizes[place] = size,
-            _ => eprintln!(rt; "not a size: {argument}")?,
+    let mut path = None;
+    let mut given: usize = 0;
+    for argument in env::args(&rt)?.skip(1) {
+        if given == 0 {
+            sparse = argument.as_str() == "sparse";
+        } else {
+            match argument.as_str().parse::<u32>() {
+                Ok(size) if given <= 2 => sizes[given - 1] = size,
+                _ => path = Some(argument),
+            }
         }
+        given = given.saturating_add(1);
+    }
+    if let Some(path) = path {
+        let text = fs::read_to_string(&rt, path.as_str())?;
+        let mut numbers = Numbers::of(alloc, text.as_str())?;
+        let p = program(alloc, &mut numbers)?;
+        return measure(&rt, alloc, &p, sparse, true);
     }
     let [side, kinds] = sizes;
     if 1 <= side && side <= 64 && 1 <= kinds && kinds <= 100 {
-        measure(&rt, rt.alloc(), side, kinds, given)
+        let p = square(alloc, side, kinds)?;
+        if given == 0 {
+            measure(&rt, alloc, &p, false, false)?;
+            measure(&rt, alloc, &p, true, false)
+        } else {
+            measure(&rt, alloc, &p, sparse, true)
+        }
     } else {
-        eprintln!(rt; "usage: tetri_simplex_bench SIDE KINDS")
+        eprintln!(rt; "usage: tetri_simplex_bench full|sparse SIDE KINDS, or full|sparse FILE")
     }
 }
 
@@ -60,19 +84,19 @@ fn tell(rt: &impl Print, outcome: Outcome) -> io::Result<()> {
 fn measure(
     rt: &(impl CpuClock + Print + Eprint),
     alloc: Global,
-    side: u32,
-    kinds: u32,
+    p: &Program,
+    sparse: bool,
     timed: bool,
 ) -> io::Result<()>
-    requires some { 1 ≤ side }
-    requires small { side ≤ 64 }
-    requires kinds { 1 ≤ kinds }
-    requires few_kinds { kinds ≤ 100 }
+    requires { IsFit p.now }
 {
-    let p = square(alloc, side, kinds)?;
-    let whole = Region::whole(alloc, &p)?;
+    let whole = Region::whole(alloc, p)?;
     let start = rt.thread_cpu_time()?;
-    let outcome = dual_run(alloc, &p, &whole, 0)?;
+    let outcome = if sparse {
+        run_on::<Sparse>(alloc, p, &whole, 0)?
+    } else {
+        run_on::<Full>(alloc, p, &whole, 0)?
+    };
     let end = rt.thread_cpu_time()?;
     tell(rt, outcome)?;
     if timed {

@@ -1,11 +1,18 @@
 //! The program tetri_simplex_bench in plain Rust: the same programs, rules and output.
+//!
+//! `plain full|sparse SIDE KINDS` runs a square of columns, `plain full|sparse FILE` the program of a
+//! file by bench/dual/cycle.
 
 mod frac;
+mod full;
+mod sparse;
 
 use std::cmp::Ordering;
 use std::time::Instant;
 
 use frac::{Frac, gcd};
+use full::Full;
+use sparse::Sparse;
 
 struct Term {
     column: usize,
@@ -19,7 +26,27 @@ struct Row {
 
 struct Program {
     costs: Vec<i128>,
+    upper: Vec<i128>,
     rows: Vec<Row>,
+}
+
+impl Program {
+    // What the variable of a column adds to it: -1 from its upper bound, 1 from its lower one.
+    fn direction(&self, column: usize) -> i128 {
+        if self.costs[column] > 0 { -1 } else { 1 }
+    }
+
+    fn start_of(&self, column: usize) -> i128 {
+        if self.costs[column] > 0 { self.upper[column] } else { 0 }
+    }
+
+    fn left_at_start(&self, row: &Row) -> i128 {
+        row.terms.iter().map(|t| t.by * self.start_of(t.column)).sum()
+    }
+
+    fn objective_at_start(&self) -> i128 {
+        (0..self.costs.len()).map(|j| self.costs[j] * self.start_of(j)).sum()
+    }
 }
 
 fn spread_row(base: u32, gap: u32, side: u32, kinds: u32, right: i128) -> Row {
@@ -31,40 +58,25 @@ fn spread_row(base: u32, gap: u32, side: u32, kinds: u32, right: i128) -> Row {
 
 /// Columns from 0 to 1 in a square, and a limit for each row and each column of the square.
 fn square(side: u32, kinds: u32) -> Program {
-    let costs = (0..side * side).map(|j| 1 + (j * 37 % 101) as i128).collect();
+    let costs: Vec<i128> = (0..side * side).map(|j| 1 + (j * 37 % 101) as i128).collect();
     let along = (0..side).map(|i| spread_row(i * side, 1, side, kinds, (side / 2) as i128));
     let across = (0..side).map(|j| spread_row(j, side, side, kinds, (side / 3) as i128));
-    Program { costs, rows: along.chain(across).collect() }
+    Program { upper: vec![1; costs.len()], costs, rows: along.chain(across).collect() }
 }
 
-struct Table {
-    nonbasic: Vec<usize>,
-    basic: Vec<usize>,
-    rows: Vec<Vec<Frac>>,
-}
-
-fn first_table(p: &Program) -> Table {
-    let columns = p.costs.len();
-    let mut rows = Vec::new();
-    for row in &p.rows {
-        let mut slack = vec![Frac::whole(0); columns + 1];
-        let left: i128 = row.terms.iter().map(|t| t.by).sum();
-        slack[0] = Frac::whole(row.right - left);
-        for t in &row.terms {
-            slack[t.column + 1] = Frac::whole(t.by);
-        }
-        rows.push(slack);
-    }
-    for j in 0..columns {
-        let mut slack = vec![Frac::whole(0); columns + 1];
-        slack[0] = Frac::whole(1);
-        slack[j + 1] = Frac::whole(-1);
-        rows.push(slack);
-    }
-    let mut objective = vec![Frac::whole(p.costs.iter().sum())];
-    objective.extend(p.costs.iter().map(|c| Frac::whole(-c)));
-    rows.push(objective);
-    Table { nonbasic: (0..columns).collect(), basic: (columns..2 * columns + p.rows.len()).collect(), rows }
+/// The numbers of a file: columns and rows; the costs; the upper bounds; of each row its right side, how many terms it has, and their columns and coefficients.
+fn read(path: &str) -> Program {
+    let text = std::fs::read_to_string(path).expect("a file to read");
+    let mut numbers = text.split_whitespace().map(|word| word.parse::<i128>().expect("a number"));
+    let mut next = || numbers.next().expect("a number more");
+    let (columns, rows) = (next(), next());
+    let costs = (0..columns).map(|_| next()).collect();
+    let upper = (0..columns).map(|_| next()).collect();
+    let mut row = || {
+        let (right, terms) = (next(), next());
+        Row { right, terms: (0..terms).map(|_| Term { column: next() as usize, by: next() }).collect() }
+    };
+    Program { costs, upper, rows: (0..rows).map(|_| row()).collect() }
 }
 
 fn negated(x: Frac) -> Frac {
@@ -86,70 +98,53 @@ fn compare(x: Frac, y: Frac) -> Ordering {
     }
 }
 
-impl Table {
-    fn leaving(&self) -> Option<usize> {
-        let below = (0..self.basic.len()).filter(|&i| self.rows[i][0].num < 0);
-        below.min_by_key(|&i| self.basic[i])
-    }
+trait Dictionary {
+    fn start(p: &Program) -> Self;
+    fn nonbasic(&self) -> &[usize];
+    fn constant(&self, i: usize) -> Frac;
+    fn at(&self, i: usize, j: usize) -> Frac;
+    fn leaving(&self) -> Option<usize>;
+    fn rises(&self, i: usize) -> bool;
+    fn entering(&self, i: usize) -> Option<Option<usize>>;
+    fn pivot(&mut self, i: usize, j: usize) -> Option<()>;
+}
 
-    fn entering(&self, i: usize) -> Option<Option<usize>> {
-        let objective = &self.rows[self.basic.len()];
-        let mut best: Option<(usize, Frac)> = None;
-        for j in 0..self.nonbasic.len() {
-            let coefficient = self.rows[i][j + 1];
-            if coefficient.num > 0 {
-                let ratio = quotient(negated(objective[j + 1]), coefficient)?;
-                best = match best {
-                    Some((b, least)) => match compare(ratio, least) {
-                        Ordering::Less => Some((j, ratio)),
-                        Ordering::Equal if self.nonbasic[j] < self.nonbasic[b] => Some((j, ratio)),
-                        _ => best,
-                    },
-                    None => Some((j, ratio)),
-                };
-            }
+fn entering(
+    nonbasic: &[usize],
+    row: impl Iterator<Item = (usize, Frac)>,
+    objective: impl Fn(usize) -> Frac,
+) -> Option<Option<usize>> {
+    let mut best: Option<(usize, Frac)> = None;
+    for (j, coefficient) in row {
+        if coefficient.num > 0 {
+            let ratio = quotient(negated(objective(j)), coefficient)?;
+            best = match best {
+                Some((b, least)) => match compare(ratio, least) {
+                    Ordering::Less => Some((j, ratio)),
+                    Ordering::Equal if nonbasic[j] < nonbasic[b] => Some((j, ratio)),
+                    _ => best,
+                },
+                None => Some((j, ratio)),
+            };
         }
-        Some(best.map(|(j, _)| j))
     }
-
-    fn pivot(&mut self, i: usize, j: usize) -> Option<()> {
-        let mut solved = self.rows[i].clone();
-        let pivot = solved[j + 1];
-        solved[j + 1] = Frac::whole(-1);
-        for x in &mut solved {
-            *x = quotient(negated(*x), pivot)?;
-        }
-        for (k, row) in self.rows.iter_mut().enumerate() {
-            let factor = row[j + 1];
-            if k == i || factor.num == 0 {
-                continue;
-            }
-            row[j + 1] = Frac::whole(0);
-            for (x, y) in row.iter_mut().zip(&solved) {
-                if y.num != 0 {
-                    *x = x.add(factor.mul(*y).ok()?).ok()?;
-                }
-            }
-        }
-        self.rows[i] = solved;
-        std::mem::swap(&mut self.nonbasic[j], &mut self.basic[i]);
-        Some(())
-    }
+    Some(best.map(|(j, _)| j))
 }
 
 enum End {
+    Cut,
     Best { q: i128, sum: i128 },
     Empty,
     Past,
     Long,
 }
 
-fn weighed(p: &Program, t: &Table) -> Option<(i128, i128)> {
+fn weighed<D: Dictionary>(p: &Program, d: &D) -> Option<(i128, i128)> {
     let first = p.costs.len();
-    let objective = &t.rows[t.basic.len()];
-    let at = |variable| t.nonbasic.iter().position(|&v| v == variable);
+    let objective = p.rows.len() + first;
+    let at = |variable| d.nonbasic().iter().position(|&v| v == variable);
     let weights: Vec<Frac> =
-        (0..p.rows.len()).map(|i| at(first + i).map_or(Frac::whole(0), |j| negated(objective[j + 1]))).collect();
+        (0..p.rows.len()).map(|i| at(first + i).map_or(Frac::whole(0), |j| negated(d.at(objective, j)))).collect();
     let mut q: i128 = 1;
     for w in &weights {
         q = (q / gcd(q, w.den)).checked_mul(w.den)?;
@@ -162,23 +157,28 @@ fn weighed(p: &Program, t: &Table) -> Option<(i128, i128)> {
 }
 
 #[inline(never)]
-fn dual_run(p: &Program) -> (End, u32) {
-    let mut table = first_table(p);
+fn dual_run<D: Dictionary>(p: &Program) -> (End, u32) {
+    let mut d = D::start(p);
+    let objective = p.rows.len() + p.costs.len();
     for step in 0.. {
-        let Some(i) = table.leaving() else {
-            return (weighed(p, &table).map_or(End::Past, |(q, sum)| End::Best { q, sum }), step);
+        let worth = d.constant(objective);
+        if worth.num.div_euclid(worth.den) <= 0 {
+            return (weighed(p, &d).map_or(End::Past, |_| End::Cut), step);
+        }
+        let Some(i) = d.leaving() else {
+            return (weighed(p, &d).map_or(End::Past, |(q, sum)| End::Best { q, sum }), step);
         };
-        if !table.rows[i][1..].iter().any(|x| x.num > 0) {
+        if !d.rises(i) {
             return (End::Empty, step);
         }
         if step == 10_000 {
             return (End::Long, step);
         }
-        match table.entering(i) {
+        match d.entering(i) {
             None => return (End::Past, step),
             Some(None) => {}
             Some(Some(j)) => {
-                if table.pivot(i, j).is_none() {
+                if d.pivot(i, j).is_none() {
                     return (End::Past, step);
                 }
             }
@@ -188,13 +188,20 @@ fn dual_run(p: &Program) -> (End, u32) {
 }
 
 fn main() {
-    let sizes: Vec<u32> = std::env::args().skip(1).filter_map(|argument| argument.parse().ok()).collect();
-    let (side, kinds) = (sizes[0], sizes[1]);
-    let p = square(side, kinds);
+    let words: Vec<String> = std::env::args().skip(1).collect();
+    let p = match &words[1..] {
+        [side, kinds] => square(side.parse().expect("a side"), kinds.parse().expect("kinds")),
+        [path] => read(path),
+        _ => panic!("usage: plain full|sparse SIDE KINDS, or plain full|sparse FILE"),
+    };
     let start = Instant::now();
-    let (end, pivots) = dual_run(&p);
+    let (end, pivots) = match words[0].as_str() {
+        "full" => dual_run::<Full>(&p),
+        _ => dual_run::<Sparse>(&p),
+    };
     let time = start.elapsed();
     match end {
+        End::Cut => println!("cut"),
         End::Best { q, sum } => println!("best {q} {sum}"),
         End::Empty => println!("empty"),
         End::Past => println!("past"),
