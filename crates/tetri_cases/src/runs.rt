@@ -4,7 +4,7 @@ ghost use Rattle.std.specs.Prelude.{◌<◌};
 use crate::table::Given;
 use std::alloc::{AllocError, Global};
 use tetri_io::{MemShelf, MemSink};
-use tetri_run::{Status, run, say};
+use tetri_run::{Status, Why, conclude, run, say};
 use tetri_tables::{Tally, edited, halves};
 use tetri_trace::{Field, TraceWhy};
 
@@ -241,4 +241,35 @@ pub fn words(alloc: Global, tally: &mut Tally, body: &str) -> Result<(), AllocEr
         write!(found, "\n{line}")?;
     }
     tally.expect("words", found.as_str(), body)
+}
+
+// The status whose exit number this is.
+fn status_of(number: u8) -> Status {
+    match number {
+        0 => Status::Done,
+        1 => Status::Refused {
+            line: 2,
+            why: Why::Malformed,
+        },
+        2 => Status::Usage,
+        3 => Status::ReadFault,
+        4 => Status::WriteFault,
+        5 => Status::BadTrace {
+            line: 1,
+            why: TraceWhy::NotJson,
+        },
+        _ => Status::NoMemory,
+    }
+}
+
+/// The exit number of each status with what goes to the sink of errors then, one in each line.
+pub fn endings(alloc: Global, tally: &mut Tally, body: &str) -> Result<(), AllocError> {
+    let mut found = String::new(alloc);
+    for number in 0u8..7 {
+        let mut errors = MemSink::new(alloc, 7, 1000, &[])?;
+        let exit = conclude(alloc, &status_of(number), &mut errors);
+        let said = text_of(alloc, errors.written())?;
+        write!(found, "{exit} {}\n", said.as_str().trim_end_matches('\n'))?;
+    }
+    tally.expect("endings", found.as_str().trim_end_matches('\n'), body)
 }

@@ -59,6 +59,7 @@ fn judge_section(
         "forged" => runs::forged(alloc, given, tally, body),
         "failing" => runs::failing(alloc, given, tally, body),
         "words" => runs::words(alloc, tally, body),
+        "endings" => runs::endings(alloc, tally, body),
         "first faults" => traces::first_faults(alloc, given, tally, body),
         "changed headers" => traces::changed_headers(alloc, given, tally, body),
         "changed jobs" => traces::changed_jobs(alloc, given, tally, body),
