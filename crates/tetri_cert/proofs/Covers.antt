@@ -27,7 +27,7 @@ use Rattle.tetri_cert.specs.declared.faults.TreeWhy.TheVariants as why
 use Rattle.tetri_cert.specs.NodeBounds.{refuse, is_negative, capped, quotient_at, where_weighed, weights_bound, node_bound, high_side, low_side, sides_before}
 use Rattle.tetri_base.specs.ResultSteps.{◌>>=◌}
 use Rattle.tetri_cert.specs.Trees.{places_behind, fills, tree_from, if_fills, tree_bound}
-use Rattle.tetri_cert.proofs.Sides.{set_keeps}
+use Rattle.tetri_cert.proofs.RegionLaws.{set_keeps}
 use Rattle.tetri_cert.specs.TreeLaws.{TreeBoundHolds}
 
 -- ---- steps that may fail

@@ -1,12 +1,12 @@
 pub mod Signed
-pub mod Sides
+pub mod RegionLaws
 pub mod NegativeLemmas
 pub mod Covers
 pub mod Ascending
 mod Examples
 pub mod Pending
 pub mod Steps
-pub mod ProperLemmas
+pub mod ProperTreeLaws
 pub mod ShapeLemmas
 pub mod SameLemmas
 pub mod FaultLemmas
@@ -18,3 +18,5 @@ pub mod ListsBack
 pub mod PairsBack
 pub mod TextBack
 pub mod TextShort
+pub mod CellLaws
+pub mod CellLemmas

@@ -24,7 +24,8 @@ use Rattle.tetri_cert.specs.declared.marks.Mark.{Mark}
 use Rattle.tetri_cert.specs.declared.marks.Mark.TheVariants.{Split, Close, Whole, Rest}
 use Rattle.tetri_cert.specs.NodeBounds.{is_negative, is_unknown_row, node_bound, refuse, sides_before, split_bound, weights_bound, where_weighed}
 use Rattle.tetri_base.specs.ResultSteps.{◌>>=◌}
-use Rattle.tetri_cert.specs.SamePrograms.{SameProgramsAnswerSame, SameRows, SaysSame}
+use Rattle.tetri_ip.specs.SamePrograms.{SameRows, SaysSame}
+use Rattle.tetri_cert.specs.SamePrograms.{SameProgramsAnswerSame}
 use Rattle.tetri_cert.specs.Trees.{fills, if_fills, tree_bound, tree_from}
 
 -- rows that say the same are formed and met alike

@@ -7,19 +7,18 @@ use borrow.Author.Tests.{ltb-true}
 use lib.IntN.{ℤ, pos}
 use lib.Signed.{lt_z}
 use Rattle.tetri_ip.specs.declared.programs.Program.{Program}
-use Rattle.tetri_ip.specs.Points.{Bounds, IsInBox, bounds_of}
+use Rattle.tetri_ip.specs.Points.{Bounds, bounds_of}
 use Rattle.tetri_cert.specs.declared.marks.Mark.{Mark}
 use Rattle.tetri_cert.specs.declared.marks.Mark.TheVariants.{Split, Close, Whole, Rest}
 use Rattle.tetri_cert.specs.declared.faults.TreeFault.{TreeFault}
 use Rattle.tetri_cert.specs.declared.walk.Walk.{Walk}
 use Rattle.tetri_cert.specs.declared.faults.TreeFault.TheVariants.{Bad}
 use Rattle.tetri_cert.specs.declared.faults.TreeWhy.TheVariants as why
-use Rattle.tetri_cert.specs.NodeBounds.{HasSides, node_bound, refuse, sides_before, split_bound}
+use Rattle.tetri_cert.specs.NodeBounds.{HasSides, node_bound, refuse, split_bound}
 use Rattle.tetri_cert.specs.Turns.{pending}
 use Rattle.tetri_cert.specs.Walks.{AreInBox, tells, tells_nodes, or_found, regions_of}
 use Rattle.tetri_cert.specs.Trees.{places_behind, fills, tree_from, if_fills}
 use Rattle.tetri_cert.proofs.Covers.{not_false}
-use Rattle.tetri_cert.proofs.Sides.{high_in_box, low_in_box}
 
 pub tree_from_none : (p : Program) (node most : ℕ) (ms : List Mark) → tree_from p [] node most ms ≡ Ok most
 tree_from_none p node most [] = refl
@@ -71,12 +70,6 @@ has_sides p b node (Split j at licence) n e h = let s = split_inside p b node j 
 has_sides p b node (Close q ws) n e h = tt
 has_sides p b node (Whole q ws worth point) n e h = tt
 has_sides p b node (Rest q ws) n e h = tt
-
-pub sides_in_box : (p : Program) (b : Bounds) (m : Mark) (bs : List Bounds) → IsInBox p b → HasSides b m → AreInBox p bs → AreInBox p (sides_before b m bs)
-sides_in_box p b (Split j at licence) bs i h r = (high_in_box p b j at i h.1 h.2, (low_in_box p b j at i h.1 h.2, r))
-sides_in_box p b (Close q ws) bs i h r = r
-sides_in_box p b (Whole q ws worth point) bs i h r = r
-sides_in_box p b (Rest q ws) bs i h r = r
 
 pub first_in_box : (p : Program) (w : Walk) → w.live ≡ true → AreInBox p (regions_of w) → AreInBox p (bounds_of w.region ∷ pending (bounds_of w.region) (reverse w.trail.items))
 first_in_box p w e i = subst (λ (t : Bool). AreInBox p (cond t (bounds_of w.region ∷ pending (bounds_of w.region) (reverse w.trail.items)) [])) e i

@@ -1,6 +1,6 @@
 -- Numbers of certificates as text.
 use Rattle.std.proofs.Common.{◌≡◌, refl}
-use Rattle.std.specs.Prelude.{ℕ, ◌^◌, ◌==◌, ◌++◌, List, [], ◌∷◌, Bool, true, false, take, drop, Option, Some, None, if◌then◌else◌, option_and_then, option_map, bytes_eq, codes}
+use Rattle.std.specs.Prelude.{ℕ, ◌^◌, ◌==◌, ◌++◌, List, [], ◌∷◌, Bool, true, false, take, drop, Option, Some, None, if◌then◌else◌, option_map, bytes_eq, codes}
 use Rattle.std.specs.Fmt.{signed_decimal}
 use lib.IntN.{ℤ, pos, neg_ℤ}
 use Rattle.tetri_io.specs.Numbers.{number_below}

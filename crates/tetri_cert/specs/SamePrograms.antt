@@ -1,24 +1,11 @@
--- Programs that say the same, and where a tree's fault stands.
+-- Trees over programs that say the same, and where a tree's fault stands.
 use Rattle.std.specs.Prelude.{◌≡◌, ℕ, ◌<◌, ◌⊎◌, List, length, Err}
 use Rattle.tetri_ip.specs.declared.programs.Program.{Program}
-use Rattle.tetri_ip.specs.declared.programs.Row.{Row}
-use Rattle.tetri_ip.specs.Points.{right_of, terms_of}
+use Rattle.tetri_ip.specs.SamePrograms.{SaysSame}
 use Rattle.tetri_cert.specs.declared.faults.TreeFault.TheVariants.{Bad, Past}
 use Rattle.tetri_cert.specs.declared.faults.TreeWhy.{TreeWhy}
 use Rattle.tetri_cert.specs.declared.marks.Mark.{Mark}
 use Rattle.tetri_cert.specs.Trees.{tree_bound}
-
--- the same terms and the same right side in each row
-pub record SameRows (rows others : List Row) : Type 0 where
-  pub count : length rows ≡ length others
-  pub terms : (k : ℕ) → terms_of rows k ≡ terms_of others k
-  pub rights : (k : ℕ) → right_of rows k ≡ right_of others k
-
-pub record SaysSame (p q : Program) : Type 0 where
-  pub costs : p.costs.items ≡ q.costs.items
-  pub lower : p.lower.items ≡ q.lower.items
-  pub upper : p.upper.items ≡ q.upper.items
-  pub rows : SameRows p.rows.items q.rows.items
 
 -- marks have the same bound, or the same first fault, over programs that say the same
 abbrev pub SameProgramsAnswerSame : Type 0

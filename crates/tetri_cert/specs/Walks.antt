@@ -38,3 +38,4 @@ pub record IsOver (p : Program) (w : Walk) : Type 0 where
   pub in_box : AreInBox p (regions_of w)
   pub columns : All (λ t. t.column < length p.costs.items) w.trail.items
   pub places : w.places ≤ w.node + 1
+  pub counted : w.counted ≤ w.node

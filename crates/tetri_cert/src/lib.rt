@@ -2,6 +2,7 @@
 //! integer program; their text, and the mark of a plan.
 #![tactic(auto, using(crate::proofs::Signed::signed))]
 
+mod cells;
 mod certificate;
 mod faults;
 mod laws;
@@ -16,6 +17,7 @@ mod turns;
 mod walk;
 mod words;
 
+pub use cells::{cells_of, frac_cells_of};
 pub use certificate::{Certificate, print, print_onto};
 pub use faults::{TreeFault, TreeWhy};
 pub use laws::{
@@ -24,7 +26,8 @@ pub use laws::{
 };
 pub use marks::{Cell, FracCell, Licence, Mark};
 pub use plan_mark::PlanMark;
-pub use points::objective_at;
+pub use points::{objective_at, point_of};
 pub use text::{MarkFault, marks_are_short_lines, marks_read_back, print_mark, read_mark};
 pub use text_words::mark_of_words;
+pub use turns::{Turn, turn_on};
 pub use walk::{Walk, bound, count_nodes};

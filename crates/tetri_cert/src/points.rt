@@ -1,8 +1,8 @@
 // The point of a Whole node.
 
-ghost use Rattle.std.specs.Prelude.{◌≡◌, ◌&&◌, length, true, IfOk};
+ghost use Rattle.std.specs.Prelude.{◌≡◌, ◌&&◌, length, IfOk};
 ghost use Rattle.tetri_ip.specs.Points.{IsFit, IsBetween, IsInBox, bounds_of, objective};
-ghost use Rattle.tetri_cert.specs.Cells.{are_of_columns, is_point, is_same, is_whole_point, point_of};
+ghost use Rattle.tetri_cert.specs.Cells.{AreOfColumns, are_of_columns, is_point, is_same, is_whole_point, point_of};
 
 use crate::marks::Cell;
 use std::alloc::{AllocError, Global};
@@ -40,8 +40,9 @@ fn are_of_columns(count: usize, cells: &[Cell]) -> bool
     true
 }
 
-fn point_of(alloc: Global, count: usize, cells: &[Cell]) -> Result<Vec<i128>, AllocError>
-    requires { are_of_columns count cells.now ≡ true }
+/// The point of these cells, 0 at each of the columns that has none. Its only error is want of memory.
+pub fn point_of(alloc: Global, count: usize, cells: &[Cell]) -> Result<Vec<i128>, AllocError>
+    requires { AreOfColumns count cells.now }
     ensures { IfOk result (λ v. v.items ≡ point_of count cells.now) }
 {
     let mut point = vec![in alloc; 0i128; count]?;

@@ -9,12 +9,13 @@ use crate::marks::Mark;
 use std::alloc::AllocError;
 use tetri_ip::Region;
 
+/// A column's bounds to be put back on the way to the next open region, and whether that region is then reached.
 #[derive(Drop)]
-pub(crate) struct Turn {
-    pub(crate) column: u32,
-    pub(crate) lower: i128,
-    pub(crate) upper: i128,
-    pub(crate) stops: bool,
+pub struct Turn {
+    column: u32,
+    lower: i128,
+    upper: i128,
+    stops: bool,
 }
 
 // Goes to the next open region, if there is one.
@@ -78,12 +79,10 @@ fn turn_high(
     Ok(())
 }
 
-// Goes to the next open region after a node, if there is one: to the high side of a split, else back.
-pub(crate) fn turn_on(
-    region: &mut Region,
-    trail: &mut Vec<Turn>,
-    mark: &Mark,
-) -> Result<bool, AllocError>
+/// Goes to the next open region after a node, if there is one: to the high side of a split, else back. The trail leads back
+/// from the region to the others that are open, and is empty at the root. Its only error is want of memory, and then both are
+/// as before.
+pub fn turn_on(region: &mut Region, trail: &mut Vec<Turn>, mark: &Mark) -> Result<bool, AllocError>
     requires trail { All (λ t. t.column < length region.old.lower.items) trail.old.items }
     requires upper { length region.old.upper.items ≡ length region.old.lower.items }
     requires sides { HasSides (bounds_of region.old) mark.now }

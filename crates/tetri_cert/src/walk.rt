@@ -23,6 +23,7 @@ pub struct Walk {
     places: u64,
     extra: bool,
     node: u64,
+    counted: u64,
     most: u64,
     fault: Option<TreeFault>,
 }
@@ -37,6 +38,17 @@ fn behind(mark: &Mark, places: u64) -> u64
     }
 }
 
+// One more than so many for a mark other than a rest.
+fn counted_with(mark: &Mark, counted: u64) -> u64
+    requires { counted < 2 ^ 64 - 1 }
+    ensures { result ≡ counted + nodes_in (mark.now ∷ []) }
+{
+    match mark {
+        Mark::Rest { .. } => counted,
+        Mark::Split { .. } | Mark::Close { .. } | Mark::Whole { .. } => counted + 1,
+    }
+}
+
 impl Walk {
     ghost use Rattle.tetri_cert.specs.Walks.{IsOver, tells, tells_nodes};
 
@@ -45,7 +57,7 @@ impl Walk {
     pub fn new(alloc: Global, p: &Program) -> Result<Walk, AllocError>
         requires { IsFit p.now }
         ensures over { IfOk result (λ w. IsOver p.now w) }
-        ensures none { IfOk result (λ w. w.node ≡ 0) }
+        ensures none { IfOk result (λ w. (w.node ≡ 0) × (w.counted ≡ 0)) }
         ensures tells { IfOk result (λ w. (marks : List Mark) → tells w p.now marks ≡ tree_bound p.now marks) }
     {
         let index = ColumnIndex::new(alloc, p)?;
@@ -58,6 +70,7 @@ impl Walk {
             places: 1,
             extra: false,
             node: 0,
+            counted: 0,
             most: 0,
             fault: None,
         })
@@ -70,7 +83,7 @@ impl Walk {
         ensures over { IsOver p.now self.new }
         ensures ok { OnOk result ((rest : List Mark) → tells_nodes (record self.new { node = self.old.node + 1 }) p.now rest ≡ tells_nodes self.old p.now (mark.now ∷ rest)) }
         ensures err { OnErr result ((rest : List Mark) → tells_nodes self.new p.now rest ≡ tells_nodes self.old p.now rest) }
-        ensures same { (self.new.places ≡ self.old.places) × (self.new.extra ≡ self.old.extra) × (self.new.node ≡ self.old.node) }
+        ensures same { (self.new.places ≡ self.old.places) × (self.new.extra ≡ self.old.extra) × (self.new.node ≡ self.old.node) × (self.new.counted ≡ self.old.counted) }
     {
         if self.fault.is_some() {
             return Ok(());
@@ -100,16 +113,25 @@ impl Walk {
         ensures over { IsOver p.now self.new }
         ensures ok { OnOk result ((rest : List Mark) → tells self.new p.now rest ≡ tells self.old p.now (mark.now ∷ rest)) }
         ensures node { OnOk result (self.new.node ≡ self.old.node + 1) }
+        ensures counted { OnOk result (self.new.counted ≡ self.old.counted + nodes_in (mark.now ∷ [])) }
         ensures err { OnErr result ((rest : List Mark) → tells self.new p.now rest ≡ tells self.old p.now rest) }
     {
         self.visit(alloc, p, mark)?;
         self.node += 1;
+        self.counted = counted_with(mark, self.counted);
         if self.places == 0 {
             self.extra = true;
             return Ok(());
         }
         self.places = behind(mark, self.places - 1);
         Ok(())
+    }
+
+    /// How many marks other than rests were fed.
+    pub fn nodes(&self) -> u64
+        ensures { result ≡ self.now.counted }
+    {
+        self.counted
     }
 
     /// The bound or the first fault of the marks that were fed.
@@ -125,6 +147,7 @@ impl Walk {
             places,
             extra,
             node: _node,
+            counted: _counted,
             most,
             fault,
         } = self;

@@ -14,7 +14,7 @@ use Rattle.tetri_ip.specs.Points.{right_of, terms_of}
 use Rattle.tetri_cert.specs.declared.certificate.Certificate.{Certificate}
 use Rattle.tetri_cert.specs.declared.certificate.Certificate.TheVariants.{Tops, Tree}
 use Rattle.tetri_cert.specs.declared.marks.Mark.{Mark}
-use Rattle.tetri_cert.specs.SamePrograms.{SameRows, SaysSame}
+use Rattle.tetri_ip.specs.SamePrograms.{SameRows, SaysSame}
 use Rattle.tetri_cert.proofs.Covers.{tree_bound_holds}
 use Rattle.tetri_cert.proofs.SameLemmas.{same_programs}
 use Rattle.tetri_compile.specs.Allotted.{point_of}

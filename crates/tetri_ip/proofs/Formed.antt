@@ -42,7 +42,7 @@ add_more sum a s n x e f = omega (arith, ints)
 subtract_more : (rest a s n x : ℤ) → n ≡ rest -ℤ a → x ≡ n -ℤ s → x ≡ rest -ℤ (a +ℤ s)
 subtract_more rest a s n x e f = omega (arith, ints)
 
-right_is : (rows : List Row) (ws : List Weight) (sum x : ℤ) → form_right rows ws sum ≡ Some x → x ≡ sum +ℤ right_sum rows ws
+pub right_is : (rows : List Row) (ws : List Weight) (sum x : ℤ) → form_right rows ws sum ≡ Some x → x ≡ sum +ℤ right_sum rows ws
 right_is rows [] sum x e = let f : x ≡ sum = cc in omega (arith, ints)
 right_is rows (w ∷ ws) sum x e = by_next (λ n g. right_is rows ws n x g) (add_product sum w.by (right_of rows w.row)) refl e
   where
@@ -83,7 +83,7 @@ pub if_ok_always : (r : Result ℤ WeighFault) (A : Type 0) → A → IfOk r (λ
 if_ok_always (Ok z) A a = a
 if_ok_always (Err e) A a = tt
 
-columns_are : (rows : List Row) (b : Bounds) (q : ℤ) (ws : List Weight) (j : ℕ) (cs : List ℤ) (sum : ℤ) → IfOk (form_columns rows b q ws j cs sum) (λ z. z ≡ sum +ℤ columns_from rows b q ws j cs)
+pub columns_are : (rows : List Row) (b : Bounds) (q : ℤ) (ws : List Weight) (j : ℕ) (cs : List ℤ) (sum : ℤ) → IfOk (form_columns rows b q ws j cs sum) (λ z. z ≡ sum +ℤ columns_from rows b q ws j cs)
 columns_are rows b q ws j [] sum = omega (arith, ints)
 columns_are rows b q ws j (c ∷ cs) sum = by_column (λ n. columns_are rows b q ws (j + 1) cs n) (form_column rows b q ws j c sum) refl
   where

@@ -6,3 +6,6 @@ pub mod Formed
 pub mod Sides
 pub mod IndexLemmas
 pub mod MergeLemmas
+pub mod PointLaws
+pub mod UnmetLemmas
+pub mod WeighingLaws

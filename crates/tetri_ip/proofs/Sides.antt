@@ -1,5 +1,5 @@
 -- The left side of a row at a point in the box stays in range.
-use Rattle.std.proofs.Common.{◌≡◌, ℕ, ◌+◌, ◌*◌, ◌^◌, ◌<◌, ◌≤◌, max, sym, ap, ◌∙◌, subst, arith, List, [], ◌∷◌, length, get_or, drop, true, false}
+use Rattle.std.proofs.Common.{◌≡◌, ℕ, ◌+◌, ◌*◌, ◌^◌, ◌<◌, ◌≤◌, max, sym, ap, ◌∙◌, subst, arith, List, [], ◌∷◌, length, get_or, drop}
 use Prim.Native.Nat.{suc}
 use Rattle.std.specs.Prelude.{unsigned_abs, ◌≤ℤ◌}
 use Rattle.std.proofs.Math.Nat.{mul-le-mul_left}
@@ -10,11 +10,8 @@ use lib.IntN.{ℤ, ◌+ℤ◌, ◌*ℤ◌}
 use mir.Val.{SFits}
 use mir.Syntax.{w128}
 use Rattle.tetri_ip.specs.declared.programs.Program.{Program}
-use lib.Signed.{lt_z}
-use Rattle.tetri_ip.specs.declared.programs.Row.{Row}
 use Rattle.tetri_ip.specs.declared.programs.Term.{Term}
-use Rattle.tetri_ip.specs.Points.{IsBetween, column_at, left_side, number_at, reach, right_of, size_at, sizes, terms_of}
-use Rattle.tetri_ip.proofs.Steps.{right_of_at, terms_of_at}
+use Rattle.tetri_ip.specs.Points.{IsBetween, column_at, left_side, number_at, reach, size_at, sizes}
 
 sizes-cons : (t : Term) (ts : List Term) (point : List ℤ) → sizes (t ∷ ts) point ≡ unsigned_abs t.by * unsigned_abs (number_at point t.column) + sizes ts point
 sizes-cons t ts point = sum_by-cons (λ (u : Term). unsigned_abs u.by * unsigned_abs (number_at point u.column)) t ts
@@ -85,27 +82,3 @@ term_added ts point i d sum whole a x part next l ae xe h v pe ne =
       subst (λ (z : ℤ). unsigned_abs z + sizes (drop (i + 1) ts) point < 2 ^ 127) e r.in_range,
       ap (λ z. z +ℤ left_side (drop (i + 1) ts) point) (sym e) ∙ r.value,
     )
-
--- ---- one row, by the comparison of the code's numbers
-row_sides : (rows : List Row) (point : List ℤ) (i : ℕ) (r : Row) (side side' right' : ℤ) → i < length rows → r ≡ get_or rows i r → side ≡ left_side r.terms.items point → side' ≡ side → right' ≡ r.right →
-    (left_side (terms_of rows i) point ≡ side') × (right_of rows i ≡ right')
-row_sides rows point i r side side' right' l e se se' re =
-    (ap (λ (ts : List Term). left_side ts point) (terms_of_at rows i r l e) ∙ sym se ∙ sym se', right_of_at rows i r l e ∙ sym re)
-
-pub row_broken : (rows : List Row) (point : List ℤ) (i : ℕ) (r : Row) (side side' right' : ℤ) → i < length rows → r ≡ get_or rows i r → side ≡ left_side r.terms.items point → side' ≡ side → right' ≡ r.right →
-    lt_z right' side' ≡ true → left_side (terms_of rows i) point ≤ℤ right_of rows i → ⊥
-row_broken rows point i r side side' right' l e se se' re t h =
-    let s = row_sides rows point i r side side' right' l e se se' re in
-    contrary _ _ _ _ s.0 s.1 t h
-  where
-    contrary : (x x' y y' : ℤ) → x ≡ x' → y ≡ y' → lt_z y' x' ≡ true → x ≤ℤ y → ⊥
-    contrary x x' y y' e f t h = omega (arith, ints)
-
-pub row_met : (rows : List Row) (point : List ℤ) (i : ℕ) (r : Row) (side side' right' : ℤ) → i < length rows → r ≡ get_or rows i r → side ≡ left_side r.terms.items point → side' ≡ side → right' ≡ r.right →
-    lt_z right' side' ≡ false → left_side (terms_of rows i) point ≤ℤ right_of rows i
-row_met rows point i r side side' right' l e se se' re t =
-    let s = row_sides rows point i r side side' right' l e se se' re in
-    at_most _ _ _ _ s.0 s.1 t
-  where
-    at_most : (x x' y y' : ℤ) → x ≡ x' → y ≡ y' → lt_z y' x' ≡ false → x ≤ℤ y
-    at_most x x' y y' e f t = omega (arith, ints)

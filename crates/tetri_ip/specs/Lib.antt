@@ -2,3 +2,4 @@ pub mod ColumnIndex
 pub mod Points
 pub mod Weighed
 pub mod Forming
+pub mod SamePrograms

@@ -1,7 +1,8 @@
 -- Integer programs over plain lists of whole numbers: points, regions and fit programs.
-use Rattle.std.specs.Prelude.{◌≡◌, ℕ, ◌+◌, ◌*◌, ◌^◌, ◌<◌, List, [], ◌∷◌, length, slice_index_or, ◌-ℤ◌, ◌*ℤ◌, ◌≤ℤ◌, pos, unsigned_abs, max, sum_by}
+use Rattle.std.specs.Prelude.{◌≡◌, ℕ, ◌+◌, ◌*◌, ◌^◌, ◌<◌, List, [], ◌∷◌, length, slice_index_or, cond, Option, Some, None, ◌-ℤ◌, ◌*ℤ◌, ◌≤ℤ◌, pos, unsigned_abs, max, sum_by}
 use Prim.Native.Nat.{zero, suc}
 use lib.IntN.{ℤ}
+use lib.Signed.{lt_z}
 use Rattle.tetri_algebra.specs.IntegerRing.{ℤ_ring}
 use Rattle.tetri_algebra.specs.Sums.{sum_over, dot, unit_at}
 use Rattle.tetri_ip.specs.declared.programs.Program.{Program}
@@ -72,6 +73,11 @@ IsBetween n xs ys zs = (k : ℕ) → k < n → (number_at xs k ≤ℤ number_at 
 -- the left side of each row is at most its right side
 abbrev pub MeetsRows : List Row → List ℤ → Type 0
 MeetsRows rows point = (k : ℕ) → k < length rows → left_side (terms_of rows k) point ≤ℤ right_of rows k
+
+-- the first row that a point breaks, where the rows are numbered from i on
+abbrev pub first_unmet_from : ℕ → List Row → List ℤ → Option ℕ
+first_unmet_from i [] point = None
+first_unmet_from i (r ∷ rs) point = cond (lt_z r.right (left_side r.terms.items point)) (Some i) (first_unmet_from (i + 1) rs point)
 
 -- one number for each column, each within its bounds, and each row met
 pub record IsPoint (p : Program) (b : Bounds) (point : List ℤ) : Type 0 where

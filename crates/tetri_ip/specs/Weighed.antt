@@ -39,3 +39,7 @@ columns_from rows b q ws j (c ∷ cs) =
 -- the weighed number
 abbrev pub weighed : Program → Bounds → ℤ → List Weight → ℤ
 weighed p b q ws = right_sum p.rows.items ws +ℤ columns_from p.rows.items b q ws 0 p.costs.items
+
+-- one row, taken once
+abbrev pub once : ℕ → List Weight
+once i = record { row = i; by = pos 1 } ∷ []

@@ -16,6 +16,6 @@ pub use by_column::weigh_by;
 pub use columns::coefficient_of;
 pub use index::ColumnIndex;
 pub use laws::weighed_bounds_points;
-pub use points::{holds_point, left_side};
+pub use points::{first_unmet, holds_point, left_side};
 pub use programs::{Program, Region, Row, Term, WeighFault, Weight};
 pub use weighing::weigh;

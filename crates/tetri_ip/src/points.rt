@@ -1,7 +1,7 @@
 //! The points of a region.
 
 ghost use Rattle.std.specs.Prelude.{◌≡◌, ◌↔◌, ℕ, ◌<◌, ◌^◌, length, IsTrue};
-ghost use Rattle.tetri_ip.specs.Points.{IsBetween, IsFit, IsInBox, IsPoint, MeetsRows, bounds_of, column_at, left_side, sizes};
+ghost use Rattle.tetri_ip.specs.Points.{IsBetween, IsFit, IsInBox, IsPoint, MeetsRows, bounds_of, column_at, first_unmet_from, left_side, sizes};
 
 use crate::programs::{Program, Region, Row};
 
@@ -35,19 +35,29 @@ pub fn left_side(row: &Row, point: &[i128]) -> i128
     sum
 }
 
+/// The first row that a point in the program's box breaks.
+pub fn first_unmet(p: &Program, point: &[i128]) -> Option<usize>
+    requires fit { IsFit p.now }
+    requires count { length point.now ≡ length p.now.costs.items }
+    requires in_box { IsBetween (length p.now.costs.items) p.now.lower.items point.now p.now.upper.items }
+    ensures { result ≡ first_unmet_from 0 p.now.rows.items point.now }
+{
+    for i in 0..p.rows.len() {
+        let row = &p.rows[i];
+        if row.right < left_side(row, point) {
+            return Some(i);
+        }
+    }
+    None
+}
+
 fn meets_rows(p: &Program, point: &[i128]) -> bool
     requires fit { IsFit p.now }
     requires count { length point.now ≡ length p.now.costs.items }
     requires in_box { IsBetween (length p.now.costs.items) p.now.lower.items point.now p.now.upper.items }
     ensures { IsTrue result ↔ MeetsRows p.now.rows.items point.now }
 {
-    for i in 0..p.rows.len() {
-        let row = &p.rows[i];
-        if row.right < left_side(row, point) {
-            return false;
-        }
-    }
-    true
+    first_unmet(p, point).is_none()
 }
 
 /// Whether one number for each column lies in the region and meets every row.

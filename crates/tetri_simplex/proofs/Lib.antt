@@ -30,5 +30,7 @@ pub mod BasicValues
 pub mod RelaxedRows
 pub mod RelaxedDuality
 pub mod BestPoint
+pub mod WeighedForms
 pub mod RunHolds
+pub mod RelaxedPoints
 pub mod EndFacts

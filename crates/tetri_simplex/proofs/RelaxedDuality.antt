@@ -18,7 +18,7 @@ use Rattle.tetri_ip.specs.declared.programs.Row.{Row}
 use Rattle.tetri_ip.specs.declared.programs.Weight.{Weight}
 use Rattle.tetri_simplex.proofs.RelaxedRows.{same_dot_from, dot_from-left_value}
 use Rattle.tetri_simplex.proofs.Sound.{neg_whole}
-use Rattle.tetri_simplex.proofs.WeightSigns.{AreWeights}
+use Rattle.tetri_simplex.proofs.WeightSigns.{AreRowWeights}
 use Rattle.tetri_simplex.specs.Relaxation.{IsRelaxedPoint, left_value, objective_value}
 
 -- ---- a product is at most that with the bound taken
@@ -95,7 +95,7 @@ columns_sum rows ws xs =
     ∙ same_sum_over ℚ_ring (λ (w : Weight). dot_from ℚ_ring (λ k. ◌*ℚ◌ (whole_ℚ w.by) (whole_ℚ (coefficient (terms_of rows w.row) k))) 0 xs) (λ (w : Weight). ◌*ℚ◌ (whole_ℚ w.by) (left_value (terms_of rows w.row) xs)) ws
     (λ w. dot_from-mul ℚ_ring (whole_ℚ w.by) (λ k. whole_ℚ (coefficient (terms_of rows w.row) k)) 0 xs ∙ ap (λ z. ◌*ℚ◌ (whole_ℚ w.by) z) (dot_from-left_value (terms_of rows w.row) xs))
 
-rows_bound : (rows : List Row) (ws : List Weight) (xs : List ℚ) → AreWeights (length rows) ws → ((k : ℕ) → k < length rows → left_value (terms_of rows k) xs ≤ℚ whole_ℚ (right_of rows k)) →
+rows_bound : (rows : List Row) (ws : List Weight) (xs : List ℚ) → AreRowWeights (length rows) ws → ((k : ℕ) → k < length rows → left_value (terms_of rows k) xs ≤ℚ whole_ℚ (right_of rows k)) →
     left_values rows ws xs ≤ℚ whole_ℚ (right_sum rows ws)
 rows_bound rows [] xs a m = ≤ℚ_refl zero_ℚ
 rows_bound rows (w ∷ ws) xs a m =
@@ -107,7 +107,7 @@ rows_bound rows (w ∷ ws) xs a m =
     (+ℚ-≤ℚ_both (◌*ℚ◌ B L) (◌*ℚ◌ B R) (left_values rows ws xs) (whole_ℚ (right_sum rows ws))
     (*ℚ-≤ℚ_of_nonnegative B L R (whole_ℚ-≤ℚ (pos 0) w.by a.0.0) (m w.row a.0.1)) (rows_bound rows ws xs a.1 m))
 
-pub relaxed_duality : (p : Program) (b : Bounds) (q : ℤ) (ws : List Weight) (point : List ℚ) → AreWeights (length p.rows.items) ws → IsRelaxedPoint p b point →
+pub relaxed_duality : (p : Program) (b : Bounds) (q : ℤ) (ws : List Weight) (point : List ℚ) → AreRowWeights (length p.rows.items) ws → IsRelaxedPoint p b point →
     ◌*ℚ◌ (whole_ℚ q) (objective_value p point) ≤ℚ whole_ℚ (weighed p b q ws)
 relaxed_duality p b q ws point a m =
     let rows = p.rows.items in

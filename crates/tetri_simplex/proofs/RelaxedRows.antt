@@ -51,7 +51,7 @@ dot_from-left_value ts xs =
     (λ t. dot_from-unit_at ℚ_ring t.column (whole_ℚ t.by) 0 t.column xs (omega arith))
 
 -- at a point of whole numbers
-left_value-whole : (ts : List Term) (xs : List ℤ) → left_value ts (map whole_ℚ xs) ≡ whole_ℚ (left_side ts xs)
+pub left_value-whole : (ts : List Term) (xs : List ℤ) → left_value ts (map whole_ℚ xs) ≡ whole_ℚ (left_side ts xs)
 left_value-whole [] xs = refl
 left_value-whole (t ∷ ts) xs =
     ap (λ z. ◌+ℚ◌ (◌*ℚ◌ (whole_ℚ t.by) z) (left_value ts (map whole_ℚ xs))) (get_or-map whole_ℚ xs t.column (pos 0))

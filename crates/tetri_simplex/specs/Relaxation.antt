@@ -1,5 +1,6 @@
 -- Points of the linear relaxation of a program: a rational number for each column.
 use Rattle.std.specs.Prelude.{◌≡◌, ℕ, ◌<◌, List, length, get_or, map}
+use lib.IntN.{ℤ}
 use Rattle.tetri_algebra.specs.Rational.{ℚ, whole_ℚ}
 use Rattle.tetri_algebra.specs.RationalRing.{ℚ_ring, zero_ℚ, ◌*ℚ◌}
 use Rattle.tetri_algebra.specs.RationalOrder.{◌≤ℚ◌}
@@ -11,6 +12,14 @@ use Rattle.tetri_ip.specs.Points.{Bounds, number_at, terms_of, right_of}
 -- the number of a column, and 0 past the end
 abbrev pub coordinate : List ℚ → ℕ → ℚ
 coordinate point j = get_or point j zero_ℚ
+
+-- a rational number that is a whole one
+abbrev pub IsWhole : ℚ → Type 0
+IsWhole x = x.den ≡ 1
+
+-- the numerators, which are the numbers themselves where these are whole
+abbrev pub numerators : List ℚ → List ℤ
+numerators point = map (λ (x : ℚ). x.num) point
 
 -- the left side of a row at a point
 abbrev pub left_value : List Term → List ℚ → ℚ

@@ -4,6 +4,7 @@ ghost use Rattle.std.specs.Prelude.{◌≡◌, ◌<◌, ◌^◌, ℕ, List, leng
 ghost use lib.IntN.{ℤ};
 ghost use Rattle.tetri_num.specs.declared.places.Kind.TheVariants as kind;
 ghost use Rattle.tetri_ip.specs.declared.programs.Weight.{Weight};
+ghost use Rattle.tetri_ip.specs.ColumnIndex.{IsIndexOf, WeightsAscend};
 ghost use Rattle.tetri_ip.specs.Points.{IsFit, IsInBox, bounds_of};
 ghost use Rattle.tetri_ip.specs.Weighed.{AreOfRows};
 ghost use Rattle.tetri_ip.specs.Forming.{weigh_answer};
@@ -20,7 +21,7 @@ use crate::point::point_of;
 use crate::table::Full;
 use crate::weights::{common_denominator, row_weights, whole_weights};
 use std::alloc::Global;
-use tetri_ip::{Program, Region, WeighFault, Weight, weigh};
+use tetri_ip::{ColumnIndex, Program, Region, WeighFault, Weight, weigh_by};
 use tetri_num::{Frac, Kind, Place};
 
 // Whole weights and the multiplier of the objective.
@@ -31,14 +32,22 @@ struct Weighing {
 }
 
 // The column at which weighing leaves the range.
-fn past_column(p: &Program, r: &Region, q: i128, weights: &[Weight]) -> Option<u32>
+fn past_column(
+    index: &ColumnIndex,
+    p: &Program,
+    r: &Region,
+    q: i128,
+    weights: &[Weight],
+) -> Option<u32>
     requires fit { IsFit p.now }
     requires in_box { IsInBox p.now (bounds_of r.now) }
     requires rows { AreOfRows p.now weights.now }
+    requires ascending { WeightsAscend weights.now }
+    requires index { IsIndexOf p.now index.now }
     ensures { (e : End) → let end = when_weighed (weigh_answer p.now (bounds_of r.now) q weights.now) e in
         MatchOption result (end ≡ e) (λ j. end ≡ past (place_at kind.Weigh 0 j)) }
 {
-    match weigh(p, r, q, weights) {
+    match weigh_by(index, p, r, q, weights) {
         Ok(_) => None,
         Err(WeighFault::Negative(_)) => None,
         Err(WeighFault::Past(column)) => Some(column),
@@ -49,6 +58,7 @@ fn past_column(p: &Program, r: &Region, q: i128, weights: &[Weight]) -> Option<u
 // multiplier, or with 0.
 fn weighted(
     alloc: Global,
+    index: &ColumnIndex,
     p: &Program,
     r: &Region,
     fractions: &[Frac],
@@ -56,6 +66,7 @@ fn weighted(
 ) -> Result<Weighing, Fault>
     requires fit { IsFit p.now }
     requires in_box { IsInBox p.now (bounds_of r.now) }
+    requires index { IsIndexOf p.now index.now }
     requires count { length fractions.now ≡ length p.now.rows.items }
     ensures { (done : ℤ → List Weight → End) →
         let end = weighted_end p.now (bounds_of r.now) (values fractions.now) (λ q. cond has_objective (pos q) (pos 0)) done in
@@ -70,7 +81,7 @@ fn weighted(
         Err(fault) => return Err(fault),
     };
     let q = if has_objective { denominator } else { 0 };
-    match past_column(p, r, q, &weights) {
+    match past_column(index, p, r, q, &weights) {
         None => Ok(Weighing { q, weights }),
         Some(column) => Err(Fault::Past(Place {
             kind: Kind::Weigh,
@@ -82,9 +93,16 @@ fn weighted(
 }
 
 // The weights that the objective's row gives.
-fn objective_weighted(alloc: Global, p: &Program, r: &Region, t: &Full) -> Result<Weighing, Fault>
+fn objective_weighted(
+    alloc: Global,
+    index: &ColumnIndex,
+    p: &Program,
+    r: &Region,
+    t: &Full,
+) -> Result<Weighing, Fault>
     requires fit { IsFit p.now }
     requires in_box { IsInBox p.now (bounds_of r.now) }
+    requires index { IsIndexOf p.now index.now }
     requires table { IsTableOf p.now t.now }
     ensures { (done : ℤ → List Weight → End) →
         let end = weighted_end p.now (bounds_of r.now) (objective_weights p.now (table_of t.now)) pos done in
@@ -94,15 +112,23 @@ fn objective_weighted(alloc: Global, p: &Program, r: &Region, t: &Full) -> Resul
     let none = first + p.rows.len() + first;
     let row = &t.rows[t.basic.len()];
     match row_weights(alloc, &t.nonbasic, row, none, first, &p.rows) {
-        Ok(fractions) => weighted(alloc, p, r, &fractions, true),
+        Ok(fractions) => weighted(alloc, index, p, r, &fractions, true),
         Err(_) => Err(Fault::NoMemory),
     }
 }
 
 // The weights that the row at place i gives.
-fn row_weighted(alloc: Global, p: &Program, r: &Region, t: &Full, i: u32) -> Result<Weighing, Fault>
+fn row_weighted(
+    alloc: Global,
+    index: &ColumnIndex,
+    p: &Program,
+    r: &Region,
+    t: &Full,
+    i: u32,
+) -> Result<Weighing, Fault>
     requires fit { IsFit p.now }
     requires in_box { IsInBox p.now (bounds_of r.now) }
+    requires index { IsIndexOf p.now index.now }
     requires table { IsTableOf p.now t.now }
     requires place { i < length t.now.basic.items }
     ensures { (done : ℤ → List Weight → End) →
@@ -112,29 +138,43 @@ fn row_weighted(alloc: Global, p: &Program, r: &Region, t: &Full, i: u32) -> Res
     let own = t.basic[i as usize];
     let row = &t.rows[i as usize];
     match row_weights(alloc, &t.nonbasic, row, own, p.costs.len(), &p.rows) {
-        Ok(fractions) => weighted(alloc, p, r, &fractions, false),
+        Ok(fractions) => weighted(alloc, index, p, r, &fractions, false),
         Err(_) => Err(Fault::NoMemory),
     }
 }
 
 /// The end where nothing is better than the best objective known.
-pub(crate) fn cut_end(alloc: Global, p: &Program, r: &Region, t: &Full) -> Result<Outcome, Fault>
+pub(crate) fn cut_end(
+    alloc: Global,
+    index: &ColumnIndex,
+    p: &Program,
+    r: &Region,
+    t: &Full,
+) -> Result<Outcome, Fault>
     requires fit { IsFit p.now }
     requires in_box { IsInBox p.now (bounds_of r.now) }
+    requires index { IsIndexOf p.now index.now }
     requires table { IsTableOf p.now t.now }
     ensures { let end = cut_end p.now (bounds_of r.now) (table_of t.now) in
         MatchResult result (λ o. end_of o ≡ end) (λ e. EndsPast e end) }
 {
-    match objective_weighted(alloc, p, r, t) {
+    match objective_weighted(alloc, index, p, r, t) {
         Ok(Weighing { q, weights }) => Ok(Outcome::Cut { q, weights }),
         Err(fault) => Err(fault),
     }
 }
 
 /// The end where no constant is below 0.
-pub(crate) fn best_end(alloc: Global, p: &Program, r: &Region, t: &Full) -> Result<Outcome, Fault>
+pub(crate) fn best_end(
+    alloc: Global,
+    index: &ColumnIndex,
+    p: &Program,
+    r: &Region,
+    t: &Full,
+) -> Result<Outcome, Fault>
     requires fit { IsFit p.now }
     requires in_box { IsInBox p.now (bounds_of r.now) }
+    requires index { IsIndexOf p.now index.now }
     requires table { IsTableOf p.now t.now }
     ensures { let end = best_end p.now (bounds_of r.now) (table_of t.now) in
         MatchResult result (λ o. end_of o ≡ end) (λ e. EndsPast e end) }
@@ -143,7 +183,7 @@ pub(crate) fn best_end(alloc: Global, p: &Program, r: &Region, t: &Full) -> Resu
         Ok(point) => point,
         Err(fault) => return Err(fault),
     };
-    match objective_weighted(alloc, p, r, t) {
+    match objective_weighted(alloc, index, p, r, t) {
         Ok(Weighing { q, weights }) => Ok(Outcome::Best { point, q, weights }),
         Err(fault) => Err(fault),
     }
@@ -152,6 +192,7 @@ pub(crate) fn best_end(alloc: Global, p: &Program, r: &Region, t: &Full) -> Resu
 /// The end where the leaving row at place i has no coefficient above 0.
 pub(crate) fn empty_end(
     alloc: Global,
+    index: &ColumnIndex,
     p: &Program,
     r: &Region,
     t: &Full,
@@ -159,12 +200,13 @@ pub(crate) fn empty_end(
 ) -> Result<Outcome, Fault>
     requires fit { IsFit p.now }
     requires in_box { IsInBox p.now (bounds_of r.now) }
+    requires index { IsIndexOf p.now index.now }
     requires table { IsTableOf p.now t.now }
     requires place { i < length t.now.basic.items }
     ensures { let end = empty_end p.now (bounds_of r.now) (table_of t.now) i in
         MatchResult result (λ o. end_of o ≡ end) (λ e. EndsPast e end) }
 {
-    match row_weighted(alloc, p, r, t, i) {
+    match row_weighted(alloc, index, p, r, t, i) {
         Ok(Weighing { q: _, weights }) => Ok(Outcome::Empty { weights }),
         Err(fault) => Err(fault),
     }

@@ -14,6 +14,6 @@ mod start;
 mod table;
 mod weights;
 
-pub use laws::ends_certify;
+pub use laws::{ends_certify, relaxed_points};
 pub use outcome::Outcome;
-pub use run::dual_run;
+pub use run::{dual_run, dual_run_by};

@@ -2,7 +2,9 @@
 //! tables of exact fractions (Chvátal, Linear Programming, 1983).
 
 ghost use Rattle.std.specs.Prelude.{◌≡◌, ◌+◌, ◌-◌, ◌<◌, length, MatchResult, IfOk, IfSome, IfNone};
+ghost use Rattle.tetri_ip.specs.ColumnIndex.{IsIndexOf};
 ghost use Rattle.tetri_ip.specs.Points.{IsFit, IsInBox, bounds_of};
+ghost use Rattle.tetri_simplex.specs.Certificates.{Certifies};
 ghost use Rattle.tetri_simplex.specs.Ends.{End, is_cut};
 ghost use Rattle.tetri_simplex.specs.Faults.{EndsPast};
 ghost use Rattle.tetri_simplex.specs.Full.{IsShaped, IsTableOf, table_of};
@@ -17,7 +19,7 @@ use crate::outcome::Outcome;
 use crate::start::first_table;
 use crate::table::Full;
 use std::alloc::{AllocError, Global};
-use tetri_ip::{Program, Region};
+use tetri_ip::{ColumnIndex, Program, Region};
 use tetri_num::Place;
 
 // The most pivots of a run.
@@ -54,6 +56,7 @@ fn is_cut(t: &Full, known: u64) -> bool
 
 fn turn(
     alloc: Global,
+    index: &ColumnIndex,
     p: &Program,
     r: &Region,
     known: u64,
@@ -61,20 +64,21 @@ fn turn(
 ) -> Result<Decision, AllocError>
     requires fit { IsFit p.now }
     requires in_box { IsInBox p.now (bounds_of r.now) }
+    requires index { IsIndexOf p.now index.now }
     requires table { IsTableOf p.now t.now }
     ensures formed { IfOk result (λ u. turn_of u ≡ turn p.now (bounds_of r.now) known (table_of t.now)) }
     ensures leaves { IfOk result (λ u. LeavesWithin (length t.now.basic.items) u) }
 {
     if is_cut(t, known) {
-        return ended(cut_end(alloc, p, r, t));
+        return ended(cut_end(alloc, index, p, r, t));
     }
     let Some(i) = t.leaving() else {
-        return ended(best_end(alloc, p, r, t));
+        return ended(best_end(alloc, index, p, r, t));
     };
     if has_positive(&t.rows[i as usize]) {
         Ok(Decision::Leaves(i))
     } else {
-        ended(empty_end(alloc, p, r, t, i))
+        ended(empty_end(alloc, index, p, r, t, i))
     }
 }
 
@@ -96,6 +100,7 @@ fn at_step(outcome: Outcome, step: u32) -> Outcome
 // One step of a run: how it ends, or the next table.
 fn advance(
     alloc: Global,
+    index: &ColumnIndex,
     p: &Program,
     r: &Region,
     known: u64,
@@ -104,12 +109,13 @@ fn advance(
 ) -> Result<Option<Outcome>, AllocError>
     requires fit { IsFit p.now }
     requires in_box { IsInBox p.now (bounds_of r.now) }
+    requires index { IsIndexOf p.now index.now }
     requires table { IsTableOf p.now t.old }
     requires step { step < 10001 }
     ensures ended { IfOk result (λ o. IfSome o (λ x. end_of x ≡ run p.now (bounds_of r.now) known (10000 - step) step (table_of t.old))) }
     ensures goes_on { IfOk result (λ o. IfNone o (GoesOn p.now (bounds_of r.now) known step t.old t.new)) }
 {
-    let i = match turn(alloc, p, r, known, t) {
+    let i = match turn(alloc, index, p, r, known, t) {
         Ok(Decision::Ends(outcome)) => return Ok(Some(at_step(outcome, step))),
         Ok(Decision::Leaves(i)) => i,
         Err(_) => return Err(AllocError),
@@ -124,20 +130,40 @@ fn advance(
     }
 }
 
-/// Runs the dual simplex method over the program's region, with the best objective known, and
-/// says how it ends: the least variable leaves and enters, and at most 10,000 pivots are made.
-pub fn dual_run(alloc: Global, p: &Program, r: &Region, best: u64) -> Result<Outcome, AllocError>
+/// [`dual_run`] with the program's index, which a caller of many runs makes once.
+pub fn dual_run_by(
+    alloc: Global,
+    index: &ColumnIndex,
+    p: &Program,
+    r: &Region,
+    best: u64,
+) -> Result<Outcome, AllocError>
     requires fit { IsFit p.now }
     requires in_box { IsInBox p.now (bounds_of r.now) }
-    ensures { IfOk result (λ o. end_of o ≡ machine p.now (bounds_of r.now) best) }
+    requires index { IsIndexOf p.now index.now }
+    ensures ends { IfOk result (λ o. end_of o ≡ machine p.now (bounds_of r.now) best) }
+    ensures certified { IfOk result (λ o. Certifies p.now (bounds_of r.now) best (end_of o)) }
 {
     let mut table = first_table(alloc, p, r)?;
     let mut step = 0;
     loop {
-        match advance(alloc, p, r, best, step, &mut table) {
+        match advance(alloc, index, p, r, best, step, &mut table) {
             Ok(Some(outcome)) => return Ok(outcome),
             Ok(None) => step += 1,
             Err(_) => return Err(AllocError),
         }
     }
+}
+
+/// Runs the dual simplex method over the program's region, with the best objective known, and
+/// says how it ends: the least variable leaves and enters, and at most 10,000 pivots are made.
+/// The end's weights certify what it says of the region ([`ends_certify`](crate::ends_certify)).
+pub fn dual_run(alloc: Global, p: &Program, r: &Region, best: u64) -> Result<Outcome, AllocError>
+    requires fit { IsFit p.now }
+    requires in_box { IsInBox p.now (bounds_of r.now) }
+    ensures ends { IfOk result (λ o. end_of o ≡ machine p.now (bounds_of r.now) best) }
+    ensures certified { IfOk result (λ o. Certifies p.now (bounds_of r.now) best (end_of o)) }
+{
+    let index = ColumnIndex::new(alloc, p)?;
+    dual_run_by(alloc, &index, p, r, best)
 }

@@ -1,11 +1,12 @@
 use Rattle.std.proofs.Common.{ℕ, ◌+◌, ◌-◌, ap, ◌∙◌, arith}
 use Rattle.tetri_cert.specs.declared.walk.Walk.{Walk}
 use Rattle.tetri_cert.specs.Trees.{places_behind}
-use Rattle.tetri_cert.specs.Walks.{tells}
+use Rattle.tetri_cert.specs.Walks.{tells, tells_nodes}
 use Rattle.tetri_cert.proofs.Steps.{tells_step}
 use Rattle.tetri_cert.proofs.walk.Walk.feed.Goals as goal
 
 pub returns-clause-ok : goal.returns-clause-ok
+unfolding tells tells_nodes
 returns-clause-ok c = λ rest.
     let w = c.args.self.now in
     let v : Walk = record c.visit.new.self { node = w.node + 1 } in

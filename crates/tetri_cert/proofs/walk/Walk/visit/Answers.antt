@@ -2,7 +2,8 @@ use Rattle.std.proofs.Common.{◌≡◌, ℕ, ◌+◌, ◌<◌, ◌∙◌, sym, 
 use Rattle.tetri_ip.specs.Points.{Bounds, bounds_of}
 use Rattle.tetri_cert.specs.Turns.{pending}
 use Rattle.tetri_cert.specs.Walks.{AreInBox, tells_nodes}
-use Rattle.tetri_cert.proofs.Steps.{first_in_box, has_sides, sides_in_box, tells_dead}
+use Rattle.tetri_cert.proofs.RegionLaws.{sides_in_box}
+use Rattle.tetri_cert.proofs.Steps.{first_in_box, has_sides, tells_dead}
 use Rattle.tetri_cert.proofs.walk.Walk.visit.Goals as goal
 
 pub returns-then-not-self-clause-ok : goal.returns-then-not-self-clause-ok
@@ -30,4 +31,5 @@ returns-clause-over c =
       in_box = subst (λ (bs : List Bounds). AreInBox p bs) (sym c.in_ok-self.ensures.next) (sides_in_box p b c.args.mark.now (pending b (reverse w.trail.items)) i.0 s i.1);
       columns = subst (λ (k : ℕ). All (λ t. t.column < k) c.turn_on.new.trail.items) n c.in_ok-self.ensures.columns;
       places = c.requires.over.places;
+      counted = c.requires.over.counted;
     }

@@ -7,7 +7,10 @@ use Rattle.std.proofs.lemmas.List.{length-set}
 use lib.IntN.{ℤ, pos, ◌+ℤ◌}
 use Rattle.tetri_ip.specs.declared.programs.Program.{Program}
 use Rattle.tetri_ip.specs.Points.{Bounds, IsInBox, number_at}
-use Rattle.tetri_cert.specs.NodeBounds.{high_side, low_side}
+use Rattle.tetri_cert.specs.declared.marks.Mark.{Mark}
+use Rattle.tetri_cert.specs.declared.marks.Mark.TheVariants.{Split, Close, Whole, Rest}
+use Rattle.tetri_cert.specs.NodeBounds.{HasSides, high_side, low_side, sides_before}
+use Rattle.tetri_cert.specs.Walks.{AreInBox}
 
 -- a fact of the number at a place, after another one was put at a place
 pub set_keeps : (P : ℤ → Type 0) (xs : List ℤ) (j : ℕ) (v : ℤ) (k : ℕ) → (k ≡ j → P v) → P (number_at xs k) → P (number_at (slice_set xs j v) k)
@@ -46,3 +49,10 @@ low_in_box p b j at i h k = record {
   below = λ m l. set_keeps (λ z. z ≤ℤ number_at p.upper.items m) b.upper j at m
       (λ e. at_below at (number_at b.upper m) (number_at p.upper.items m) (subst (λ n. at <ℤ number_at b.upper n) (sym e) k) (i.below m l)) (i.below m l);
 }
+
+-- where a node has sides, they lie in the box with the other regions
+pub sides_in_box : (p : Program) (b : Bounds) (m : Mark) (bs : List Bounds) → IsInBox p b → HasSides b m → AreInBox p bs → AreInBox p (sides_before b m bs)
+sides_in_box p b (Split j at licence) bs i h r = (high_in_box p b j at i h.1 h.2, (low_in_box p b j at i h.1 h.2, r))
+sides_in_box p b (Close q ws) bs i h r = r
+sides_in_box p b (Whole q ws worth point) bs i h r = r
+sides_in_box p b (Rest q ws) bs i h r = r

@@ -151,7 +151,7 @@ worth_told p b worth cells l u h =
 
 -- ---- one node
 -- what a node says of its region, the trees of a split's sides aside
-abbrev IsSound : Program → Bounds → Mark → Type 0
+abbrev pub IsSound : Program → Bounds → Mark → Type 0
 IsSound p b (Split j at licence) = (j < length p.costs.items) × (number_at b.lower j ≤ℤ at) × (at <ℤ number_at b.upper j)
 IsSound p b (Close q ws) = AreProper p b q ws
 IsSound p b (Whole q ws worth cells) = AreProper p b q ws × IsWorth p b worth cells
@@ -168,7 +168,8 @@ node_is p b node (Whole q ws worth cells) n h =
     ((w.0, worth_is p b worth cells (not_false _ s.0)), w.1 ∙ same_ok _ _ s.1)
 node_is p b node (Rest q ws) n h = weights_are p b node q ws n h
 
-node_told : (p : Program) (b : Bounds) (node : ℕ) (m : Mark) → length b.lower ≡ length p.costs.items → length b.upper ≡ length p.costs.items → IsSound p b m → node_bound p b node m ≡ Ok (end_bound p b m)
+-- a node that is sound bounds its region
+pub node_told : (p : Program) (b : Bounds) (node : ℕ) (m : Mark) → length b.lower ≡ length p.costs.items → length b.upper ≡ length p.costs.items → IsSound p b m → node_bound p b node m ≡ Ok (end_bound p b m)
 unfolding node_bound
 node_told p b node (Split j at licence) l u h = split_told p b node j at h
 node_told p b node (Close q ws) l u h = weights_told_bound p b node q ws h

@@ -2,7 +2,7 @@ use Rattle.std.proofs.Common.{◌≡◌, ◌-◌, ◌<◌}
 use Rattle.tetri_ip.specs.Points.{bounds_of}
 use Rattle.tetri_simplex.specs.Full.{IsTableOf, table_of}
 use Rattle.tetri_simplex.specs.Machine.{run, machine}
-use Rattle.tetri_simplex.proofs.run.dual_run.Given as goal
+use Rattle.tetri_simplex.proofs.run.dual_run_by.Given as goal
 
 abbrev pub invariant-loop-outcome : goal.invariant-loop-outcome
 invariant-loop-outcome l = record {

@@ -1,0 +1,5 @@
+pub mod Table
+pub mod Follow
+pub mod Nodes
+pub mod Laws
+pub mod Views

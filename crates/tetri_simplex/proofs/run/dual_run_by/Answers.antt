@@ -1,0 +1,21 @@
+use Rattle.std.proofs.Common.{◌≡◌, arith, rules, sym, subst}
+use Rattle.tetri_ip.specs.Points.{bounds_of}
+use Rattle.tetri_simplex.specs.Certificates.{Certifies}
+use Rattle.tetri_simplex.specs.Full.{table_of}
+use Rattle.tetri_simplex.specs.Machine.{machine}
+use Rattle.tetri_simplex.specs.Outcomes.{end_of}
+use Rattle.tetri_simplex.proofs.EndFacts.{machine_certified}
+use Rattle.tetri_simplex.proofs.Running.{machine_is}
+use Rattle.tetri_simplex.proofs.run.dual_run_by.Goals as goal
+
+pub loop-outcome-init : goal.loop-outcome-init
+loop-outcome-init c = record {
+  few = omega arith;
+  table = c.in_ok-table.ensures.shape;
+  same = machine_is c.args.p.now (bounds_of c.args.r.now) c.args.best (table_of c.in_ok-table.table) c.in_ok-table.ensures.table;
+}
+
+pub returns-in-Ok-Some-clause-certified : goal.returns-in-Ok-Some-clause-certified
+returns-in-Ok-Some-clause-certified c =
+    let e : end_of c.in-Ok-Some.outcome ≡ machine c.args.p.now (bounds_of c.args.r.now) c.args.best = search rules in
+    subst (λ x. Certifies c.args.p.now (bounds_of c.args.r.now) c.args.best x) (sym e) (machine_certified c.args.p.now (bounds_of c.args.r.now) c.args.best c.requires.in_box)
