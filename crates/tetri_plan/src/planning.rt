@@ -155,7 +155,10 @@ fn bound_on(
         best,
         bound: tops(inst),
         nodes: 0,
-        certificate: Certificate::Tops { columns, rows },
+        certificate: Certificate::Tops {
+            columns: 0,
+            rows: 0,
+        },
     })
 }
 
