@@ -7,7 +7,7 @@ use Rattle.std.proofs.lemmas.List.Elements.{All-contains}
 use Rattle.std.proofs.lemmas.List.FromFn.{get_or-range_with_len, length-map-range_with_len, length-range_with_len}
 use Rattle.tetri_ip.specs.declared.programs.Program.{Program}
 use Rattle.tetri_ip.specs.Points.{IsFit}
-use Rattle.tetri_cert.proofs.ProperLemmas.{bounds_proper_trees}
+use Rattle.tetri_cert.proofs.ProperTreeLaws.{bounds_proper_trees}
 use Rattle.tetri_compile.specs.Flat.{plain, program_of}
 use Rattle.tetri_compile.proofs.ProgramLaws.{compiled_is_fit}
 use Rattle.tetri_assign.specs.Assigned.{assigned}

@@ -24,7 +24,7 @@ better s earlier later = if nat_lt (total_in s earlier) (total_in s later) then 
 -- of an allotment and later ones, the first that is worth most
 abbrev pub first_best : Space → List Grant → List (List Grant) → List Grant
 first_best s best [] = best
-first_best s best (a ∷ as) = first_best s (better s best a) as
+first_best s best (a ∷ later) = first_best s (better s best a) later
 
 -- of no grant, what is carried over, and what of each given allotment earns something, in this order, the first that is worth most
 abbrev pub kept : Space → List Grant → List (List Grant) → List Grant

@@ -22,6 +22,11 @@ planned_of p = record {
   certificate = p.certificate;
 }
 
+-- the certificate is a tree
+abbrev pub HasTree : Certificate → Type 0
+HasTree (Tops columns rows) = ⊥
+HasTree (Tree marks) = Unit {0}
+
 -- a tree has some node that is left open
 abbrev pub leaves_open : Certificate → Bool
 leaves_open (Tops columns rows) = false

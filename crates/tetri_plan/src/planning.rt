@@ -1,14 +1,16 @@
 // The plan of one cycle.
-ghost use Rattle.std.specs.Prelude.{◌≡◌, ◌×◌, ◌⊎◌, ◌<◌, ◌≤◌, ℕ, [], All, AllPairs, IfOk, false, true};
-ghost use Rattle.tetri_cert.specs.Trees.{nodes_in};
+ghost use Rattle.std.specs.Prelude.{◌≡◌, ◌⊎◌, ◌↔◌, ◌<◌, ◌≤◌, [], All, AllPairs, IfOk, IfSome, IsTrue, false, option_map, true};
 ghost use Rattle.tetri_cert.specs.declared.plan_mark.PlanMark.TheVariants as marks;
-ghost use Rattle.tetri_claims.specs.Certified.{MayHaveTree, counted_nodes};
+ghost use Rattle.tetri_claims.specs.Certified.{MayHaveTree};
 ghost use Rattle.tetri_claims.specs.Good.{IsGood};
-ghost use Rattle.tetri_compile.specs.Flat.{column_count, row_count};
+ghost use Rattle.tetri_compile.specs.Flat.{IsCompiled, column_count, row_count};
+ghost use Rattle.tetri_ip.specs.Points.{IsPoint, box_of};
 ghost use Rattle.tetri_plan.specs.Chosen.{IsChosen, better, kept};
-ghost use Rattle.tetri_plan.specs.Plans.{IsPrintableTree, enough_in, leaves_open, planned_of};
+ghost use Rattle.tetri_plan.specs.Plans.{HasTree, IsPrintableTree, enough_in, leaves_open, planned_of};
+ghost use Rattle.tetri_plan.specs.Searched.{IsSearched, better_at, mark_for};
 ghost use Rattle.tetri_space.specs.GrantOrder.{ComesBefore};
 ghost use Rattle.tetri_space.specs.Lawful.{IsLawful};
+ghost use Rattle.tetri_space.specs.Partitions.{ArePartitionsOf, parts_of};
 ghost use Rattle.tetri_space.specs.Sound.{IsSound};
 ghost use Rattle.tetri_space.specs.Space.{space};
 ghost use Rattle.tetri_space.specs.Total.{total_in};
@@ -17,15 +19,14 @@ ghost use Rattle.tetri_space.specs.Trimmed.{IsThriftyForAll};
 use std::alloc::{AllocError, Global};
 use tetri_assign::assign;
 use tetri_cert::{Certificate, PlanMark};
-use tetri_compile::{compile, size};
+use tetri_compile::{Compiled, compile, size};
 use tetri_search::search;
-use tetri_space::{
-    Instance, Partitions, find_partitions, order_grants, tops, total, trim_all,
-};
+use tetri_space::{Instance, Partitions, find_partitions, order_grants, tops, total, trim_all};
 use tetri_strl::{Allotment, copy_grants};
 
 // A tree stands with a plan where the program has at most so many columns and rows.
 const MOST_COLUMNS: u64 = 2000;
+
 const MOST_ROWS: u64 = 2000;
 
 /// The plan of a cycle.
@@ -87,9 +88,11 @@ fn kept(
         grants: Allotment::new(alloc),
         worth: 0,
     };
-    let mut best = better(inst, nothing, copy_grants(alloc, carry)?);
+    let carried = copy_grants(alloc, carry)?;
+    let mut best = better(inst, nothing, carried);
     for a in given {
-        best = better(inst, best, trim_all(alloc, inst, a)?);
+        let trimmed = trim_all(alloc, inst, a)?;
+        best = better(inst, best, trimmed);
     }
     Ok(best)
 }
@@ -104,7 +107,9 @@ struct Searched {
 }
 
 // The mark of a plan.
-fn mark_of(value: u64, bound: u64, certificate: &Certificate) -> PlanMark {
+fn mark_of(value: u64, bound: u64, certificate: &Certificate) -> PlanMark
+    ensures { result ≡ mark_for value bound certificate.now }
+{
     if value == bound {
         return PlanMark::Optimal;
     }
@@ -114,23 +119,62 @@ fn mark_of(value: u64, bound: u64, certificate: &Certificate) -> PlanMark {
     }
 }
 
+// The better of a candidate and the nodes of a search's last whole point, where it has one.
+fn better_at(
+    alloc: Global,
+    inst: &Instance,
+    parts: &Partitions,
+    compiled: &Compiled,
+    best: Candidate,
+    last: &Option<Vec<i128>>,
+) -> Result<Candidate, AllocError>
+    requires sound { IsSound (space inst.now) }
+    requires partitions { ArePartitionsOf (space inst.now) (parts_of parts.now) }
+    requires compiled { IsCompiled (space inst.now) compiled.now }
+    requires worth { best.worth ≡ total_in (space inst.now) best.grants }
+    requires point { IfSome last.now (λ v. IsPoint compiled.now.program (box_of compiled.now.program) v.items) }
+    ensures grants { IfOk result (λ c. c.grants ≡ better_at (space inst.entry.now) best.grants (option_map (λ v. v.items) last.now)) }
+    ensures worth { IfOk result (λ c. c.worth ≡ total_in (space inst.entry.now) c.grants) }
+{
+    match last {
+        Some(point) => {
+            let assigned = assign(alloc, inst, parts, compiled, point)?;
+            let trimmed = trim_all(alloc, inst, &assigned)?;
+            Ok(better(inst, best, trimmed))
+        }
+        None => Ok(best),
+    }
+}
+
+// Whether a tree may stand with a plan of an instance.
+fn may_have_tree(inst: &Instance, parts: &Partitions) -> bool
+    requires sound { IsSound (space inst.now) }
+    requires partitions { ArePartitionsOf (space inst.now) (parts_of parts.now) }
+    ensures { IsTrue result ↔ MayHaveTree (space inst.entry.now) }
+{
+    let (columns, rows) = size(inst, parts);
+    !inst.jobs.is_empty() && columns <= MOST_COLUMNS && rows <= MOST_ROWS
+}
+
 // The search of an instance that may have a tree, and the better of what was kept and the nodes of its last whole point.
 fn search_on(
     alloc: Global,
     inst: &Instance,
     parts: &Partitions,
-    best: Candidate,
+    kept: Candidate,
     budget: u32,
-) -> Result<Searched, AllocError> {
+) -> Result<Searched, AllocError>
+    requires sound { IsSound (space inst.now) }
+    requires partitions { ArePartitionsOf (space inst.now) (parts_of parts.now) }
+    requires tree { MayHaveTree (space inst.now) }
+    requires lawful { IsLawful (space inst.now) kept.grants }
+    requires thrifty { IsThriftyForAll (space inst.now) kept.grants }
+    requires worth { kept.worth ≡ total_in (space inst.now) kept.grants }
+    ensures { IfOk result (IsSearched (space inst.entry.now) kept.grants budget) }
+{
     let compiled = compile(alloc, inst, parts)?;
-    let found = search(alloc, &compiled, best.worth, budget)?;
-    let best = match &found.last {
-        Some(point) => {
-            let assigned = assign(alloc, inst, parts, &compiled, point.as_slice())?;
-            better(inst, best, trim_all(alloc, inst, &assigned)?)
-        }
-        None => best,
-    };
+    let found = search(alloc, &compiled, kept.worth, budget)?;
+    let best = better_at(alloc, inst, parts, &compiled, kept, &found.last)?;
     Ok(Searched {
         best,
         bound: found.bound,
@@ -143,16 +187,21 @@ fn search_on(
 fn bound_on(
     alloc: Global,
     inst: &Instance,
-    best: Candidate,
+    kept: Candidate,
     budget: u32,
-) -> Result<Searched, AllocError> {
+) -> Result<Searched, AllocError>
+    requires sound { IsSound (space inst.now) }
+    requires lawful { IsLawful (space inst.now) kept.grants }
+    requires thrifty { IsThriftyForAll (space inst.now) kept.grants }
+    requires worth { kept.worth ≡ total_in (space inst.now) kept.grants }
+    ensures { IfOk result (IsSearched (space inst.entry.now) kept.grants budget) }
+{
     let parts = find_partitions(alloc, inst)?;
-    let (columns, rows) = size(inst, &parts);
-    if !inst.jobs.is_empty() && columns <= MOST_COLUMNS && rows <= MOST_ROWS {
-        return search_on(alloc, inst, &parts, best, budget);
+    if may_have_tree(inst, &parts) {
+        return search_on(alloc, inst, &parts, kept, budget);
     }
     Ok(Searched {
-        best,
+        best: kept,
         bound: tops(inst),
         nodes: 0,
         certificate: Certificate::Tops {
@@ -181,30 +230,30 @@ pub fn choose(
     ensures good { IfOk result (λ p. IsGood (space inst.entry.now) (total_in (space inst.entry.now) carry.entry.now) (planned_of p)) }
     ensures chosen { IfOk result (λ p. IsChosen (space inst.entry.now) carry.entry.now given.entry.now budget (planned_of p)) }
     ensures low { IfOk result (λ p. p.low ≡ total_in (space inst.entry.now) (kept (space inst.entry.now) carry.entry.now given.entry.now)) }
+    ensures at_least { IfOk result (λ p. p.low ≤ p.value) }
     ensures ordered { IfOk result (λ p. AllPairs ComesBefore p.grants) }
     ensures printable { IfOk result (λ p. IsPrintableTree p.certificate) }
+    ensures tree { IfOk result (λ p. HasTree p.certificate ↔ MayHaveTree (space inst.entry.now)) }
     ensures no_rest { IfOk result (λ p. MayHaveTree (space inst.entry.now) → leaves_open p.certificate ≡ false → p.mark ≡ marks.Optimal) }
     ensures spent { IfOk result (λ p. p.mark ≡ marks.Spent → (p.value < p.bound) × (leaves_open p.certificate ≡ true) × (p.nodes ≡ budget)) }
     ensures wide { IfOk result (λ p. p.mark ≡ marks.Wide → (p.value < p.bound)
         × ((2000 < column_count (space inst.entry.now)) ⊎ (2000 < row_count (space inst.entry.now)))) }
-    ensures enough { MayHaveTree (space inst.now) → enough_in (space inst.now) ≤ budget → IfOk result (λ p. p.mark ≡ marks.Optimal) }
+    ensures enough { MayHaveTree (space inst.entry.now) → enough_in (space inst.entry.now) ≤ budget → IfOk result (λ p. p.mark ≡ marks.Optimal) }
 {
     let kept = kept(alloc, inst, carry, given)?;
     let low = kept.worth;
-    let Searched {
-        best,
-        bound,
-        nodes,
-        certificate,
-    } = bound_on(alloc, inst, kept, budget)?;
-    let mark = mark_of(best.worth, bound, &certificate);
+    let found = bound_on(alloc, inst, kept, budget)?;
+    let value = found.best.worth;
+    let bound = found.bound;
+    let mark = mark_of(value, bound, &found.certificate);
+    let grants = order_grants(found.best.grants)?;
     Ok(Plan {
-        value: best.worth,
+        value,
         bound,
         mark,
-        nodes,
-        grants: order_grants(best.grants)?,
-        certificate,
+        nodes: found.nodes,
+        grants,
+        certificate: found.certificate,
         low,
     })
 }
@@ -225,11 +274,12 @@ pub fn plan_cycle(
     ensures low { IfOk result (λ p. p.low ≡ total_in (space inst.entry.now) carry.entry.now) }
     ensures ordered { IfOk result (λ p. AllPairs ComesBefore p.grants) }
     ensures printable { IfOk result (λ p. IsPrintableTree p.certificate) }
+    ensures tree { IfOk result (λ p. HasTree p.certificate ↔ MayHaveTree (space inst.entry.now)) }
     ensures no_rest { IfOk result (λ p. MayHaveTree (space inst.entry.now) → leaves_open p.certificate ≡ false → p.mark ≡ marks.Optimal) }
     ensures spent { IfOk result (λ p. p.mark ≡ marks.Spent → (p.value < p.bound) × (leaves_open p.certificate ≡ true) × (p.nodes ≡ budget)) }
     ensures wide { IfOk result (λ p. p.mark ≡ marks.Wide → (p.value < p.bound)
         × ((2000 < column_count (space inst.entry.now)) ⊎ (2000 < row_count (space inst.entry.now)))) }
-    ensures enough { MayHaveTree (space inst.now) → enough_in (space inst.now) ≤ budget → IfOk result (λ p. p.mark ≡ marks.Optimal) }
+    ensures enough { MayHaveTree (space inst.entry.now) → enough_in (space inst.entry.now) ≤ budget → IfOk result (λ p. p.mark ≡ marks.Optimal) }
 {
     choose(alloc, inst, carry, &[], budget)
 }
