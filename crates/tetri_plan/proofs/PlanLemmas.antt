@@ -1,8 +1,7 @@
 -- What holds of the plan that a search gives.
-use Rattle.std.proofs.Common.{◌≡◌, ◌⊎◌, ℕ, ◌+◌, ◌<◌, ◌≤◌, ◌==◌, ◌∙◌, refl, sym, ap, subst, arith, inl, inr, List, [], ◌∷◌, length, cond, Bool, true, false, All, AllPairs, true≢false}
-use Rattle.std.specs.Prelude.{◌↔◌, nat_lt, sum_by}
+use Rattle.std.proofs.Common.{◌≡◌, ◌⊎◌, ℕ, ◌+◌, ◌<◌, ◌≤◌, ◌==◌, ◌∙◌, refl, sym, ap, subst, arith, inl, inr, List, [], ◌∷◌, length, cond, Bool, true, false, AllPairs, true≢false}
+use Rattle.std.specs.Prelude.{nat_lt, sum_by}
 use Rattle.std.proofs.lemmas.Bool.{ltb-true, ltb-false}
-use Rattle.std.proofs.lemmas.Bool.Decides.{nat_tests}
 use Rattle.tetri_base.specs.Order.{in_order}
 use Rattle.tetri_base.proofs.ListLaws.{eq_from_test, test_from_eq}
 use Rattle.tetri_cert.specs.declared.certificate.Certificate.{Certificate}
@@ -14,12 +13,12 @@ use Rattle.tetri_space.specs.GrantOrder.{ComesBefore, comes_first}
 use Rattle.tetri_space.specs.Lawful.{IsLawful}
 use Rattle.tetri_space.specs.Sound.{IsSound}
 use Rattle.tetri_space.specs.Space.{Bid, Space}
-use Rattle.tetri_space.specs.Total.{bid_top, tops_in, total_in}
+use Rattle.tetri_space.specs.Total.{bid_top, total_in}
 use Rattle.tetri_space.specs.Trimmed.{IsThriftyForAll}
 use Rattle.tetri_space.proofs.AllotmentLaws.{lawful_in_order, ordered_in_order, thrifty_in_order, total_in_order}
 use Rattle.tetri_compile.specs.Flat.{column_count, row_count}
 use Rattle.tetri_search.proofs.SearchLaws.{rests_spend_the_budget}
-use Rattle.tetri_claims.specs.Certified.{IsBoundOf, IsCertified, IsCutShort, MayHaveTree, counted_nodes}
+use Rattle.tetri_claims.specs.Certified.{IsBoundOf, IsCutShort, MayHaveTree, counted_nodes}
 use Rattle.tetri_claims.specs.Good.{BoundsEveryLawful, IsGood}
 use Rattle.tetri_claims.specs.Planned.{Planned}
 use Rattle.tetri_claims.proofs.CertifiedLemmas.{certificates_bound}
@@ -94,7 +93,7 @@ too_large s none jobs = by_test (nat_lt 2000 (column_count s)) (nat_lt 2000 (row
 
 -- ---- the plan of what a search gave
 -- what is asked of a plan
-pub record Holds (s : Space) (carry : List Grant) (given : List (List Grant)) (budget : ℕ) (p : Planned) : Type 0 where
+pub record IsRightPlan (s : Space) (carry : List Grant) (given : List (List Grant)) (budget : ℕ) (p : Planned) : Type 0 where
   pub good : IsGood s (total_in s carry) p
   pub chosen : IsChosen s carry given budget p
   pub ordered : AllPairs ComesBefore p.grants
@@ -187,5 +186,5 @@ module _ (s : Space) (sound : IsSound s) (carry : List Grant) (given : List (Lis
     grants = in_turn ∙ ap (in_order comes_first) is.grants;
   }
 
-  pub plan_holds : Holds s carry given budget (plan_with mark)
-  plan_holds = record { good = good; chosen = chosen; ordered = ordered; no_rest = no_rest; spent = spent; wide = wide; enough = enough }
+  pub plan_is_right : IsRightPlan s carry given budget (plan_with mark)
+  plan_is_right = record { good = good; chosen = chosen; ordered = ordered; no_rest = no_rest; spent = spent; wide = wide; enough = enough }

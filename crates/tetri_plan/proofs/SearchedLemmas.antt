@@ -1,6 +1,6 @@
 -- What a search says of the best plan.
-use Rattle.std.proofs.Common.{◌≡◌, ℕ, ◌+◌, ◌*◌, ◌≤◌, ◌∙◌, refl, sym, ap, subst, arith, List, [], ◌∷◌, length, map, Bool, true, false, All, Option, Some, None, Result, Ok}
-use Rattle.std.specs.Prelude.{IfSome, MatchOption, option_map, ◌≤ℤ◌}
+use Rattle.std.proofs.Common.{◌≡◌, ℕ, ◌*◌, ◌≤◌, ◌∙◌, refl, sym, ap, subst, arith, List, [], ◌∷◌, length, All, Option, Some, None, Result, Ok}
+use Rattle.std.specs.Prelude.{IfSome, MatchOption, option_map}
 use Rattle.std.specs.Global.{Vec}
 use Rattle.std.proofs.lemmas.Int.{ints}
 use Rattle.std.proofs.lemmas.List.{length-map}
@@ -23,7 +23,7 @@ use Rattle.tetri_space.specs.Total.{tops_in, total_in}
 use Rattle.tetri_space.specs.Trimmed.{IsThriftyForAll, all_trimmed}
 use Rattle.tetri_space.proofs.AllotmentLaws.{total_trimmed}
 use Rattle.tetri_compile.specs.Draft.{draft}
-use Rattle.tetri_compile.specs.Flat.{FlatProgram, FlatRow, column_count, plain, plain_row, program_of, row_count}
+use Rattle.tetri_compile.specs.Flat.{FlatProgram, column_count, plain, plain_row, program_of, row_count}
 use Rattle.tetri_assign.specs.Assigned.{assigned}
 use Rattle.tetri_assign.proofs.Law.{assigned_lawful, assigned_worth}
 use Rattle.tetri_search.specs.Follow.{IsEarned, best_behind, last_whole}
@@ -31,7 +31,7 @@ use Rattle.tetri_search.specs.Laws.{enough, points_in}
 use Rattle.tetri_search.specs.declared.searching.Found.{Found}
 use Rattle.tetri_search.proofs.SearchLaws.{earned_is_proper, enough_leaves_no_rest}
 use Rattle.tetri_claims.specs.Certified.{MayHaveTree}
-use Rattle.tetri_plan.specs.Chosen.{better, better_found}
+use Rattle.tetri_plan.specs.Chosen.{better_found}
 use Rattle.tetri_plan.specs.Plans.{enough_in}
 use Rattle.tetri_plan.specs.Searched.{IsSearched, better_at}
 use Rattle.tetri_plan.specs.declared.planning.Candidate.{Candidate}

@@ -1,12 +1,10 @@
 -- What a plan says, and when a search proves it optimal.
-use Rattle.std.specs.Prelude.{◌≡◌, ℕ, ◌+◌, ◌*◌, ◌≤◌, List, [], ◌∷◌, All, length, unsigned_abs, Bool, false}
-use lib.IntN.{ℤ}
+use Rattle.std.specs.Prelude.{ℕ, ◌*◌, ◌≤◌, All, length, Bool, false}
 use Rattle.tetri_cert.specs.NodeText.{HasShortLists, IsPlain}
 use Rattle.tetri_cert.specs.declared.certificate.Certificate.{Certificate}
 use Rattle.tetri_cert.specs.declared.certificate.Certificate.TheVariants.{Tops, Tree}
-use Rattle.tetri_cert.specs.declared.marks.Mark.{Mark}
 use Rattle.tetri_space.specs.Space.{Space}
-use Rattle.tetri_compile.specs.Flat.{FlatProgram, program_of}
+use Rattle.tetri_compile.specs.Flat.{program_of}
 use Rattle.tetri_search.specs.Laws.{has_rest, points_in}
 use Rattle.tetri_claims.specs.Planned.{Planned}
 use Rattle.tetri_plan.specs.declared.planning.Plan.{Plan}

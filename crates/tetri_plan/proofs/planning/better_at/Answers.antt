@@ -1,4 +1,4 @@
-use Rattle.std.proofs.Common.{◌≡◌, ◌∙◌, List, Option, Some, ap, sym}
+use Rattle.std.proofs.Common.{◌∙◌, Option, ap, sym}
 use Rattle.std.specs.Prelude.{option_map}
 use Rattle.std.specs.Global.{Vec}
 use lib.IntN.{ℤ}

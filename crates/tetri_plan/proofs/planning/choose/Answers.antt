@@ -6,7 +6,7 @@ use Rattle.tetri_space.specs.Total.{total_in}
 use Rattle.tetri_space.specs.Trimmed.{IsThriftyForAll}
 use Rattle.tetri_plan.specs.Searched.{IsSearched}
 use Rattle.tetri_plan.proofs.KeptLemmas.{kept_is_fair}
-use Rattle.tetri_plan.proofs.PlanLemmas.{plan_holds}
+use Rattle.tetri_plan.proofs.PlanLemmas.{plan_is_right}
 use Rattle.tetri_plan.proofs.planning.choose.Goals as goal
 
 pub bound_on-requires-clause-lawful : goal.bound_on-requires-clause-lawful
@@ -28,7 +28,7 @@ returns c =
     let kept_is = c.in_ok-kept.ensures.grants in
     let is = subst (λ (a : List Grant). IsSearched s a c.args.budget found) kept_is c.in_ok-found.ensures in
     let low_is = c.in_ok-kept.ensures.worth ∙ ap (total_in s) kept_is in
-    let holds = plan_holds s c.requires.sound c.args.carry.now c.args.given.now c.args.budget found is c.mark_of-mark.result c.mark_of-mark.ensures c.in_ok-grants.grants c.in_ok-grants.ensures in
+    let holds = plan_is_right s c.requires.sound c.args.carry.now c.args.given.now c.args.budget found is c.mark_of-mark.result c.mark_of-mark.ensures c.in_ok-grants.grants c.in_ok-grants.ensures in
     record {
       good = holds.good;
       chosen = holds.chosen;
