@@ -1,0 +1,4 @@
+mod Examples
+pub mod ExpiryLemmas
+pub mod OfferLemmas
+pub mod OptionLemmas
