@@ -89,7 +89,7 @@ module _ (a : Ask) (arrival : ℕ) (sound : IsSoundAsk a) where
   test_from_expired now h = test_from_idle (options_at a arrival now) (each_of IsIdle (options_at a arrival now) (h now (omega arith)))
 
 -- ---- the leaves of an offer
-offer_leaves : (ls : List Leaf) (t : Tree) → one_of (map one ls) ≡ Some t → leaves t ≡ ls
+pub offer_leaves : (ls : List Leaf) (t : Tree) → one_of (map one ls) ≡ Some t → leaves t ≡ ls
 offer_leaves [] t e = absurd (cc)
 offer_leaves (l ∷ []) t e = let same : one l ≡ t = cc in sym (ap leaves same)
 offer_leaves (l ∷ m ∷ ls) t e = ap leaves (sym (some_same _ t e)) ∙ leaves_of_row (l ∷ m ∷ ls)

@@ -2,3 +2,4 @@ mod Examples
 pub mod ExpiryLemmas
 pub mod OfferLemmas
 pub mod OptionLemmas
+pub mod ThriftLemmas

@@ -26,7 +26,7 @@ pub leaves_of_row : (ls : List Leaf) → leaves_of (row (map one ls)) ≡ ls
 leaves_of_row [] = refl
 leaves_of_row (l ∷ ls) = ap (λ (ms : List Leaf). l ∷ ms) (leaves_of_row ls)
 
-numbers_of_row : (ls : List Leaf) → numbers_of (row (map one ls)) ≡ map (λ l. l.num) ls
+pub numbers_of_row : (ls : List Leaf) → numbers_of (row (map one ls)) ≡ map (λ l. l.num) ls
 numbers_of_row [] = refl
 numbers_of_row (l ∷ ls) = ap (λ (ns : List ℕ). l.num ∷ ns) (numbers_of_row ls)
 
@@ -59,7 +59,7 @@ pub all_of : {X : Type 0} (P : X → Type 0) (xs : List X) → Each P xs → All
 all_of P [] h = All-nil P
 all_of P (x ∷ xs) h = All-cons P x xs h.0 (all_of P xs h.1)
 
-pairs_of : {X : Type 0} (R : X → X → Type 0) (xs : List X) → EachPair R xs → AllPairs R xs
+pub pairs_of : {X : Type 0} (R : X → X → Type 0) (xs : List X) → EachPair R xs → AllPairs R xs
 pairs_of R [] h = λ i j d lt short. absurd (omega arith)
 pairs_of R (x ∷ xs) h = AllPairs-cons R x xs (all_of (R x) xs h.0) (pairs_of R xs h.1)
 

@@ -2,7 +2,8 @@
 use Rattle.std.specs.Prelude.{◌≡◌, ◌⊎◌, ℕ, ◌+◌, ◌-◌, ◌*◌, ◌/◌, ◌<◌, ◌≤◌, ◌==◌, Bool, nat_le, if◌then◌else◌, List, [], ◌∷◌, ◌++◌, map, flat_map, All, Contains, Option, Some, None, IfSome, IsSomeAnd}
 use Rattle.std.specs.List.{list_all, range_with_len}
 use Rattle.tetri_strl.specs.declared.expr.Leaf.{Leaf}
-use Rattle.tetri_strl.specs.Tree.{greatest, Tree, one, join, row, leaves}
+use Rattle.tetri_strl.specs.Tree.{greatest, Tree, one, join, row, leaves, numbers}
+use Rattle.tetri_strl.specs.Thrifty.{IsThrifty}
 use Rattle.tetri_strl.specs.WellMade.{PEAK}
 use Rattle.tetri_request.specs.declared.ask.Ask.{Ask}
 use Rattle.tetri_request.specs.declared.ask.Class.{Class}
@@ -109,3 +110,11 @@ OffersUntilExpired a arrival = (now window : ℕ) → arrival ≤ now → 1 ≤ 
 abbrev pub EarnsNothingExpired : Ask → ℕ → Type 0
 EarnsNothingExpired a arrival = (now later window : ℕ) (t : Tree) → HasExpired a arrival now → now ≤ later →
     offer a arrival later window ≡ Some t → All (λ l. l.v ≡ 0) (leaves t)
+
+-- grants that are thrifty for an offer are so for another one, where they hold no leaf of it alone
+abbrev pub KeepsThrift : Ask → ℕ → Type 0
+KeepsThrift a arrival = (now later window longer : ℕ) (t u : Tree) (value : Leaf → ℕ) (held : List ℕ) →
+    arrival ≤ now → arrival ≤ later → later ≤ 10000 → longer ≤ 64 →
+    offer a arrival now window ≡ Some t → offer a arrival later longer ≡ Some u →
+    ((n : ℕ) → Contains held n → Contains (numbers u) n → Contains (numbers t) n) →
+    IsThrifty value held t → IsThrifty value held u
