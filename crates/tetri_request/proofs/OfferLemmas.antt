@@ -1,10 +1,8 @@
 -- What an offer is, and what keeps from cycle to cycle.
-use Rattle.std.proofs.Common.{◌≡◌, ◌⊎◌, ◌↔◌, ℕ, zero, suc, ◌+◌, ◌-◌, ◌*◌, ◌≤◌, ◌<◌, ◌==◌, Bool, true, false, cond, IsTrue, List, [], ◌∷◌, ◌++◌, length, get_or, map, max, All, AllPairs, Contains, Option, Some, None, refl, sym, ap, ◌∙◌, subst, arith, inl, inr, le_trans, ◌≢◌}
-use Rattle.std.specs.Prelude.{nat_le, flat_map, IfSome, IsSome}
-use Rattle.std.specs.List.{range_with_len, list_all}
+use Rattle.std.proofs.Common.{◌≡◌, ℕ, zero, suc, ◌+◌, ◌-◌, ◌*◌, ◌≤◌, ◌<◌, Bool, true, false, cond, List, [], ◌∷◌, ◌++◌, length, map, All, AllPairs, Option, Some, None, refl, sym, ap, ◌∙◌, subst, arith, ◌≢◌}
+use Rattle.std.specs.Prelude.{nat_le, IfSome}
 use Rattle.std.specs.List.Sorted.{IsStrictlyIncreasing}
 use Rattle.std.specs.Option.{option_map}
-use Rattle.std.proofs.lemmas.Bool.Decides.{nat_tests}
 use Rattle.std.proofs.lemmas.List.{append_assoc, append-nil, length-append, map-append}
 use Rattle.std.proofs.lemmas.List.Elements.{All-nil, All-cons}
 use Rattle.std.proofs.lemmas.List.Kept.{AllPairs-cons}
@@ -12,10 +10,10 @@ use Rattle.tetri_base.specs.Lists.{Each, EachPair}
 use Rattle.tetri_base.proofs.ListLaws.{Each-map, Each-append, Each-across, EachPair-append}
 use Rattle.tetri_strl.specs.declared.expr.Leaf.{Leaf}
 use Rattle.tetri_strl.specs.declared.expr.Expr.{Expr}
-use Rattle.tetri_strl.specs.Aligned.{EachLeaf, EachLeafOf, IsAligned, AreAligned}
-use Rattle.tetri_strl.specs.Tree.{greatest, Tree, one, join, Trees, none, more, row, tree, leaves, leaves_of, numbers, numbers_of}
+use Rattle.tetri_strl.specs.Aligned.{EachLeaf, EachLeafOf, AreAligned}
+use Rattle.tetri_strl.specs.Tree.{Tree, one, row, tree, leaves_of, numbers, numbers_of}
 use Rattle.tetri_strl.specs.Worth.{greatest_of}
-use Rattle.tetri_strl.specs.WellMade.{IsGoodLeaf, IsSound, AreSound, IsWellMade, PEAK, peaks, depth_of}
+use Rattle.tetri_strl.specs.WellMade.{IsGoodLeaf, AreSound, IsWellMade, PEAK, peaks, depth_of}
 use Rattle.tetri_request.specs.declared.ask.Ask.{Ask}
 use Rattle.tetri_request.specs.declared.ask.Prefer.{Prefer}
 use Rattle.tetri_request.specs.Options.{IsSoundAsk, IsSetOf, end_of, option_leaf, option_on, preferred, options_at, options_between, one_of, offer}

@@ -1,5 +1,5 @@
 -- Grants that are thrifty for an offer are so for another offer of the ask.
-use Rattle.std.proofs.Common.{◌≡◌, ◌⊎◌, ℕ, zero, suc, ◌+◌, ◌≤◌, ◌<◌, ◌==◌, Bool, true, false, List, [], ◌∷◌, ◌++◌, length, get_or, map, AllPairs, Contains, Option, Some, None, refl, sym, ap, ◌∙◌, subst, arith, inl, inr, le_trans}
+use Rattle.std.proofs.Common.{◌≡◌, ◌⊎◌, ℕ, zero, suc, ◌≤◌, ◌<◌, ◌==◌, Bool, true, false, List, [], ◌∷◌, length, get_or, map, Contains, Some, refl, sym, ap, ◌∙◌, subst, arith, inl, inr}
 use Rattle.std.specs.List.{list_any}
 use Rattle.std.proofs.lemmas.Bool.{cases_order}
 use Rattle.std.proofs.lemmas.List.{get_or_default, length-map}
@@ -9,12 +9,12 @@ use Rattle.tetri_base.specs.Lists.{Each, EachPair}
 use Rattle.tetri_base.proofs.ListLaws.{EachPair-with, Each-all, Each-at, Each-from, Each-map, any_from, eq_from_test, test_from_eq}
 use Rattle.tetri_strl.specs.declared.expr.Leaf.{Leaf}
 use Rattle.tetri_strl.specs.Thrifty.{AreThrifty, AtMostOne, IsBare, IsThrifty}
-use Rattle.tetri_strl.specs.Tree.{greatest, Tree, one, join, row, leaves, numbers, numbers_of}
+use Rattle.tetri_strl.specs.Tree.{greatest, Tree, one, join, row, numbers, numbers_of}
 use Rattle.tetri_strl.specs.Worth.{greatest_of, worths_by}
 use Rattle.tetri_strl.proofs.ExprLaws.{the_one}
 use Rattle.tetri_request.specs.declared.ask.Ask.{Ask}
 use Rattle.tetri_request.specs.Options.{IsSoundAsk, KeepsThrift, offer, one_of, options_between}
-use Rattle.tetri_request.proofs.OfferLemmas.{IsBefore, between_rises, leaves_of_row, numbers_of_row, pairs_of}
+use Rattle.tetri_request.proofs.OfferLemmas.{IsBefore, between_rises, numbers_of_row, pairs_of}
 use Rattle.tetri_request.proofs.ExpiryLemmas.{offer_leaves, one_leaf_by_number}
 
 -- ---- numbers of leaves
