@@ -10,7 +10,8 @@ use Rattle.tetri_strl.specs.declared.expr.Leaf.{Leaf}
 use Rattle.tetri_strl.specs.Tree.{Tree, one, leaves}
 use Rattle.tetri_request.specs.declared.ask.Ask.{Ask}
 use Rattle.tetri_request.specs.declared.ask.Prefer.{Prefer}
-use Rattle.tetri_request.specs.Options.{HasExpired, EarnsNothingExpired, HasOneLeafByNumber, IsSoundAsk, OffersUntilExpired, end_of, has_expired, offer, one_of, option_leaf, option_on, options_at, options_between, preferred}
+use Rattle.tetri_request.specs.Cycles.{EarnsNothingExpired, HasOneLeafByNumber, OffersUntilExpired}
+use Rattle.tetri_request.specs.Options.{HasExpired, IsSoundAsk, end_of, has_expired, offer, one_of, option_leaf, option_on, options_at, options_between, preferred}
 use Rattle.tetri_request.proofs.OptionLemmas.{worth_falls}
 use Rattle.tetri_request.proofs.OfferLemmas.{all_of, leaves_of_row}
 

@@ -1,3 +1,4 @@
+pub mod AskLaws
 mod Examples
 pub mod ExpiryLemmas
 pub mod OfferLemmas

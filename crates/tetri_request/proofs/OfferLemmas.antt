@@ -210,7 +210,8 @@ module _ (a : Ask) (arrival : ℕ) where
         ascending = subst IsStrictlyIncreasing (sym (numbers_of_row (l ∷ m ∷ ls))) (rising (map (λ (l : Leaf). l.num) (l ∷ m ∷ ls)) (numbers_rise (l ∷ m ∷ ls) rises));
       }
 
-  offer_is : (now window : ℕ) → IsSoundAsk a → arrival ≤ now → now ≤ 10000 → window ≤ 64 → IfSome (offer a arrival now window) IsOffer
+  -- what holds of an offer that is there
+  pub offer_is : (now window : ℕ) → IsSoundAsk a → arrival ≤ now → now ≤ 10000 → window ≤ 64 → IfSome (offer a arrival now window) IsOffer
   offer_is now window sound arrived early few =
       let short = between_short now window in
       one_of_are (options_between a arrival now window) (parts_are sound now window arrived (omega arith)) (between_rises sound now window arrived (omega arith)) (omega (arith, short))

@@ -13,7 +13,8 @@ use Rattle.tetri_strl.specs.Tree.{greatest, Tree, one, join, row, numbers, numbe
 use Rattle.tetri_strl.specs.Worth.{greatest_of, worths_by}
 use Rattle.tetri_strl.proofs.ExprLaws.{the_one}
 use Rattle.tetri_request.specs.declared.ask.Ask.{Ask}
-use Rattle.tetri_request.specs.Options.{IsSoundAsk, KeepsThrift, offer, one_of, options_between}
+use Rattle.tetri_request.specs.Cycles.{KeepsThrift}
+use Rattle.tetri_request.specs.Options.{IsSoundAsk, offer, one_of, options_between}
 use Rattle.tetri_request.proofs.OfferLemmas.{IsBefore, between_rises, numbers_of_row, pairs_of}
 use Rattle.tetri_request.proofs.ExpiryLemmas.{offer_leaves, one_leaf_by_number}
 
@@ -34,7 +35,7 @@ from_numbers ls n at = number_at ls n at.0 at.1 at.2
 to_numbers : (ls : List Leaf) (l : Leaf) → Contains ls l → Contains (map (λ (k : Leaf). k.num) ls) l.num
 to_numbers ls l at = (at.0, omega (arith, at.1, length-map ls (λ (k : Leaf). k.num)), get_or-map (λ (k : Leaf). k.num) ls at.0 l ∙ ap (λ (k : Leaf). k.num) at.2)
 
-offer_numbers : (ls : List Leaf) (t : Tree) → one_of (map one ls) ≡ Some t → numbers t ≡ map (λ l. l.num) ls
+pub offer_numbers : (ls : List Leaf) (t : Tree) → one_of (map one ls) ≡ Some t → numbers t ≡ map (λ l. l.num) ls
 offer_numbers [] t e = absurd (cc)
 offer_numbers (l ∷ []) t e = let same : one l ≡ t = cc in sym (ap numbers same)
 offer_numbers (l ∷ m ∷ ls) t e = ap numbers (sym (some_same _ t e)) ∙ numbers_of_row (l ∷ m ∷ ls)

@@ -1,5 +1,6 @@
 // Laws of asks.
-ghost use Rattle.tetri_request.specs.Options.{EarnsNothingExpired, HasOneLeafByNumber, IsSoundAsk, KeepsThrift, OffersUntilExpired};
+ghost use Rattle.tetri_request.specs.Cycles.{EarnsNothingExpired, HasOneLeafByNumber, KeepsThrift, OffersUntilExpired};
+ghost use Rattle.tetri_request.specs.Options.{IsSoundAsk};
 
 use crate::ask::Ask;
 
