@@ -1,5 +1,5 @@
 -- Asks worked by hand.
-use Rattle.std.proofs.Common.{◌≡◌, ℕ, true, false, List, [], ◌∷◌, map, Some, None, refl}
+use Rattle.std.proofs.Common.{◌≡◌, ℕ, true, false, [], ◌∷◌, map, Some, None, refl}
 use Rattle.tetri_strl.specs.declared.expr.Leaf.{Leaf}
 use Rattle.tetri_strl.specs.Tree.{greatest, one, join, row}
 use Rattle.tetri_request.specs.declared.ask.Ask.{Ask}

@@ -1,5 +1,5 @@
 -- When an ask has expired, and which leaves its offers have.
-use Rattle.std.proofs.Common.{◌≡◌, ◌⊎◌, ◌↔◌, ℕ, zero, suc, ◌+◌, ◌-◌, ◌*◌, ◌≤◌, ◌<◌, ◌==◌, ◌&&◌, Bool, true, false, cond, IsTrue, List, [], ◌∷◌, ◌++◌, map, All, Contains, Option, Some, None, refl, sym, ap, ◌∙◌, subst, arith, inl, inr, le_trans}
+use Rattle.std.proofs.Common.{◌≡◌, ◌⊎◌, ℕ, zero, suc, ◌+◌, ◌-◌, ◌*◌, ◌≤◌, ◌<◌, ◌==◌, ◌&&◌, Bool, true, false, cond, List, [], ◌∷◌, ◌++◌, map, All, Contains, Option, Some, None, refl, sym, ap, ◌∙◌, subst, arith, inl, inr}
 use Rattle.std.specs.Prelude.{nat_le}
 use Rattle.std.specs.List.{list_all}
 use Rattle.std.proofs.lemmas.Bool.Decides.{nat_tests}
@@ -10,7 +10,8 @@ use Rattle.tetri_strl.specs.declared.expr.Leaf.{Leaf}
 use Rattle.tetri_strl.specs.Tree.{Tree, one, leaves}
 use Rattle.tetri_request.specs.declared.ask.Ask.{Ask}
 use Rattle.tetri_request.specs.declared.ask.Prefer.{Prefer}
-use Rattle.tetri_request.specs.Options.{HasExpired, EarnsNothingExpired, HasOneLeafByNumber, IsSoundAsk, OffersUntilExpired, end_of, has_expired, offer, one_of, option_leaf, option_on, option_worth, options_at, options_between, preferred}
+use Rattle.tetri_request.specs.Cycles.{EarnsNothingExpired, HasOneLeafByNumber, OffersUntilExpired}
+use Rattle.tetri_request.specs.Options.{HasExpired, IsSoundAsk, end_of, has_expired, offer, one_of, option_leaf, option_on, options_at, options_between, preferred}
 use Rattle.tetri_request.proofs.OptionLemmas.{worth_falls}
 use Rattle.tetri_request.proofs.OfferLemmas.{all_of, leaves_of_row}
 
@@ -89,7 +90,7 @@ module _ (a : Ask) (arrival : ℕ) (sound : IsSoundAsk a) where
   test_from_expired now h = test_from_idle (options_at a arrival now) (each_of IsIdle (options_at a arrival now) (h now (omega arith)))
 
 -- ---- the leaves of an offer
-offer_leaves : (ls : List Leaf) (t : Tree) → one_of (map one ls) ≡ Some t → leaves t ≡ ls
+pub offer_leaves : (ls : List Leaf) (t : Tree) → one_of (map one ls) ≡ Some t → leaves t ≡ ls
 offer_leaves [] t e = absurd (cc)
 offer_leaves (l ∷ []) t e = let same : one l ≡ t = cc in sym (ap leaves same)
 offer_leaves (l ∷ m ∷ ls) t e = ap leaves (sym (some_same _ t e)) ∙ leaves_of_row (l ∷ m ∷ ls)

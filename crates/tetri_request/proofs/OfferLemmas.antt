@@ -1,10 +1,8 @@
 -- What an offer is, and what keeps from cycle to cycle.
-use Rattle.std.proofs.Common.{◌≡◌, ◌⊎◌, ◌↔◌, ℕ, zero, suc, ◌+◌, ◌-◌, ◌*◌, ◌≤◌, ◌<◌, ◌==◌, Bool, true, false, cond, IsTrue, List, [], ◌∷◌, ◌++◌, length, get_or, map, max, All, AllPairs, Contains, Option, Some, None, refl, sym, ap, ◌∙◌, subst, arith, inl, inr, le_trans, ◌≢◌}
-use Rattle.std.specs.Prelude.{nat_le, flat_map, IfSome, IsSome}
-use Rattle.std.specs.List.{range_with_len, list_all}
+use Rattle.std.proofs.Common.{◌≡◌, ℕ, zero, suc, ◌+◌, ◌-◌, ◌*◌, ◌≤◌, ◌<◌, Bool, true, false, cond, List, [], ◌∷◌, ◌++◌, length, map, All, AllPairs, Option, Some, None, refl, sym, ap, ◌∙◌, subst, arith, ◌≢◌}
+use Rattle.std.specs.Prelude.{nat_le, IfSome}
 use Rattle.std.specs.List.Sorted.{IsStrictlyIncreasing}
 use Rattle.std.specs.Option.{option_map}
-use Rattle.std.proofs.lemmas.Bool.Decides.{nat_tests}
 use Rattle.std.proofs.lemmas.List.{append_assoc, append-nil, length-append, map-append}
 use Rattle.std.proofs.lemmas.List.Elements.{All-nil, All-cons}
 use Rattle.std.proofs.lemmas.List.Kept.{AllPairs-cons}
@@ -12,10 +10,10 @@ use Rattle.tetri_base.specs.Lists.{Each, EachPair}
 use Rattle.tetri_base.proofs.ListLaws.{Each-map, Each-append, Each-across, EachPair-append}
 use Rattle.tetri_strl.specs.declared.expr.Leaf.{Leaf}
 use Rattle.tetri_strl.specs.declared.expr.Expr.{Expr}
-use Rattle.tetri_strl.specs.Aligned.{EachLeaf, EachLeafOf, IsAligned, AreAligned}
-use Rattle.tetri_strl.specs.Tree.{greatest, Tree, one, join, Trees, none, more, row, tree, leaves, leaves_of, numbers, numbers_of}
+use Rattle.tetri_strl.specs.Aligned.{EachLeaf, EachLeafOf, AreAligned}
+use Rattle.tetri_strl.specs.Tree.{Tree, one, row, tree, leaves_of, numbers, numbers_of}
 use Rattle.tetri_strl.specs.Worth.{greatest_of}
-use Rattle.tetri_strl.specs.WellMade.{IsGoodLeaf, IsSound, AreSound, IsWellMade, PEAK, peaks, depth_of}
+use Rattle.tetri_strl.specs.WellMade.{IsGoodLeaf, AreSound, IsWellMade, PEAK, peaks, depth_of}
 use Rattle.tetri_request.specs.declared.ask.Ask.{Ask}
 use Rattle.tetri_request.specs.declared.ask.Prefer.{Prefer}
 use Rattle.tetri_request.specs.Options.{IsSoundAsk, IsSetOf, end_of, option_leaf, option_on, preferred, options_at, options_between, one_of, offer}
@@ -26,7 +24,7 @@ pub leaves_of_row : (ls : List Leaf) → leaves_of (row (map one ls)) ≡ ls
 leaves_of_row [] = refl
 leaves_of_row (l ∷ ls) = ap (λ (ms : List Leaf). l ∷ ms) (leaves_of_row ls)
 
-numbers_of_row : (ls : List Leaf) → numbers_of (row (map one ls)) ≡ map (λ l. l.num) ls
+pub numbers_of_row : (ls : List Leaf) → numbers_of (row (map one ls)) ≡ map (λ l. l.num) ls
 numbers_of_row [] = refl
 numbers_of_row (l ∷ ls) = ap (λ (ns : List ℕ). l.num ∷ ns) (numbers_of_row ls)
 
@@ -59,7 +57,7 @@ pub all_of : {X : Type 0} (P : X → Type 0) (xs : List X) → Each P xs → All
 all_of P [] h = All-nil P
 all_of P (x ∷ xs) h = All-cons P x xs h.0 (all_of P xs h.1)
 
-pairs_of : {X : Type 0} (R : X → X → Type 0) (xs : List X) → EachPair R xs → AllPairs R xs
+pub pairs_of : {X : Type 0} (R : X → X → Type 0) (xs : List X) → EachPair R xs → AllPairs R xs
 pairs_of R [] h = λ i j d lt short. absurd (omega arith)
 pairs_of R (x ∷ xs) h = AllPairs-cons R x xs (all_of (R x) xs h.0) (pairs_of R xs h.1)
 
@@ -212,7 +210,8 @@ module _ (a : Ask) (arrival : ℕ) where
         ascending = subst IsStrictlyIncreasing (sym (numbers_of_row (l ∷ m ∷ ls))) (rising (map (λ (l : Leaf). l.num) (l ∷ m ∷ ls)) (numbers_rise (l ∷ m ∷ ls) rises));
       }
 
-  offer_is : (now window : ℕ) → IsSoundAsk a → arrival ≤ now → now ≤ 10000 → window ≤ 64 → IfSome (offer a arrival now window) IsOffer
+  -- what holds of an offer that is there
+  pub offer_is : (now window : ℕ) → IsSoundAsk a → arrival ≤ now → now ≤ 10000 → window ≤ 64 → IfSome (offer a arrival now window) IsOffer
   offer_is now window sound arrived early few =
       let short = between_short now window in
       one_of_are (options_between a arrival now window) (parts_are sound now window arrived (omega arith)) (between_rises sound now window arrived (omega arith)) (omega (arith, short))

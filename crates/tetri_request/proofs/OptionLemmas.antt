@@ -1,19 +1,18 @@
 -- What each option of an ask is.
-use Rattle.std.proofs.Common.{◌≡◌, ◌⊎◌, ℕ, zero, suc, ◌+◌, ◌-◌, ◌*◌, ◌/◌, ◌%◌, ◌≤◌, ◌<◌, Bool, true, false, cond, IsTrue, List, [], ◌∷◌, ◌++◌, length, map, Option, Some, None, refl, sym, ap, ◌∙◌, subst, arith, inl, inr, le_trans}
-use Rattle.std.specs.Prelude.{nat_le, flat_map, IfSome, IsSomeAnd}
-use Rattle.std.specs.List.{range_with_len}
+use Rattle.std.proofs.Common.{◌≡◌, ℕ, ◌+◌, ◌-◌, ◌*◌, ◌/◌, ◌%◌, ◌≤◌, ◌<◌, Bool, true, false, cond, IsTrue, [], ◌∷◌, Option, Some, None, refl, subst, arith, inl, inr, le_trans}
+use Rattle.std.specs.Prelude.{nat_le, IfSome, IsSomeAnd}
 use Rattle.std.proofs.Math.Nat.{div-le_of_le-mul, div-mul-le_self, mul-le-mul_left, mul-le-mul_right, mul-mod_left, mul_comm}
 use Rattle.std.proofs.lemmas.Nat.{le-div}
 use Rattle.std.proofs.lemmas.Bool.Decides.{nat_tests}
-use Rattle.tetri_base.specs.Lists.{Each, EachPair}
-use Rattle.tetri_base.proofs.ListLaws.{Each-map, Each-append, Each-across, EachPair-append}
+use Rattle.tetri_base.specs.Lists.{Each}
+use Rattle.tetri_base.proofs.ListLaws.{Each-append}
 use Rattle.tetri_strl.specs.declared.expr.Leaf.{Leaf}
 use Rattle.tetri_strl.specs.WellMade.{IsGoodLeaf, PEAK}
 use Rattle.tetri_request.specs.declared.ask.Ask.{Ask}
 use Rattle.tetri_request.specs.declared.ask.Class.{Class}
 use Rattle.tetri_request.specs.declared.ask.Class.TheVariants.{Steady, Decay}
 use Rattle.tetri_request.specs.declared.ask.Prefer.{Prefer}
-use Rattle.tetri_request.specs.Options.{IsSoundAsk, IsSoundPrefer, IsSetOf, end_of, class_worth, option_worth, option_on, preferred, options_at, options_between}
+use Rattle.tetri_request.specs.Options.{IsSoundAsk, IsSoundPrefer, IsSetOf, end_of, class_worth, option_worth, option_on, preferred, options_at}
 
 -- ---- worths
 pub div_le_div : (m n k : ℕ) → 0 < k → m ≤ n → m / k ≤ n / k

@@ -1,8 +1,8 @@
 -- What an ask offers: a leaf for each start and each set on which it can end in time.
-use Rattle.std.specs.Prelude.{◌≡◌, ◌⊎◌, ℕ, ◌+◌, ◌-◌, ◌*◌, ◌/◌, ◌<◌, ◌≤◌, ◌==◌, Bool, nat_le, if◌then◌else◌, List, [], ◌∷◌, ◌++◌, map, flat_map, All, Contains, Option, Some, None, IfSome, IsSomeAnd}
+use Rattle.std.specs.Prelude.{◌≡◌, ◌⊎◌, ℕ, ◌+◌, ◌-◌, ◌*◌, ◌/◌, ◌≤◌, ◌==◌, Bool, nat_le, if◌then◌else◌, List, [], ◌∷◌, ◌++◌, map, flat_map, All, Option, Some, None, IfSome, IsSomeAnd}
 use Rattle.std.specs.List.{list_all, range_with_len}
 use Rattle.tetri_strl.specs.declared.expr.Leaf.{Leaf}
-use Rattle.tetri_strl.specs.Tree.{greatest, Tree, one, join, row, leaves}
+use Rattle.tetri_strl.specs.Tree.{greatest, Tree, one, join, row}
 use Rattle.tetri_strl.specs.WellMade.{PEAK}
 use Rattle.tetri_request.specs.declared.ask.Ask.{Ask}
 use Rattle.tetri_request.specs.declared.ask.Class.{Class}
@@ -86,12 +86,6 @@ one_of (t ∷ u ∷ ts) = Some (join greatest (row (t ∷ u ∷ ts)))
 abbrev pub offer : Ask → ℕ → ℕ → ℕ → Option Tree
 offer a arrival now window = one_of (map one (options_between a arrival now window))
 
--- in all offers of the ask a number names the same leaf
-abbrev pub HasOneLeafByNumber : Ask → ℕ → Type 0
-HasOneLeafByNumber a arrival = (now later window longer : ℕ) (t u : Tree) (l m : Leaf) → arrival ≤ now → arrival ≤ later →
-    offer a arrival now window ≡ Some t → offer a arrival later longer ≡ Some u →
-    Contains (leaves t) l → Contains (leaves u) m → l.num ≡ m.num → l ≡ m
-
 -- no option that starts now or later is worth more than 0
 abbrev pub HasExpired : Ask → ℕ → ℕ → Type 0
 HasExpired a arrival now = (start : ℕ) → now ≤ start → All (λ l. l.v ≡ 0) (options_at a arrival start)
@@ -99,13 +93,3 @@ HasExpired a arrival now = (start : ℕ) → now ≤ start → All (λ l. l.v �
 -- the same, told by the options that start now: later ones are worth no more
 abbrev pub has_expired : Ask → ℕ → ℕ → Bool
 has_expired a arrival now = list_all (λ l. l.v == 0) (options_at a arrival now)
-
--- until it has expired, its offer has a leaf that starts now and is worth something
-abbrev pub OffersUntilExpired : Ask → ℕ → Type 0
-OffersUntilExpired a arrival = (now window : ℕ) → arrival ≤ now → 1 ≤ window → (HasExpired a arrival now → ⊥) →
-    (t : Tree) × (offer a arrival now window ≡ Some t) × (l : Leaf) × Contains (leaves t) l × (l.start ≡ now) × (0 < l.v)
-
--- once it has expired, whatever it would offer is worth nothing
-abbrev pub EarnsNothingExpired : Ask → ℕ → Type 0
-EarnsNothingExpired a arrival = (now later window : ℕ) (t : Tree) → HasExpired a arrival now → now ≤ later →
-    offer a arrival later window ≡ Some t → All (λ l. l.v ≡ 0) (leaves t)

@@ -1,5 +1,6 @@
 // Laws of asks.
-ghost use Rattle.tetri_request.specs.Options.{EarnsNothingExpired, HasOneLeafByNumber, IsSoundAsk, OffersUntilExpired};
+ghost use Rattle.tetri_request.specs.Cycles.{EarnsNothingExpired, HasOneLeafByNumber, KeepsThrift, OffersUntilExpired};
+ghost use Rattle.tetri_request.specs.Options.{IsSoundAsk};
 
 use crate::ask::Ask;
 
@@ -24,6 +25,16 @@ pub fn unexpired_asks_have_offers(ask: &Ask, arrival: u32)
 /// All leaves of an offer of an ask that has expired are worth nothing.
 pub fn expired_asks_earn_nothing(ask: &Ask, arrival: u32)
     ensures { EarnsNothingExpired ask.now arrival }
+{
+    let _ = ask;
+    let _ = arrival;
+}
+
+/// Grants that are thrifty for one offer of an ask are thrifty for another, where each of its leaves that
+/// they hold is one of the first offer's.
+pub fn thrift_keeps_over_cycles(ask: &Ask, arrival: u32)
+    requires { IsSoundAsk ask.now }
+    ensures { KeepsThrift ask.now arrival }
 {
     let _ = ask;
     let _ = arrival;

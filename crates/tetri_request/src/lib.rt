@@ -9,5 +9,8 @@ mod offering;
 
 pub use ask::{Ask, Class, Prefer};
 pub use expiry::expired;
-pub use laws::{expired_asks_earn_nothing, numbers_name_leaves, unexpired_asks_have_offers};
+pub use laws::{
+    expired_asks_earn_nothing, numbers_name_leaves, thrift_keeps_over_cycles,
+    unexpired_asks_have_offers,
+};
 pub use offering::options;
