@@ -5,7 +5,7 @@ use Rattle.std.specs.List.{list_all, range_with_len}
 use Rattle.tetri_strl.specs.declared.expr.Leaf.{Leaf}
 use Rattle.tetri_strl.specs.Tree.{leaves}
 use Rattle.tetri_strl.specs.WellMade.{IsSound}
-use Rattle.tetri_strl.proofs.PartsApart.{AreApart}
+use Rattle.tetri_strl.proofs.ExprLaws.{AreApart}
 use Rattle.tetri_base.specs.Lists.{sum_of, has, Each, EachPair, Ascends}
 use Rattle.tetri_space.specs.Partitions.{part_at, set_at, asked, live_bids, partitions, closed_sets}
 use Rattle.tetri_space.specs.Space.{Bid, Space, leaf_in}
@@ -13,7 +13,7 @@ use Rattle.tetri_base.proofs.ListLaws.{Each-map, Each-all, Each-append, Each-acr
 use Rattle.tetri_compile.specs.declared.outline.Tally.{Tally}
 use Rattle.tetri_compile.specs.Draft.{bid_tallies, draft}
 use Rattle.tetri_compile.specs.Walk.{width}
-use Rattle.tetri_compile.proofs.ProgramLaws.{Each-has, IsOf, counts_are, tallies_leaf, tallies_other}
+use Rattle.tetri_compile.proofs.ProgramLaws.{Each-has, all_of, IsOf, counts_are, tallies_leaf, tallies_other}
 use Rattle.std.specs.List.Sorted.{IsNonDecreasingBy, IsPermutation}
 use lib.IntN.{ℤ}
 use Rattle.tetri_ip.specs.Points.{IsPoint, box_of}
@@ -28,7 +28,6 @@ use Rattle.tetri_assign.specs.Taking.{NEVER, back_at, backs, taken_from, want_of
 use Rattle.tetri_assign.specs.declared.held.Held.{Held}
 use Rattle.tetri_assign.specs.declared.wants.Want.{Want}
 use Rattle.tetri_assign.proofs.BackLemmas.{IsOpenAt, first_backs, taken_sum}
-use Rattle.tetri_assign.proofs.GrantsLawful.{all_of}
 use Rattle.tetri_assign.proofs.Law.{meeting}
 use Rattle.tetri_assign.proofs.LawfulFacts.{not_closed}
 use Rattle.tetri_assign.proofs.MarkLemmas.{each_of, parts_small}

@@ -9,7 +9,7 @@ use Rattle.tetri_base.specs.Lists.{sum_of, has, Each, EachPair}
 use Rattle.tetri_space.specs.Free.{is_closed, is_free, is_idle}
 use Rattle.tetri_space.specs.Partitions.{part_at}
 use Rattle.tetri_space.specs.Space.{Space}
-use Rattle.tetri_space.proofs.GroupLemmas.{filter-same}
+use Rattle.tetri_space.proofs.InstanceLaws.{filter-same}
 use Rattle.tetri_base.proofs.ListLaws.{Each-map, has-filter, sum_of-append, test_from_eq, test_from_ne}
 use Rattle.tetri_compile.specs.declared.outline.Tally.{Tally}
 use Rattle.tetri_compile.specs.Sizes.{covers}

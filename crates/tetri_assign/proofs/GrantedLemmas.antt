@@ -7,10 +7,11 @@ use Rattle.tetri_strl.specs.Aligned.{EachLeaf, EachLeafOf}
 use Rattle.tetri_strl.specs.Tree.{Tree, one, join, scale, barrier, Trees, none, more, leaves}
 use Rattle.tetri_strl.specs.WellMade.{IsSound}
 use Rattle.tetri_strl.specs.Worth.{granted, worth_at, leaf_worth}
-use Rattle.tetri_strl.proofs.PartsApart.{AreApart}
+use Rattle.tetri_strl.proofs.ExprLaws.{AreApart}
 use Rattle.tetri_base.specs.Lists.{sum_of, bit, has, Each, EachPair}
 use Rattle.tetri_space.specs.Partitions.{part_at}
 use Rattle.tetri_space.specs.Space.{Bid, Space}
+use Rattle.tetri_space.proofs.InstanceLaws.{EachLeaf-at}
 use Rattle.tetri_base.proofs.ListLaws.{eq_from_test, test_from_eq, test_from_ne, sum_of-eq, sum_of-zero, sum_of-one, sum_of-append, Each-map, Each-all, Each-append, Each-both, Each-at, Each-from}
 use Rattle.tetri_compile.specs.declared.outline.Tally.{Tally}
 use Rattle.tetri_compile.specs.Draft.{tallies, bid_uppers, objective, bid_rows, bid_tallies}
@@ -21,7 +22,7 @@ use Rattle.tetri_assign.specs.Assigned.{Piece, piece, pieces, all_held, held_bef
 use Rattle.tetri_base.specs.Order.{in_order}
 use Rattle.tetri_assign.proofs.Counted.{AtLeaves, AtLeavesOf, IsCounted}
 use Rattle.tetri_assign.proofs.FormBelow.{form_le}
-use Rattle.tetri_assign.proofs.LeafSums.{EachLeaf-at, AtLeaves-map, tree_sum, number_sum, few}
+use Rattle.tetri_assign.proofs.LeafSums.{AtLeaves-map, tree_sum, number_sum, few}
 use Rattle.tetri_compile.specs.Allotted.{granted_in}
 use Rattle.tetri_assign.proofs.HeldLemmas.{weigh_pieces, granted_weigh}
 use Rattle.tetri_assign.proofs.Meeting.{parts, inside, usable, cs, IsMeeting, ordered, made_pieces, part_ascends, parts_differ, right, rows_met, zeros_vanish, cond_zero}

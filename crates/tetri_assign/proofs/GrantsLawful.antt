@@ -1,5 +1,5 @@
 -- The grants of a point are lawful.
-use Rattle.std.proofs.Common.{◌≡◌, ℕ, zero, suc, ◌<◌, ◌≤◌, ◌==◌, ◌&&◌, ◌||◌, Bool, true, false, cond, List, [], ◌∷◌, length, get_or, map, Contains, refl, sym, ap, ◌∙◌, subst, arith, true≢false, inl, inr, le_trans, Some, All, AllPairs, IsSomeAnd}
+use Rattle.std.proofs.Common.{◌≡◌, ◌⊎◌, ℕ, zero, suc, ◌<◌, ◌≤◌, ◌==◌, ◌&&◌, ◌||◌, Bool, true, false, cond, List, [], ◌∷◌, length, get_or, map, Contains, refl, sym, ap, ◌∙◌, subst, arith, true≢false, inl, inr, le_trans, Some, All, AllPairs, IsSomeAnd}
 use Rattle.std.specs.Prelude.{nat_lt}
 use Rattle.std.specs.List.{list_all, range_with_len}
 use Rattle.std.proofs.lemmas.Bool.{cases_order, and_from}
@@ -11,12 +11,12 @@ use Rattle.tetri_strl.specs.Worth.{granted}
 use Rattle.tetri_base.specs.Lists.{has, Each, EachPair, Ascends}
 use Rattle.tetri_space.specs.Partitions.{part_at, set_at}
 use Rattle.tetri_space.specs.Space.{Bid, Space, leaf_in, Covers, set_of}
-use Rattle.tetri_base.proofs.ListLaws.{eq_from_test, test_from_eq, Each-map, Each-append, Each-passed, Each-both, Each-at, Each-from, Each-across, EachPair-append, EachPair-with, from_all}
+use Rattle.tetri_base.proofs.ListLaws.{eq_from_test, test_from_eq, Each-all, Each-map, Each-append, Each-passed, Each-both, Each-at, Each-from, Each-across, EachPair-append, EachPair-with, from_all}
 use Rattle.tetri_compile.specs.declared.outline.Tally.{Tally}
 use Rattle.std.proofs.lemmas.Option.{same_Some}
 use Rattle.tetri_compile.specs.Sizes.{covers}
 use Rattle.tetri_compile.specs.Usable.{is_shut}
-use Rattle.tetri_compile.proofs.ProgramLaws.{Each-has}
+use Rattle.tetri_compile.proofs.ProgramLaws.{Each-has, all_of}
 use Rattle.tetri_assign.specs.Assigned.{Piece, held, all_held}
 use Rattle.tetri_assign.specs.declared.held.Held.{Held}
 use Rattle.tetri_assign.proofs.Turns.{EachPair-get}
@@ -24,9 +24,10 @@ use native.Mathlib.Numerals.{unary_clauses}
 use Rattle.std.specs.List.Sorted.{IsStrictlyIncreasing}
 use Rattle.std.proofs.lemmas.List.Kept.{AllPairs-cons}
 use Rattle.tetri_space.specs.Free.{IsFree, is_free}
+use Rattle.tetri_space.specs.GrantOrder.{ComesBefore}
 use Rattle.tetri_space.specs.Lawful.{MayBeGranted, IsLawfulGrant, IsLawful}
 use Rattle.tetri_space.specs.Lawful.{AreApart as GrantsApart}
-use Rattle.tetri_space.proofs.FreeLemmas.{free_decides}
+use Rattle.tetri_space.proofs.InstanceLaws.{free_decides}
 use Rattle.tetri_assign.proofs.HeldLemmas.{IsOther, AreGathered, gathered_right, leaf_before}
 use Rattle.tetri_assign.proofs.Meeting.{parts, inside, IsMeeting, IsOpen, IsPlaced, made_pieces, part_ascends, parts_differ, right, ps_open, ps_placed, leaf_is, same_leaf_apart, HaveNoNode}
 use Rattle.tetri_assign.proofs.GrantedLemmas.{made, granted_few}
@@ -34,11 +35,6 @@ use Rattle.tetri_assign.proofs.LawfulFacts.{stays_free}
 use Rattle.tetri_assign.proofs.Pieces.{IsExact, NoClash, slot_from, has_own}
 
 -- ---- lists by number
-pub all_of : {X : Type 0} (P : X → Type 0) (xs : List X) → Each P xs → All P xs
-all_of P [] h k d lt = absurd (omega (arith, lt))
-all_of P (x ∷ xs) h zero d lt = h.0
-all_of P (x ∷ xs) h (suc k) d lt = all_of P xs h.1 k d (omega (arith, lt))
-
 pairs_of : {X : Type 0} (R : X → X → Type 0) (xs : List X) → EachPair R xs → AllPairs R xs
 pairs_of R [] h = λ i j d lt within. absurd (omega (arith, within))
 pairs_of R (x ∷ xs) h = AllPairs-cons R x xs (all_of (R x) xs h.0) (pairs_of R xs h.1)
@@ -269,3 +265,24 @@ module _ (i : Space) (os : List Bid) (asks marks : List (List ℕ)) (x : ℕ →
     apart = pairs_of (GrantsApart i) grants_made
         (EachPair-with IsMade (λ g k. leaf_before g.job g.leaf k ≡ true) (GrantsApart i) grants_apart grants_made gathered_made.from gathered_made.by_leaf);
   }
+
+  -- the grants go by job and leaf
+  pub made_ordered : AllPairs ComesBefore grants_made
+  made_ordered =
+      pairs_of ComesBefore grants_made
+      (EachPair-with (λ g. Unit {0}) (λ g k. leaf_before g.job g.leaf k ≡ true) ComesBefore (λ g k u v e. before_from g.job g.leaf k.job k.leaf e) grants_made
+      (Each-all (λ g. Unit {0}) (λ g. tt) grants_made) gathered_made.by_leaf)
+    where
+      less : (j l m n : ℕ) → (nat_lt j m || (j == m && nat_lt l n)) ≡ true → j ≡ m → l < n
+      less j l m n e same = grind (arith, nat_tests)
+
+      not_later : (j l m n : ℕ) → (nat_lt j m || (j == m && nat_lt l n)) ≡ true → m < j → ⊥
+      not_later j l m n e gt = grind (arith, nat_tests)
+
+      before_from : (j l m n : ℕ) → (nat_lt j m || (j == m && nat_lt l n)) ≡ true → (j < m) ⊎ ((j ≡ m) × (l < n))
+      before_from j l m n e =
+          elim (cases_order j m) [
+            | inl same ↦ inr (same, less j l m n e same)
+            | inr (inl lt) ↦ inl lt
+            | inr (inr gt) ↦ absurd (not_later j l m n e gt)
+          ]

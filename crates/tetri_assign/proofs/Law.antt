@@ -1,5 +1,5 @@
 -- Of every point of the program, what is assigned grants exactly its counts, is lawful, and is worth no less.
-use Rattle.std.proofs.Common.{◌≡◌, ℕ, zero, suc, ◌+◌, ◌<◌, ◌≤◌, List, [], ◌∷◌, length, get_or, map, Contains, refl, sym, ap, ◌∙◌, subst, arith, true, ⊎_elim}
+use Rattle.std.proofs.Common.{◌≡◌, ℕ, zero, suc, ◌+◌, ◌<◌, ◌≤◌, List, [], ◌∷◌, length, get_or, map, AllPairs, Contains, refl, sym, ap, ◌∙◌, subst, arith, true, ⊎_elim}
 use Rattle.std.specs.Prelude.{◌≤ℤ◌, nat_le, nat_lt, unsigned_abs}
 use Rattle.std.proofs.lemmas.Bool.{and_parts, cases_lt}
 use Rattle.std.proofs.lemmas.Int.{ints}
@@ -12,14 +12,14 @@ use Rattle.tetri_strl.specs.Prune.{starts_in}
 use Rattle.tetri_strl.specs.Tree.{leaves}
 use Rattle.tetri_ip.specs.declared.programs.Program.{Program}
 use Rattle.tetri_ip.specs.Points.{number_at, objective, box_of, IsPoint}
+use Rattle.tetri_space.specs.GrantOrder.{ComesBefore}
 use Rattle.tetri_space.specs.Lawful.{IsLawful}
 use Rattle.tetri_space.specs.Partitions.{live_bids, asked, closed_sets}
 use Rattle.tetri_space.specs.Sound.{IsSound}
 use Rattle.tetri_space.specs.Space.{Bid, Space, leaf_in}
 use Rattle.tetri_space.specs.Total.{total_in}
-use Rattle.tetri_space.proofs.LeafLemmas.{leaf_in-found}
+use Rattle.tetri_space.proofs.InstanceLaws.{leaf_in-found, IsLeafOf, AllLeavesOf, lefts_good, lefts_jobs, lefts_leaves}
 use Rattle.tetri_base.proofs.ListLaws.{Each-at}
-use Rattle.tetri_space.proofs.PrunedLemmas.{IsLeafOf, AllLeavesOf, lefts_good, lefts_jobs, lefts_leaves}
 use Rattle.tetri_compile.specs.Draft.{draft}
 use Rattle.tetri_compile.specs.Flat.{FlatProgram, FlatRow, coefficient, plain, program_of}
 use Rattle.tetri_compile.specs.Forms.{Within}
@@ -27,7 +27,7 @@ use Rattle.tetri_compile.proofs.ProgramLaws.{RowsMet, at_column, flat_met, flat_
 use Rattle.tetri_assign.specs.Assigned.{assigned}
 use Rattle.tetri_assign.specs.Granting.{GrantsCounts}
 use Rattle.tetri_assign.proofs.GrantedLemmas.{granted_sum, granted_parts, earns_no_less}
-use Rattle.tetri_assign.proofs.GrantsLawful.{made_lawful}
+use Rattle.tetri_assign.proofs.GrantsLawful.{made_lawful, made_ordered}
 use Rattle.tetri_assign.proofs.Meeting.{IsMeeting}
 
 pos_le : (m n : ℕ) → m ≤ n → pos m ≤ℤ pos n
@@ -118,6 +118,9 @@ module _ (s : Space) (sound : IsSound s) (p : Program) (is : plain p ≡ program
 
   pub assigned_lawful : IsLawful s (assigned s point)
   assigned_lawful = made_lawful s (live_bids s) (asked s (live_bids s)) (closed_sets s) (at_column point) meeting
+
+  pub assigned_ordered : AllPairs ComesBefore (assigned s point)
+  assigned_ordered = made_ordered s (live_bids s) (asked s (live_bids s)) (closed_sets s) (at_column point) meeting
 
   pub assigned_worth : objective p point ≤ℤ pos (total_in s (assigned s point))
   assigned_worth =

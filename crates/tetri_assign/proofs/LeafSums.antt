@@ -1,11 +1,10 @@
 -- The counts of one leaf, among all counts.
 use Rattle.std.proofs.Common.{◌≡◌, ℕ, zero, suc, ◌+◌, ◌≤◌, ◌==◌, cond, List, [], ◌∷◌, ◌++◌, length, Contains, refl, ap, ◌∙◌, subst, arith, ⊎_elim}
 use Rattle.std.proofs.Math.Nat.{mul-le-mul_left}
-use Rattle.std.proofs.lemmas.List.Elements.{Contains-append_left, Contains-append_right, Contains-append_cases}
+use Rattle.std.proofs.lemmas.List.Elements.{Contains-append_left, Contains-append_right}
 use Rattle.tetri_strl.specs.declared.expr.Leaf.{Leaf}
-use Rattle.tetri_strl.specs.Aligned.{EachLeaf, EachLeafOf}
 use Rattle.tetri_strl.specs.Tree.{greatest, least, added, Tree, one, join, scale, barrier, Trees, none, more, leaves, leaves_of, numbers, numbers_of}
-use Rattle.tetri_strl.proofs.PartsApart.{AreApart, AreApartOf}
+use Rattle.tetri_strl.proofs.ExprLaws.{AreApart, AreApartOf}
 use Rattle.tetri_base.specs.Lists.{sum_of, Each}
 use Rattle.tetri_base.proofs.ListLaws.{test_from_eq, test_from_ne, sum_of-eq, sum_of-zero, sum_of-append, Each-map}
 use Rattle.tetri_compile.specs.declared.outline.Tally.{Tally}
@@ -14,24 +13,6 @@ use Rattle.tetri_compile.specs.Forms.{share, at_point, run, limit, AreMet, Withi
 use Rattle.tetri_compile.specs.Walk.{ones, own_uppers, uppers, uppers_of, width, form, rows, rows_of, rows_under}
 use Rattle.tetri_compile.proofs.ProgramLaws.{AreMet-split, IsOf, Within-split, number_of, number_of_all, tallies_leaf, tallies_leaf_of}
 use Rattle.tetri_assign.proofs.Counted.{AtLeaves, AtLeavesOf}
-
-module _ (P : Leaf → Type 0) where
-  mutual
-    -- a fact of each leaf, at unit of them
-    pub EachLeaf-at : (t : Tree) (l : Leaf) → EachLeaf P t → Contains (leaves t) l → P l
-    EachLeaf-at (one m) l h at = only m l h at
-      where
-        only : (m l : Leaf) → P m → Contains (m ∷ []) l → P l
-        only m l h (zero, lt, e) = subst P e h
-        only m l h (suc k, lt, e) = absurd (omega (arith, lt))
-    EachLeaf-at (join op ts) l h at = EachLeafOf-at ts l h at
-    EachLeaf-at (scale t s) l h at = EachLeaf-at t l h at
-    EachLeaf-at (barrier t v) l h at = EachLeaf-at t l h at
-
-    EachLeafOf-at : (ts : Trees) (l : Leaf) → EachLeafOf P ts → Contains (leaves_of ts) l → P l
-    EachLeafOf-at none l h at = absurd (omega (arith, at.1))
-    EachLeafOf-at (more t ts) l h at =
-        ⊎_elim (λ p. EachLeaf-at t l h.0 p) (λ p. EachLeafOf-at ts l h.1 p) (Contains-append_cases (leaves t) (leaves_of ts) l at)
 
 module _ (inside : ℕ → List ℕ) (usable : ℕ → Leaf → ℕ) where
   module _ (P Q : Leaf → ℕ → Type 0) where

@@ -6,10 +6,11 @@ use Rattle.std.proofs.lemmas.Bool.Decides.{nat_tests}
 use Rattle.tetri_strl.specs.declared.expr.Leaf.{Leaf}
 use Rattle.tetri_strl.specs.Tree.{Tree, one, join, scale, barrier, Trees, none, more, leaves}
 use Rattle.tetri_strl.specs.WellMade.{IsGoodLeaf, IsSound}
-use Rattle.tetri_strl.proofs.PartsApart.{AreApart}
+use Rattle.tetri_strl.proofs.ExprLaws.{AreApart, each_good}
 use Rattle.tetri_base.specs.Lists.{sum_of, has, Each, EachPair, Ascends}
 use Rattle.tetri_space.specs.Partitions.{groups, part_at, nodes_of, parts_in, set_at, available}
 use Rattle.tetri_space.specs.Space.{Bid, Space, leaf_in}
+use Rattle.tetri_space.proofs.InstanceLaws.{EachLeaf-at}
 use Rattle.tetri_base.proofs.ListLaws.{sum_of-eq, sum_of-filter, Each-map, Each-all, Each-append, Each-both, Each-filter, Each-passed, Each-at, Each-from, EachPair-with, range_contains, range_from}
 use Rattle.tetri_compile.specs.declared.outline.Tally.{Tally}
 use Rattle.tetri_compile.specs.Draft.{bid_uppers, bid_rows, bid_tallies, leaf_tallies, tallies, tallies_of, is_held, supply, draft_of}
@@ -18,11 +19,9 @@ use Rattle.tetri_compile.specs.Usable.{is_shut, usable_by}
 use Rattle.tetri_compile.specs.Walk.{own_uppers, uppers, uppers_of, width}
 use Rattle.tetri_compile.proofs.ProgramLaws.{AreMet-split, IsOf, Within-split, tallies_leaf}
 use Rattle.std.proofs.lemmas.Option.{same_Some}
-use Rattle.tetri_strl.proofs.WorthLemmas.{each_good}
 use Rattle.tetri_compile.specs.Sizes.{covers}
 use Rattle.tetri_assign.specs.Assigned.{Piece, piece, pieces, turn_before}
 use Rattle.tetri_base.specs.Order.{in_order}
-use Rattle.tetri_assign.proofs.LeafSums.{EachLeaf-at}
 use Rattle.tetri_base.proofs.OrderLaws.{sum_of-in_order, Each-in_order}
 use Rattle.tetri_assign.proofs.Turns.{parts_sorted, parts_apart, in_turn, supplied}
 use Rattle.tetri_assign.proofs.Pieces.{IsExact, NoClash, pieces_right, use_at, slot_from}

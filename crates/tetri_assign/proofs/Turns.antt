@@ -12,7 +12,7 @@ use Rattle.tetri_compile.specs.declared.outline.Tally.{Tally}
 use Rattle.tetri_compile.specs.Draft.{is_held, tally_form, supply_row, part_supply, supply}
 use Rattle.tetri_compile.specs.Forms.{at_point, AreMet}
 use Rattle.tetri_compile.proofs.ProgramLaws.{AreMet-split}
-use Rattle.tetri_space.proofs.PartitionLemmas.{alike_trans, alike_sym}
+use Rattle.tetri_space.proofs.InstanceLaws.{alike_trans, alike_sym}
 use Rattle.tetri_assign.specs.Assigned.{turn_before}
 use Rattle.tetri_base.specs.Order.{in_order}
 use Rattle.tetri_base.proofs.OrderLaws.{NotAfter, IsOrder, in_order-rises}

@@ -1,6 +1,7 @@
 // The allotment of a point.
-ghost use Rattle.std.specs.Prelude.{◌≡◌, pos, ◌≤ℤ◌, IfOk};
+ghost use Rattle.std.specs.Prelude.{◌≡◌, pos, ◌≤ℤ◌, AllPairs, IfOk};
 ghost use Rattle.tetri_ip.specs.Points.{IsPoint, box_of, objective};
+ghost use Rattle.tetri_space.specs.GrantOrder.{ComesBefore};
 ghost use Rattle.tetri_space.specs.Lawful.{IsLawful};
 ghost use Rattle.tetri_space.specs.Partitions.{ArePartitionsOf, parts_of};
 ghost use Rattle.tetri_space.specs.Sound.{IsSound};
@@ -21,7 +22,7 @@ use tetri_strl::Allotment;
 /// The allotment of a point of the instance's program. It grants exactly the point's counts, is lawful,
 /// and its total is at least what the program earns at the point. The counts take nodes by start, job,
 /// leaf and partition, each the lowest-numbered that are free at its start and that no earlier count
-/// holds there. Its only error is want of memory.
+/// holds there. The grants go by job and leaf. Its only error is want of memory.
 pub fn assign(
     alloc: Global,
     inst: &Instance,
@@ -36,6 +37,7 @@ pub fn assign(
     ensures assigned { IfOk result (λ a. a ≡ assigned (space inst.entry.now) point.now) }
     ensures counts { IfOk result (GrantsCounts (space inst.entry.now) point.now) }
     ensures lawful { IfOk result (IsLawful (space inst.entry.now)) }
+    ensures ordered { IfOk result (λ a. AllPairs ComesBefore a) }
     ensures worth { IfOk result (λ a. objective c.entry.now.program point.now ≤ℤ pos (total_in (space inst.entry.now) a)) }
 {
     let counts = counts_of(alloc, c, point)?;

@@ -6,7 +6,7 @@ use Rattle.tetri_strl.specs.Aligned.{EachLeaf, EachLeafOf}
 use Rattle.tetri_strl.specs.Tree.{Operator, greatest, least, added, Tree, one, join, scale, barrier, Trees, none, more, leaves}
 use Rattle.tetri_strl.specs.WellMade.{IsGoodLeaf}
 use Rattle.tetri_strl.specs.Worth.{worth_of, worth_by, worths_by}
-use Rattle.tetri_strl.proofs.WorthLemmas.{AreBelow, EachLeaf-from, EachLeaf-both, each_good}
+use Rattle.tetri_strl.proofs.ExprLaws.{AreBelow, EachLeaf-from, EachLeaf-both, each_good}
 use Rattle.tetri_base.specs.Lists.{count, has, Each}
 use Rattle.tetri_space.specs.Partitions.{available, is_closed_part, part_at}
 use Rattle.tetri_space.specs.Space.{Bid, Space}

@@ -9,16 +9,17 @@ use Rattle.tetri_strl.specs.declared.expr.Leaf.{Leaf}
 use Rattle.tetri_strl.specs.Tree.{greatest, least, added, Tree, one, join, scale, barrier, Trees, none, more}
 use Rattle.tetri_strl.specs.WellMade.{PEAK, peak, peaks, IsSound, AreSound}
 use Rattle.tetri_strl.specs.Worth.{greatest_of, added_of}
-use Rattle.tetri_strl.proofs.WorthLemmas.{worth_le_peak}
+use Rattle.tetri_strl.proofs.ExprLaws.{worth_le_peak}
 use Rattle.tetri_base.specs.Lists.{Each}
 use Rattle.tetri_base.proofs.ListLaws.{Each-append, Each-map, sum_of-append, test_from_ne}
 use Rattle.tetri_space.specs.Space.{Bid}
-use Rattle.tetri_space.proofs.PartsLemmas.{filter_shorter}
+use Rattle.tetri_space.proofs.InstanceLaws.{filter_shorter}
 use Rattle.tetri_compile.specs.declared.outline.Tally.{Tally}
 use Rattle.tetri_compile.specs.Draft.{bid_rows, bid_uppers, is_held, objective, part_supply, supply, supply_row, tally_form}
 use Rattle.tetri_compile.specs.Flat.{coefficient}
 use Rattle.tetri_compile.specs.Forms.{share, Form, Limit, limit, times, run}
 use Rattle.tetri_compile.specs.Walk.{ones, best, uppers, uppers_of, width, form, forms, rows, rows_of, rows_under}
+use Rattle.tetri_compile.proofs.FormColumns.{IsAmong, IsOwn, form_own, forms_among, run_between}
 use Rattle.tetri_compile.proofs.FormSizes.{AllBelow, below_added, below_greatest}
 use Rattle.tetri_compile.proofs.SmallLemmas.{peak_small}
 
@@ -27,7 +28,7 @@ coefficient-append : (f g : Form) (c : ℕ) → coefficient (f ++ g) c ≡ coeff
 coefficient-append f g c = sum_of-append (λ s. cond (s.column == c) s.by 0) f g
 
 -- as often as the form has shares, each at most so many times
-few_times : (m : ℕ) (f : Form) (c : ℕ) → Each (λ s. s.by ≤ m) f → coefficient f c ≤ length f * m
+pub few_times : (m : ℕ) (f : Form) (c : ℕ) → Each (λ s. s.by ≤ m) f → coefficient f c ≤ length f * m
 few_times m [] c h = omega arith
 few_times m (s ∷ f) c h =
     let rest = few_times m f c h.1 in
@@ -55,39 +56,12 @@ stands_or_none P (s ∷ f) c h =
           elim (stands_or_none P f c h.1) [ inl z ↦ inl (omega (arith, gone, z)) | inr p ↦ inr p ]
     ]
 
--- ---- which columns a form has
--- the column i, and w columns from n on
-abbrev IsOwn : ℕ → ℕ → ℕ → ℕ → Type 0
-IsOwn i n w c = (c ≡ i) ⊎ ((n ≤ c) × (c < n + w))
-
--- k columns from j on, and w columns from n on
-abbrev IsAmong : ℕ → ℕ → ℕ → ℕ → ℕ → Type 0
-IsAmong j k n w c = ((j ≤ c) × (c < j + k)) ⊎ ((n ≤ c) × (c < n + w))
-
-inner : (i n k w c : ℕ) → IsAmong n k (n + k) w c → IsOwn i n (k + w) c
-inner i n k w c (inl r) = inr (r.0, omega (arith, r.1))
-inner i n k w c (inr r) = inr (omega (arith, r.0), omega (arith, r.1))
-
-first_among : (j k n w v c : ℕ) → IsOwn j n w c → IsAmong j (suc k) n (w + v) c
-first_among j k n w v c (inl e) = inl (omega (arith, e), omega (arith, e))
-first_among j k n w v c (inr r) = inr (r.0, omega (arith, r.1))
-
-rest_among : (j k n w v c : ℕ) → IsAmong (j + 1) k (n + w) v c → IsAmong j (suc k) n (w + v) c
-rest_among j k n w v c (inl r) = inl (omega (arith, r.0), omega (arith, r.1))
-rest_among j k n w v c (inr r) = inr (omega (arith, r.0), omega (arith, r.1))
-
+-- ---- columns that two forms cannot share
 not_both : (j k n w v c : ℕ) → j + suc k ≤ n → IsOwn j n w c → IsAmong (j + 1) k (n + w) v c → ⊥
 not_both j k n w v c low (inl e) (inl r) = omega (arith, e, r.0)
 not_both j k n w v c low (inl e) (inr r) = omega (arith, e, r.0, low)
 not_both j k n w v c low (inr p) (inl r) = omega (arith, p.0, r.1, low)
 not_both j k n w v c low (inr p) (inr r) = omega (arith, p.1, r.0)
-
-run_between : {X : Type 0} (b n : ℕ) (xs : List X) → Each (λ s. (n ≤ s.column) × (s.column < n + length xs)) (run b n xs)
-run_between b n [] = tt
-run_between b n (x ∷ xs) = (
-  (omega arith, omega arith),
-  Each-map (λ s. (n + 1 ≤ s.column) × (s.column < n + 1 + length xs)) (λ s. (n ≤ s.column) × (s.column < n + suc (length xs))) (λ s r. (omega (arith, r.0), omega (arith, r.1))) (run b (n + 1) xs) (run_between b (n + 1) xs),
-)
 
 -- each of consecutive columns stands there once
 run_times : {X : Type 0} (b n : ℕ) (xs : List X) (c : ℕ) → coefficient (run b n xs) c ≤ b
@@ -104,50 +78,11 @@ run_times b n (x ∷ xs) c =
           omega (arith, gone, run_times b (n + 1) xs c)
     ]
 
-times_columns : (P : ℕ → Type 0) (s : ℕ) (f : Form) → Each (λ p. P p.column) f → Each (λ p. P p.column) (times s f)
-times_columns P s [] h = tt
-times_columns P s (p ∷ f) h = (h.0, times_columns P s f h.1)
-
 -- on each side of a row a column stands at most as often as the greatest peak
 abbrev pub IsModest : Limit → Type 0
 IsModest r = (c : ℕ) → (coefficient r.most c ≤ PEAK) × (coefficient r.under c ≤ PEAK)
 
 module _ (inside : ℕ → List ℕ) (usable : ℕ → Leaf → ℕ) where
-  -- the forms of parts whose indicators are the first of the columns
-  inner_forms : (ts : Trees) (i n : ℕ) →
-      Each (λ s. IsAmong n (length (ones ts)) (n + length (ones ts)) (length (uppers_of inside usable ts)) s.column) (forms inside usable ts n (n + length (ones ts))) →
-      Each (λ s. IsOwn i n (length (ones ts ++ uppers_of inside usable ts)) s.column) (forms inside usable ts n (n + length (ones ts)))
-  inner_forms ts i n h =
-      subst (λ w. Each (λ s. IsOwn i n w s.column) (forms inside usable ts n (n + length (ones ts)))) (sym (length-append (ones ts) (uppers_of inside usable ts)))
-      (Each-map (λ s. IsAmong n (length (ones ts)) (n + length (ones ts)) (length (uppers_of inside usable ts)) s.column) (λ s. IsOwn i n (length (ones ts) + length (uppers_of inside usable ts)) s.column)
-      (λ s r. inner i n (length (ones ts)) (length (uppers_of inside usable ts)) s.column r) (forms inside usable ts n (n + length (ones ts))) h)
-
-  mutual
-    form_own : (t : Tree) (i n : ℕ) → Each (λ s. IsOwn i n (width inside usable t) s.column) (form inside usable t i n)
-    form_own (one l) i n =
-        cond_both l.linear (run (l.v / l.k) n (inside l.set)) (share i l.v ∷ []) (λ f. Each (λ s. IsOwn i n (width inside usable (one l)) s.column) f)
-        (λ e. Each-map (λ s. (n ≤ s.column) × (s.column < n + length (inside l.set))) (λ s. IsOwn i n (width inside usable (one l)) s.column)
-        (λ s r. inr (r.0, omega (arith, r.1, length-map (inside l.set) (λ p. min l.k (usable p l))))) (run (l.v / l.k) n (inside l.set)) (run_between (l.v / l.k) n (inside l.set)))
-        (λ e. (inl refl, tt))
-    form_own (join greatest ts) i n = inner_forms ts i n (forms_among ts n (n + length (ones ts)))
-    form_own (join least ts) i n =
-        cond_both (best (join least ts) == 0) [] (share n 1 ∷ []) (λ f. Each (λ s. IsOwn i n (width inside usable (join least ts)) s.column) f) (λ e. tt) (λ e. (inr (omega arith, omega arith), tt))
-    form_own (join added ts) i n = inner_forms ts i n (forms_among ts n (n + length (ones ts)))
-    form_own (scale t s) i n = times_columns (IsOwn i n (width inside usable t)) s (form inside usable t i n) (form_own t i n)
-    form_own (barrier t v) i n = (inl refl, tt)
-
-    forms_among : (ts : Trees) (j n : ℕ) → Each (λ s. IsAmong j (length (ones ts)) n (length (uppers_of inside usable ts)) s.column) (forms inside usable ts j n)
-    forms_among none j n = tt
-    forms_among (more t ts) j n =
-        let k = length (ones ts) in
-        let w = width inside usable t in
-        let v = length (uppers_of inside usable ts) in
-        let P = λ (c : ℕ). IsAmong j (suc k) n (w + v) c in
-        subst (λ m. Each (λ s. IsAmong j (suc k) n m s.column) (form inside usable t j n ++ forms inside usable ts (j + 1) (n + w))) (sym (length-append (uppers inside usable t) (uppers_of inside usable ts)))
-        (Each-append (λ s. P s.column) (form inside usable t j n) (forms inside usable ts (j + 1) (n + w))
-        (Each-map (λ s. IsOwn j n w s.column) (λ s. P s.column) (λ s r. first_among j k n w v s.column r) (form inside usable t j n) (form_own t j n))
-        (Each-map (λ s. IsAmong (j + 1) k (n + w) v s.column) (λ s. P s.column) (λ s r. rest_among j k n w v s.column r) (forms inside usable ts (j + 1) (n + w)) (forms_among ts (j + 1) (n + w))))
-
   mutual
     form_times : (t : Tree) → IsSound t → (i n : ℕ) → (c : ℕ) → coefficient (form inside usable t i n) c ≤ peak t
     form_times (one l) sound i n c =
@@ -179,9 +114,9 @@ module _ (inside : ℕ → List ℕ) (usable : ℕ → Leaf → ℕ) where
         let both = coefficient-append (form inside usable t j n) (forms inside usable ts (j + 1) (n + w)) c in
         let here = form_times t sound.0 j n c in
         let rest = forms_times ts sound.1 m h.1 (j + 1) (n + w) (omega (arith, low)) c in
-        elim (stands_or_none (IsOwn j n w) (form inside usable t j n) c (form_own t j n)) [
+        elim (stands_or_none (IsOwn j n w) (form inside usable t j n) c (form_own inside usable t j n)) [
           | inl z ↦ omega (arith, both, z, rest)
-          | inr p ↦ elim (stands_or_none (IsAmong (j + 1) k (n + w) v) (forms inside usable ts (j + 1) (n + w)) c (forms_among ts (j + 1) (n + w))) [
+          | inr p ↦ elim (stands_or_none (IsAmong (j + 1) k (n + w) v) (forms inside usable ts (j + 1) (n + w)) c (forms_among inside usable ts (j + 1) (n + w))) [
             | inl z ↦ omega (arith, both, z, here, h.0)
             | inr q ↦ absurd (not_both j k n w v c low p q)
           ]
@@ -193,7 +128,7 @@ module _ (inside : ℕ → List ℕ) (usable : ℕ → Leaf → ℕ) where
   objective_from (b ∷ bs) n =
       let w = width inside usable b.expr in
       Each-append (λ s. n ≤ s.column) (form inside usable b.expr n (n + 1)) (objective inside usable bs (n + 1 + w))
-      (Each-map (λ s. IsOwn n (n + 1) w s.column) (λ s. n ≤ s.column) (λ s r. from_own s.column r) (form inside usable b.expr n (n + 1)) (form_own b.expr n (n + 1)))
+      (Each-map (λ s. IsOwn n (n + 1) w s.column) (λ s. n ≤ s.column) (λ s r. from_own s.column r) (form inside usable b.expr n (n + 1)) (form_own inside usable b.expr n (n + 1)))
       (Each-map (λ s. n + 1 + w ≤ s.column) (λ s. n ≤ s.column) (λ s le. omega (arith, le)) (objective inside usable bs (n + 1 + w)) (objective_from bs (n + 1 + w)))
     where
       from_own : (c : ℕ) → IsOwn n (n + 1) (width inside usable b.expr) c → n ≤ c
@@ -207,7 +142,7 @@ module _ (inside : ℕ → List ℕ) (usable : ℕ → Leaf → ℕ) where
       let both = coefficient-append (form inside usable b.expr n (n + 1)) (objective inside usable bs (n + 1 + w)) c in
       let here = le_trans (form_times b.expr sound.0 n (n + 1) c) (peak_small b.expr sound.0) in
       let rest = objective_times bs (n + 1 + w) sound.1 c in
-      elim (stands_or_none (IsOwn n (n + 1) w) (form inside usable b.expr n (n + 1)) c (form_own b.expr n (n + 1))) [
+      elim (stands_or_none (IsOwn n (n + 1) w) (form inside usable b.expr n (n + 1)) c (form_own inside usable b.expr n (n + 1))) [
         | inl z ↦ omega (arith, both, z, rest)
         | inr p ↦ elim (stands_or_none (λ j. n + 1 + w ≤ j) (objective inside usable bs (n + 1 + w)) c (objective_from bs (n + 1 + w))) [
           | inl z ↦ omega (arith, both, z, here)

@@ -11,9 +11,7 @@ use Rattle.tetri_strl.specs.Thrifty.{IsThriftyFor, held_leaves}
 use Rattle.tetri_strl.specs.Tree.{leaves}
 use Rattle.tetri_strl.specs.WellMade.{IsGoodLeaf, IsSound}
 use Rattle.tetri_strl.specs.Worth.{granted, worth_at, leaf_worth, worth_of}
-use Rattle.tetri_strl.proofs.PartsApart.{AreApart}
-use Rattle.tetri_strl.proofs.TrimThrift.{ungranted}
-use Rattle.tetri_strl.proofs.WorthLemmas.{EachLeaf-from, EachLeaf-both, each_good}
+use Rattle.tetri_strl.proofs.ExprLaws.{AreApart, ungranted, EachLeaf-from, EachLeaf-both, each_good}
 use Rattle.tetri_base.specs.Lists.{sum_of, count, has, Each, EachPair, Ascends}
 use Rattle.tetri_space.specs.Free.{is_idle, is_closed, is_free}
 use Rattle.tetri_space.specs.Partitions.{set_at, part_at, parts_in, is_closed_part, available}

@@ -11,7 +11,7 @@ use Rattle.tetri_algebra.specs.IntegerRing.{ℤ_ring}
 use Rattle.tetri_algebra.specs.Sums.{dot}
 use Rattle.tetri_ip.specs.declared.programs.Row.{Row}
 use Rattle.tetri_ip.specs.Points.{number_at, left_side, MeetsRows}
-use Rattle.tetri_strl.proofs.WorthLemmas.{AreBelow}
+use Rattle.tetri_strl.proofs.ExprLaws.{AreBelow}
 use Rattle.tetri_base.specs.Lists.{sum_of}
 use Rattle.tetri_base.proofs.ListLaws.{test_from_eq, test_from_ne, eq_from_test, sum_of-plus, sum_of-eq, sum_of-zero, Each-all}
 use Rattle.tetri_compile.specs.Draft.{Draft}

@@ -1,4 +1,4 @@
--- The numbers of a form stay small, and its columns are the walk's.
+-- The numbers of a form stay small.
 use Rattle.std.proofs.Common.{◌≡◌, ℕ, ◌+◌, ◌*◌, ◌/◌, ◌<◌, ◌≤◌, ◌==◌, max, min, Bool, true, false, cond, List, [], ◌∷◌, length, refl, arith, le_trans}
 use Rattle.std.specs.Prelude.{if◌then◌else◌}
 use Rattle.std.proofs.Math.Nat.{mul-le-mul_left, div-mul-le_self}
@@ -9,7 +9,7 @@ use Rattle.tetri_strl.specs.declared.expr.Leaf.{Leaf}
 use Rattle.tetri_strl.specs.Tree.{greatest, least, added, Tree, one, join, scale, barrier, Trees, none, more}
 use Rattle.tetri_strl.specs.WellMade.{peak, peaks, IsSound, AreSound}
 use Rattle.tetri_strl.specs.Worth.{greatest_of, added_of}
-use Rattle.tetri_strl.proofs.WorthLemmas.{worth_le_peak}
+use Rattle.tetri_strl.proofs.ExprLaws.{worth_le_peak}
 use Rattle.tetri_base.specs.Lists.{Each}
 use Rattle.tetri_compile.specs.Forms.{share, Form, times, run}
 use Rattle.tetri_compile.specs.Walk.{ones, best, uppers, uppers_of, width, form, forms}
@@ -70,35 +70,3 @@ module _ (inside : ℕ → List ℕ) (usable : ℕ → Leaf → ℕ) where
         Each-append (λ s. s.by ≤ m) (form inside usable t j n) (forms inside usable ts (j + 1) (n + width inside usable t))
         (Each-map (λ s. s.by ≤ peak t) (λ s. s.by ≤ m) (λ s le. le_trans le h.0) (form inside usable t j n) (form_small t sound.0 j n))
         (forms_small ts sound.1 m h.1 (j + 1) (n + width inside usable t))
-
-  -- ---- columns
-  pub run_in : {X : Type 0} (b n top : ℕ) (xs : List X) → n + length xs ≤ top → Each (λ s. s.column < top) (run b n xs)
-  run_in b n top [] le = tt
-  run_in b n top (x ∷ xs) le = (omega arith, run_in b (n + 1) top xs (omega arith))
-
-  times_in : (s top : ℕ) (f : Form) → Each (λ p. p.column < top) f → Each (λ p. p.column < top) (times s f)
-  times_in s top [] h = tt
-  times_in s top (p ∷ ps) h = (h.0, times_in s top ps h.1)
-
-  mutual
-    pub form_in : (t : Tree) (i n top : ℕ) → i < top → n + width inside usable t ≤ top → Each (λ s. s.column < top) (form inside usable t i n)
-    form_in (one l) i n top low le =
-        cond_both l.linear (run (l.v / l.k) n (inside l.set)) (share i l.v ∷ []) (λ f. Each (λ s. s.column < top) f)
-        (λ e. run_in (l.v / l.k) n top (inside l.set) (omega (arith, length-map (inside l.set) (λ p. min l.k (usable p l)))))
-        (λ e. (low, tt))
-    form_in (join greatest ts) i n top low le =
-        let w = length-append (ones ts) (uppers_of inside usable ts) in
-        forms_in ts n (n + length (ones ts)) top (omega (arith, w)) (omega (arith, w))
-    form_in (join least ts) i n top low le = cond_both (best (join least ts) == 0) [] (share n 1 ∷ []) (λ f. Each (λ s. s.column < top) f) (λ e. tt) (λ e. (omega arith, tt))
-    form_in (join added ts) i n top low le =
-        let w = length-append (ones ts) (uppers_of inside usable ts) in
-        forms_in ts n (n + length (ones ts)) top (omega (arith, w)) (omega (arith, w))
-    form_in (scale t s) i n top low le = times_in s top (form inside usable t i n) (form_in t i n top low le)
-    form_in (barrier t v) i n top low le = (low, tt)
-
-    forms_in : (ts : Trees) (j n top : ℕ) → j + length (ones ts) ≤ top → n + length (uppers_of inside usable ts) ≤ top → Each (λ s. s.column < top) (forms inside usable ts j n)
-    forms_in none j n top low le = tt
-    forms_in (more t ts) j n top low le =
-        let w = length-append (uppers inside usable t) (uppers_of inside usable ts) in
-        Each-append (λ s. s.column < top) (form inside usable t j n) (forms inside usable ts (j + 1) (n + width inside usable t))
-        (form_in t j n top (omega arith) (omega (arith, w))) (forms_in ts (j + 1) (n + width inside usable t) top (omega arith) (omega (arith, w)))

@@ -13,7 +13,7 @@ use Rattle.tetri_strl.specs.declared.expr.Leaf.{Leaf}
 use Rattle.tetri_strl.specs.Tree.{greatest, least, added, Tree, one, join, scale, barrier, Trees, none, more}
 use Rattle.tetri_strl.specs.WellMade.{peak, peaks, PEAK, IsSound, AreSound}
 use Rattle.tetri_strl.specs.Worth.{greatest_of, added_of}
-use Rattle.tetri_strl.proofs.WorthLemmas.{worth_le_peak}
+use Rattle.tetri_strl.proofs.ExprLaws.{worth_le_peak}
 use Rattle.tetri_base.specs.Lists.{Each, sum_of}
 use Rattle.tetri_space.specs.Space.{Bid}
 use Rattle.tetri_base.proofs.ListLaws.{Each-all, Each-append, Each-map, sum_of-le}

@@ -8,7 +8,7 @@ use Rattle.tetri_strl.specs.declared.expr.Expr.TheVariants.{Max, Min, Sum}
 use Rattle.tetri_strl.specs.declared.expr.Leaf.{Leaf}
 use Rattle.tetri_strl.specs.Aligned.{EachLeaf, EachLeafOf}
 use Rattle.tetri_strl.specs.Tree.{Operator, greatest, least, added, join, more, leaves, leaves_of, tree, trees}
-use Rattle.tetri_strl.proofs.TreeLemmas.{tree-Max, tree-Min, tree-Sum}
+use Rattle.tetri_strl.proofs.ExprLaws.{tree-Max, tree-Min, tree-Sum}
 
 -- an expression with these parts is a join of them
 pub joined : (e : Expr) (kids : Vec Expr Global) → (e ≡ Max kids) ⊎ ((e ≡ Min kids) ⊎ (e ≡ Sum kids)) → (op : Operator) × (tree e ≡ join op (trees kids.items))

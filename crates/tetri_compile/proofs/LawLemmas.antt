@@ -8,7 +8,7 @@ use lib.IntN.{pos}
 use Rattle.tetri_algebra.specs.IntegerRing.{ℤ_ring}
 use Rattle.tetri_algebra.specs.Sums.{dot}
 use Rattle.tetri_strl.specs.declared.grants.Grant.{Grant}
-use Rattle.tetri_strl.proofs.WorthLemmas.{AreBelow}
+use Rattle.tetri_strl.proofs.ExprLaws.{AreBelow}
 use Rattle.tetri_ip.specs.declared.programs.Program.{Program}
 use Rattle.tetri_ip.specs.Points.{number_at, objective, box_of, IsPoint}
 use Rattle.tetri_space.specs.Lawful.{IsLawful}

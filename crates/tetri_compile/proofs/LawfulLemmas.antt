@@ -15,11 +15,7 @@ use Rattle.tetri_strl.specs.Thrifty.{IsThrifty, IsThriftyFor, held_leaves}
 use Rattle.tetri_strl.specs.Tree.{Tree, leaves}
 use Rattle.tetri_strl.specs.Trim.{earns, idle, trimmed}
 use Rattle.tetri_strl.specs.Worth.{granted, leaf_worth, worth_of}
-use Rattle.tetri_strl.proofs.PartsApart.{apart_of_pairs}
-use Rattle.tetri_strl.proofs.PruneLemmas.{each_nothing, pruned_keeps_worth}
-use Rattle.tetri_strl.proofs.TrimThrift.{trimmed_thrifty}
-use Rattle.tetri_strl.proofs.TrimWorth.{trimmed_worth}
-use Rattle.tetri_strl.proofs.WorthLemmas.{EachLeaf-from}
+use Rattle.tetri_strl.proofs.ExprLaws.{apart_of_pairs, each_nothing, pruned_keeps_worth, trimmed_thrifty, trimmed_worth, EachLeaf-from}
 use Rattle.tetri_space.specs.Free.{IsFree, is_free, is_idle}
 use Rattle.tetri_space.specs.Lawful.{HasRightNodes, MayBeGranted, IsLawfulGrant, IsLawful}
 use Rattle.tetri_space.specs.Lawful.{AreApart as GrantsApart}
@@ -29,12 +25,8 @@ use Rattle.tetri_space.specs.Sound.{IsSoundBid, IsSound}
 use Rattle.tetri_space.specs.Space.{Bid, Space, leaf_in, Covers}
 use Rattle.tetri_space.specs.Total.{bid_worth, total_in}
 use Rattle.tetri_space.proofs.ClosedLaws.{available_is}
-use Rattle.tetri_space.proofs.FreeLemmas.{free_decides}
-use Rattle.tetri_space.proofs.LawLemmas.{dead_granted}
-use Rattle.tetri_space.proofs.LeafLemmas.{find-by_key, leaf_in-found}
+use Rattle.tetri_space.proofs.InstanceLaws.{free_decides, dead_granted, find-by_key, leaf_in-found, covered, IsLeftOf, each_left_of, OfLeft, AreFrom, IsGood, OtherJob, asked_has, left_leaves, lefts_good, lefts_jobs}
 use Rattle.tetri_base.proofs.ListLaws.{eq_from_test, test_from_eq, Each-all, Each-at, Each-from, EachPair-from, EachPair-with, any_from, sum_of-filter-le}
-use Rattle.tetri_space.proofs.PartitionLemmas.{covered}
-use Rattle.tetri_space.proofs.PrunedLemmas.{IsLeftOf, each_left_of, OfLeft, AreFrom, IsGood, OtherJob, asked_has, left_leaves, lefts_good, lefts_jobs}
 use Rattle.tetri_compile.specs.Allotted.{suits, earning, trimmed_for}
 use Rattle.tetri_compile.proofs.FairLemmas.{IsRightFor, IsKept, IsFair, HoldsApart, worth_of_bids, granted_total}
 use Rattle.tetri_compile.proofs.ThriftOfLeft.{left_thrifty}

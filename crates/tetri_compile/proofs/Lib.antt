@@ -8,6 +8,7 @@ pub mod Example
 pub mod FairLemmas
 pub mod FitLemmas
 pub mod FlatLemmas
+pub mod FormColumns
 pub mod FormLemmas
 pub mod FormSizes
 pub mod GainLaws

@@ -9,14 +9,14 @@ use Rattle.tetri_ip.specs.declared.programs.Program.{Program}
 use Rattle.tetri_ip.specs.declared.programs.Term.{Term}
 use Rattle.tetri_strl.specs.WellMade.{PEAK}
 use Rattle.tetri_base.specs.Lists.{Each}
-use Rattle.tetri_base.proofs.ListLaws.{Each-map}
+use Rattle.tetri_base.proofs.ListLaws.{Each-all, Each-map}
 use Rattle.tetri_compile.specs.Draft.{Draft}
 use Rattle.tetri_compile.specs.Flat.{FlatProgram, FlatRow, coefficient, flat, flat_row, plain, plain_row, terms_at}
 use Rattle.tetri_compile.specs.Forms.{Form, Limit}
 use Rattle.tetri_compile.specs.Small.{HasSmallNumbers, HasSmallRow}
 use Rattle.tetri_compile.proofs.CoefficientLemmas.{IsModest}
 
-all_of : {X : Type 0} (P : X → Type 0) (xs : List X) → Each P xs → All P xs
+pub all_of : {X : Type 0} (P : X → Type 0) (xs : List X) → Each P xs → All P xs
 all_of P [] h k d lt = absurd (omega (arith, lt))
 all_of P (x ∷ xs) h zero d lt = h.0
 all_of P (x ∷ xs) h (suc k) d lt = all_of P xs h.1 k d (omega (arith, lt))
@@ -28,10 +28,6 @@ each_mapped P f (x ∷ xs) h = (h.0, each_mapped P f xs h.1)
 mapped_each : {X Y : Type 0} (P : Y → Type 0) (f : X → Y) (xs : List X) → Each P (map f xs) → Each (λ x. P (f x)) xs
 mapped_each P f [] h = tt
 mapped_each P f (x ∷ xs) h = (h.0, mapped_each P f xs h.1)
-
-each_any : {X : Type 0} (P : X → Type 0) → ((x : X) → P x) → (xs : List X) → Each P xs
-each_any P f [] = tt
-each_any P f (x ∷ xs) = (f x, each_any P f xs)
 
 difference_small : (a b : ℕ) → a ≤ PEAK → b ≤ PEAK → unsigned_abs (pos a -ℤ pos b) ≤ PEAK
 difference_small a b p q = omega (arith, ints, p, q)
@@ -58,9 +54,9 @@ module _ (d : Draft) (uppers : Each (λ u. u ≤ PEAK) d.uppers) (earns : (c : �
       let columns = range_with_len 0 (length d.uppers) in
       record {
         costs = all_of small p.costs.items (subst (Each small) (sym (ap (λ (q : FlatProgram). q.costs) is))
-            (each_mapped small (λ (j : ℕ). pos (coefficient d.objective j)) columns (each_any (λ j. coefficient d.objective j ≤ PEAK) earns columns)));
+            (each_mapped small (λ (j : ℕ). pos (coefficient d.objective j)) columns (Each-all (λ j. coefficient d.objective j ≤ PEAK) earns columns)));
         lower = all_of small p.lower.items (subst (Each small) (sym (ap (λ (q : FlatProgram). q.lower) is))
-            (each_mapped small (λ (u : ℕ). pos 0) d.uppers (each_any (λ u. 0 ≤ PEAK) (λ u. omega arith) d.uppers)));
+            (each_mapped small (λ (u : ℕ). pos 0) d.uppers (Each-all (λ u. 0 ≤ PEAK) (λ u. omega arith) d.uppers)));
         upper = all_of small p.upper.items (subst (Each small) (sym (ap (λ (q : FlatProgram). q.upper) is)) (each_mapped small pos d.uppers uppers));
         rows = all_of HasSmallRow p.rows.items
             (Each-map (λ r. IsSmallRow (plain_row r)) HasSmallRow (λ r h. record { terms = all_of (λ (t : Term). unsigned_abs t.by ≤ PEAK) r.terms.items h.0; right = h.1 }) p.rows.items

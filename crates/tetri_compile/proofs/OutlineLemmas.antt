@@ -9,7 +9,7 @@ use Rattle.tetri_strl.specs.declared.expr.Leaf.{Leaf}
 use Rattle.tetri_strl.specs.Aligned.{EachLeaf}
 use Rattle.tetri_strl.specs.Tree.{Tree, Trees, more, trees}
 use Rattle.tetri_strl.specs.Worth.{leaf_top, top_of}
-use Rattle.tetri_strl.proofs.WorthLemmas.{worth_by-le, EachLeaf-both}
+use Rattle.tetri_strl.proofs.ExprLaws.{worth_by-le, EachLeaf-both}
 use Rattle.std.specs.List.{list_all, range_with_len}
 use Rattle.tetri_space.specs.Partitions.{parts_in, part_at, set_at}
 use Rattle.tetri_space.specs.Space.{Space}

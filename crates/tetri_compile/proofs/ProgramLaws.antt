@@ -8,6 +8,7 @@ pub use Rattle.tetri_compile.proofs.FormLemmas.{AreMet-split, Within-split, at_p
 pub use Rattle.tetri_compile.proofs.GainLemmas.{bid_uppers_small}
 pub use Rattle.tetri_compile.proofs.LawLemmas.{allotment_has_point}
 pub use Rattle.tetri_compile.proofs.LawfulLemmas.{goods, live_total, other_jobs}
+pub use Rattle.tetri_compile.proofs.NumberLemmas.{all_of}
 pub use Rattle.tetri_compile.proofs.SlotLemmas.{none_in_range, none_of}
 pub use Rattle.tetri_compile.proofs.TallyLemmas.{IsOf, number_of, number_of_all, tallies_leaf, tallies_leaf_of, tallies_other}
 pub use Rattle.tetri_compile.proofs.WalkLemmas.{IsBelowEach}

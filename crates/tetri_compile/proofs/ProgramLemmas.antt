@@ -25,6 +25,7 @@ use Rattle.tetri_compile.specs.Forms.{Form, Limit, plain_limit}
 use Rattle.tetri_compile.specs.Sizes.{covers}
 use Rattle.tetri_compile.specs.Small.{IsSmallForm, IsSmallLimit}
 use Rattle.tetri_compile.specs.Walked.{Grows}
+use Rattle.tetri_compile.proofs.CoefficientLemmas.{few_times}
 
 -- the numbers from a place on begin with the one there
 pub range_more : (a m : ℕ) → a < m → range_with_len a (m - a) ≡ a ∷ range_with_len (a + 1) (m - (a + 1))
@@ -84,15 +85,9 @@ module _ (room : ℕ → ℕ → ℕ) (cs : List Tally) where
       ∙ ap (λ ps. map plain_limit old.rows.items ++ supply room cs slots ps) (sym (range_more a m lt)) ∙ h
 
 -- ---- by columns
-coefficient_most : (f : Form) (j : ℕ) → Each (λ s. s.by ≤ PEAK) f → coefficient f j ≤ length f * PEAK
-coefficient_most [] j h = omega arith
-coefficient_most (s ∷ f) j h =
-    let rest = coefficient_most f j h.1 in
-    cond_both (s.column == j) s.by 0 (λ n. n + coefficient f j ≤ suc (length f) * PEAK) (λ e. omega (arith, h.0, rest)) (λ e. omega (arith, rest))
-
 -- a column stands in a small form less than 2^61 times
 pub coefficient_small : (n : ℕ) (f : Form) (j : ℕ) → n ≤ 2000 → IsSmallForm n f → coefficient f j < 2 ^ 61
-coefficient_small n f j few small = omega (arith, coefficient_most f j small.numbers, small.few, few)
+coefficient_small n f j few small = omega (arith, few_times PEAK f j small.numbers, small.few, few)
 
 pub coefficient_here : (f : Form) (i : ℕ) (d : Share) → i < length f → (get_or f i d).by ≤ coefficient (drop i f) (get_or f i d).column
 coefficient_here f i d lt =

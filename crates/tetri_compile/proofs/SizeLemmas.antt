@@ -10,12 +10,11 @@ use Rattle.std.proofs.lemmas.List.Folds.{list_any-append}
 use Rattle.tetri_strl.specs.declared.expr.Leaf.{Leaf}
 use Rattle.tetri_strl.specs.Aligned.{EachLeaf}
 use Rattle.tetri_strl.specs.Tree.{leaves, tree}
-use Rattle.tetri_strl.proofs.WorthLemmas.{EachLeaf-from}
+use Rattle.tetri_strl.proofs.ExprLaws.{EachLeaf-from}
 use Rattle.tetri_space.specs.declared.instance.Offer.{Offer}
 use Rattle.tetri_base.specs.Lists.{bit, count, has, sum_of}
 use Rattle.tetri_space.specs.Space.{Bid, bid}
-use Rattle.tetri_space.proofs.BidLemmas.{next_bid}
-use Rattle.tetri_space.proofs.GroupLemmas.{range_next, range_push}
+use Rattle.tetri_space.proofs.InstanceLaws.{next_bid, range_next, range_push}
 use Rattle.tetri_base.proofs.ListLaws.{eq_from_test, test_from_eq, any_from, sum_of-append, sum_of-eq, Each-all, range_contains}
 use Rattle.tetri_compile.specs.Sizes.{covers, leaves_in, is_used}
 

@@ -13,13 +13,14 @@ use Rattle.tetri_space.specs.Partitions.{alike, asked, available, closed_sets, l
 use Rattle.tetri_space.specs.Sound.{IsSound as IsSoundSpace}
 use Rattle.tetri_space.specs.Space.{Bid, Space}
 use Rattle.tetri_base.proofs.ListLaws.{Each-append, Each-filter, Each-map, bit-le}
-use Rattle.tetri_space.proofs.PartsLemmas.{filter_shorter}
+use Rattle.tetri_space.proofs.InstanceLaws.{filter_shorter}
 use Rattle.tetri_compile.specs.declared.outline.Tally.{Tally}
 use Rattle.tetri_compile.specs.Draft.{bid_rows, bid_tallies, bid_uppers, is_held, leaf_tallies, objective, part_supply, supply, supply_row, tallies, tallies_of, tally_form}
 use Rattle.tetri_compile.specs.Forms.{Form, limit, run, share, times}
 use Rattle.tetri_compile.specs.Small.{IsSmallForm, IsSmallLimit}
 use Rattle.tetri_compile.specs.Walk.{best, form, forms, ones, own_uppers, rows, rows_of, rows_under, uppers, uppers_of, width}
-use Rattle.tetri_compile.proofs.FormSizes.{form_in, form_small, run_in, run_small}
+use Rattle.tetri_compile.proofs.FormColumns.{form_in, run_in}
+use Rattle.tetri_compile.proofs.FormSizes.{form_small, run_small}
 
 -- no worth of a sound expression is above the greatest peak
 pub peak_small : (t : Tree) → IsSound t → peak t ≤ PEAK
@@ -39,9 +40,9 @@ length_times s (p ∷ f) = ap suc (length_times s f)
 share_small : (top i b : ℕ) → i < top → b ≤ PEAK → IsSmallForm top (share i b ∷ [])
 share_small top i b lt le = record { columns = (lt, tt); numbers = (le, tt); few = omega (arith, lt) }
 
-run_form : {X : Type 0} (inside : ℕ → List ℕ) (usable : ℕ → Leaf → ℕ) (top b n : ℕ) (xs : List X) → b ≤ PEAK → n + length xs ≤ top → IsSmallForm top (run b n xs)
-run_form inside usable top b n xs small le = record {
-  columns = run_in inside usable b n top xs le;
+run_form : {X : Type 0} (top b n : ℕ) (xs : List X) → b ≤ PEAK → n + length xs ≤ top → IsSmallForm top (run b n xs)
+run_form top b n xs small le = record {
+  columns = run_in b n top xs le;
   numbers = run_small b PEAK n xs small;
   few = omega (arith, length_run b n xs, le);
 }
@@ -83,7 +84,7 @@ module _ (inside : ℕ → List ℕ) (usable : ℕ → Leaf → ℕ) where
     mutual
       rows_small : (t : Tree) → IsSound t → (i n : ℕ) → i < n → n + width inside usable t ≤ top → Each (IsSmallLimit top) (rows inside usable t i n)
       rows_small (one l) sound i n lt le =
-          let counts : IsSmallForm top (run 1 n (inside l.set)) = run_form inside usable top 1 n (inside l.set) (omega arith) (omega (arith, le, length-map (inside l.set) (λ p. min l.k (usable p l)))) in
+          let counts : IsSmallForm top (run 1 n (inside l.set)) = run_form top 1 n (inside l.set) (omega arith) (omega (arith, le, length-map (inside l.set) (λ p. min l.k (usable p l)))) in
           let wanted : IsSmallForm top (share i l.k ∷ []) = share_small top i l.k (omega (arith, lt, le)) (omega (arith, sound.0.few_nodes)) in (
             limit_small top (run 1 n (inside l.set)) (share i l.k ∷ []) counts wanted,
             cond_both l.linear [] (limit (share i l.k ∷ []) (run 1 n (inside l.set)) ∷ []) (Each (IsSmallLimit top)) (λ e. tt)
@@ -91,13 +92,13 @@ module _ (inside : ℕ → List ℕ) (usable : ℕ → Leaf → ℕ) where
           )
       rows_small (join greatest ts) sound i n lt le =
           let w = length-append (ones ts) (uppers_of inside usable ts) in (
-            limit_small top (run 1 n (ones ts)) (share i 1 ∷ []) (run_form inside usable top 1 n (ones ts) (omega arith) (omega (arith, le, w))) (share_small top i 1 (omega (arith, lt, le)) (omega arith)),
+            limit_small top (run 1 n (ones ts)) (share i 1 ∷ []) (run_form top 1 n (ones ts) (omega arith) (omega (arith, le, w))) (share_small top i 1 (omega (arith, lt, le)) (omega arith)),
             rows_of_small ts sound.1 n (n + length (ones ts)) (omega arith) (omega (arith, le, w)),
           )
       rows_small (join least ts) sound i n lt le = rows_under_small ts sound.1 i n (n + 1) (omega (arith, lt)) (omega arith) (omega (arith, le))
       rows_small (join added ts) sound i n lt le =
           let w = length-append (ones ts) (uppers_of inside usable ts) in (
-            limit_small top (run 1 n (ones ts)) (share i (length (ones ts)) ∷ []) (run_form inside usable top 1 n (ones ts) (omega arith) (omega (arith, le, w)))
+            limit_small top (run 1 n (ones ts)) (share i (length (ones ts)) ∷ []) (run_form top 1 n (ones ts) (omega arith) (omega (arith, le, w)))
                 (share_small top i (length (ones ts)) (omega (arith, lt, le)) (omega (arith, few, le, w))),
             rows_of_small ts sound.1 n (n + length (ones ts)) (omega arith) (omega (arith, le, w)),
           )

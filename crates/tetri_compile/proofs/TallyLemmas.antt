@@ -11,7 +11,7 @@ use Rattle.tetri_base.specs.Lists.{Each, EachPair, Ascends}
 use Rattle.tetri_compile.specs.Marks.{own_values, values, values_of}
 use Rattle.tetri_compile.specs.Forms.{Reads}
 use Rattle.tetri_compile.specs.Walk.{own_uppers, width}
-use Rattle.tetri_strl.proofs.PartsApart.{AreApart, AreApartOf}
+use Rattle.tetri_strl.proofs.ExprLaws.{AreApart, AreApartOf}
 use Rattle.tetri_compile.proofs.WalkLemmas.{length-own, length-values}
 use Rattle.tetri_compile.proofs.FormLemmas.{Reads-split}
 use Rattle.tetri_base.proofs.ListLaws.{EachPair-append, Each-across, Each-from, Each-map, Each-append}

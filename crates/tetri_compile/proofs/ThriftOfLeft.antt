@@ -6,9 +6,8 @@ use Rattle.tetri_strl.specs.Prune.{starts_in, kept, pruned, pruned_of, worth_kep
 use Rattle.tetri_strl.specs.Thrifty.{IsBare, AtMostOne, MeetsOne, IsThrifty, AreThrifty}
 use Rattle.tetri_strl.specs.Tree.{Operator, greatest, least, added, Tree, one, join, scale, barrier, Trees, none, more, row, numbers, numbers_of}
 use Rattle.tetri_strl.specs.Worth.{worth_by}
-use Rattle.tetri_strl.proofs.PruneLemmas.{IsNothing, pruned_worth}
-use Rattle.tetri_strl.proofs.ThriftyLemmas.{right_bare}
-use Rattle.tetri_space.proofs.PrunedLemmas.{OfLeft, of_join, of_scale, of_bar, AreIn, left_numbers, left_numbers_of}
+use Rattle.tetri_strl.proofs.ExprLaws.{IsNothing, pruned_worth, right_bare}
+use Rattle.tetri_space.proofs.InstanceLaws.{OfLeft, of_join, of_scale, of_bar, AreIn, left_numbers, left_numbers_of}
 
 of_worth : (value : Leaf → ℕ) (w : ℕ) (o : Option Tree) → worth_kept value o ≡ w → OfLeft (λ u. worth_by value u ≡ w) o
 of_worth value w None e = tt

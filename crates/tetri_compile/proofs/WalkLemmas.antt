@@ -12,7 +12,7 @@ use Rattle.tetri_strl.specs.Tree.{Operator, greatest, least, added, Tree, one, j
 use Rattle.tetri_strl.specs.Tree.{numbers, numbers_of}
 use Rattle.tetri_strl.specs.WellMade.{IsGoodLeaf}
 use Rattle.tetri_strl.specs.Worth.{worth_at, joined, greatest_of, least_of, least_from, added_of, worth_by, worths_by}
-use Rattle.tetri_strl.proofs.WorthLemmas.{worth_at-none, worth_at_le, worth_by-le, EachLeaf-both}
+use Rattle.tetri_strl.proofs.ExprLaws.{worth_at-none, worth_at_le, worth_by-le, EachLeaf-both}
 use Rattle.tetri_compile.specs.Marks.{mark, own_values, values, values_of}
 use Rattle.tetri_base.specs.Lists.{sum_of}
 use Rattle.tetri_compile.specs.Forms.{share, at_point, run, limit, AreMet, Reads}

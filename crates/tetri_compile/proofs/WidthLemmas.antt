@@ -14,15 +14,13 @@ use Rattle.tetri_strl.specs.Aligned.{EachLeaf, EachLeafOf}
 use Rattle.tetri_strl.specs.Tree.{greatest, least, added, Tree, one, join, scale, barrier, Trees, none, more, leaves, leaves_of}
 use Rattle.tetri_strl.specs.Prune.{starts_in}
 use Rattle.tetri_strl.specs.WellMade.{IsSound, AreSound, IsGoodLeaf, HasChild, depth, depth_of, peak}
-use Rattle.tetri_strl.proofs.PartsApart.{the_one}
-use Rattle.tetri_strl.proofs.WorthLemmas.{EachLeaf-from, each_good}
+use Rattle.tetri_strl.proofs.ExprLaws.{the_one, EachLeaf-from, each_good}
 use Rattle.tetri_base.specs.Lists.{bit, count, has, sum_of, Each}
 use Rattle.tetri_space.specs.Partitions.{Parts, ArePartitionsOf, parts_found, parts_in, partitions, live_bids, part_at, set_at, available, asked, alike, closed_sets, leads}
 use Rattle.tetri_space.specs.Sound.{IsSound as IsSoundSpace, IsSoundBid}
 use Rattle.tetri_space.specs.Space.{Bid, Space, IsLive}
 use Rattle.tetri_base.proofs.ListLaws.{Each-get, Each-at, Each-from, Each-all, Each-filter, sum_of-eq, sum_of-swap, range_from}
-use Rattle.tetri_space.proofs.PartsLemmas.{filter_shorter}
-use Rattle.tetri_space.proofs.PrunedLemmas.{AreFrom, left_leaves, OfLeft, IsLess, IsLeftOf, IsSmaller, each_left_of, left_smaller, left_sound, sets_in_has, bids_left-shorter}
+use Rattle.tetri_space.proofs.InstanceLaws.{filter_shorter, AreFrom, left_leaves, OfLeft, IsLess, IsLeftOf, IsSmaller, each_left_of, left_smaller, left_sound, sets_in_has, bids_left-shorter}
 use Rattle.tetri_compile.specs.declared.outline.Tally.{Tally}
 use Rattle.tetri_compile.specs.Draft.{leaf_tallies, is_held, supply_row, tallies, tallies_of, bid_uppers, bid_rows, bid_tallies, part_supply, supply}
 use Rattle.tetri_compile.specs.Flat.{column_count, row_count}

@@ -84,7 +84,8 @@ pub record Draft : Type 0 where
 abbrev pub outline_draft : Outline → Form → Draft
 outline_draft o f = record { uppers = o.uppers.items; objective = f; rows = map plain_limit o.rows.items; tallies = o.tallies.items }
 
--- the program of these bids over these partitions
+-- The program of these bids over these partitions. Slots after the window need no supply: no leaf starts there, what runs
+-- now frees nodes and takes none, and a leaf that would meet a closure there has counts of 0.
 abbrev pub draft_of : Space → List Bid → List (List ℕ) → Draft
 draft_of s bs parts =
     let inside = parts_in s parts in

@@ -1,10 +1,11 @@
-use Rattle.std.proofs.Common.{◌≡◌, ◌∙◌, ℕ, List, All, ◌<◌, length, ap, sym, subst}
+use Rattle.std.proofs.Common.{◌≡◌, ◌∙◌, ℕ, List, All, AllPairs, ◌<◌, length, ap, sym, subst}
 use Rattle.std.specs.Prelude.{◌≤ℤ◌}
 use Rattle.std.specs.List.Sorted.{IsNonDecreasingBy}
 use Rattle.std.proofs.lemmas.Result.{IfOk-weaker}
 use lib.IntN.{pos}
 use Rattle.tetri_strl.specs.declared.grants.Grant.{Grant}
 use Rattle.tetri_ip.specs.Points.{objective}
+use Rattle.tetri_space.specs.GrantOrder.{ComesBefore}
 use Rattle.tetri_space.specs.Lawful.{IsLawful}
 use Rattle.tetri_space.specs.Total.{total_in}
 use Rattle.tetri_assign.specs.Granting.{GrantsCounts}
@@ -14,7 +15,7 @@ use Rattle.tetri_assign.specs.Assigned.{assigned, gathered}
 use Rattle.tetri_assign.specs.Taking.{backs, taken_from, wants_from}
 use Rattle.tetri_assign.specs.declared.wants.Want.{Want}
 use Rattle.tetri_assign.proofs.AssignLemmas.{counts_right, gathered_assigned, wants_last, wants_there, wants_turn}
-use Rattle.tetri_assign.proofs.Law.{assigned_counts, assigned_lawful, assigned_worth}
+use Rattle.tetri_assign.proofs.Law.{assigned_counts, assigned_lawful, assigned_ordered, assigned_worth}
 use Rattle.tetri_assign.proofs.assigning.assign.Goals as goal
 
 pub counts_of-requires-clause-counts : goal.counts_of-requires-clause-counts
@@ -71,6 +72,13 @@ returns-clause-lawful c =
     let point = c.args.point.now in
     IfOk-weaker c.gather.result (λ a. a ≡ assigned s point) (IsLawful s)
     (λ a e. subst (IsLawful s) (sym e) (assigned_lawful s c.requires.sound c.args.c.now.program c.requires.compiled.program point c.requires.point)) (returns-clause-assigned c)
+
+pub returns-clause-ordered : goal.returns-clause-ordered
+returns-clause-ordered c =
+    let s = space c.args.inst.now in
+    let point = c.args.point.now in
+    IfOk-weaker c.gather.result (λ a. a ≡ assigned s point) (λ a. AllPairs ComesBefore a)
+    (λ a e. subst (λ (z : List Grant). AllPairs ComesBefore z) (sym e) (assigned_ordered s c.requires.sound c.args.c.now.program c.requires.compiled.program point c.requires.point)) (returns-clause-assigned c)
 
 pub returns-clause-worth : goal.returns-clause-worth
 returns-clause-worth c =

@@ -1,6 +1,6 @@
 use Rattle.std.proofs.Common.{◌∙◌, sym, arith}
 use Rattle.tetri_space.specs.Space.{space}
-use Rattle.tetri_space.proofs.SearchLemmas.{offered_leaf}
+use Rattle.tetri_space.proofs.InstanceLaws.{offered_leaf}
 use Rattle.tetri_assign.proofs.wants.wants_of.Goals as goal
 
 pub overflow_add-leaf : goal.overflow_add-leaf

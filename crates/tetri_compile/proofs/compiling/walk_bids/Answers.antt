@@ -6,7 +6,7 @@ use Rattle.tetri_strl.specs.WellMade.{IsSound}
 use Rattle.tetri_base.specs.Lists.{Each}
 use Rattle.tetri_space.specs.Partitions.{parts_of}
 use Rattle.tetri_space.specs.Space.{Bid, bid, space}
-use Rattle.tetri_space.proofs.BidLemmas.{next_bid}
+use Rattle.tetri_space.proofs.InstanceLaws.{next_bid}
 use Rattle.tetri_compile.specs.declared.outline.Outline.{Outline}
 use Rattle.tetri_compile.specs.declared.outline.Share.{Share}
 use Rattle.tetri_compile.specs.Draft.{bid_uppers}

@@ -1,5 +1,4 @@
 use Rattle.std.proofs.Common.{◌<◌, ℕ, List, Bool, cond, length, sym, ap, ◌∙◌, subst}
-use Rattle.tetri_space.specs.Partitions.{partitions}
 use Rattle.tetri_space.specs.Space.{space}
 use Rattle.tetri_space.proofs.ClosedLaws.{available_is}
 use Rattle.tetri_compile.specs.Room.{idle_count}

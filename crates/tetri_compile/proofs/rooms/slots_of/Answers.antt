@@ -5,7 +5,7 @@ use Rattle.std.proofs.lemmas.List.Sorted.{IsNonDecreasingBy-from_sort}
 use Rattle.tetri_base.specs.Lists.{bit, count}
 use Rattle.tetri_space.specs.Free.{is_idle}
 use Rattle.tetri_space.specs.Space.{space}
-use Rattle.tetri_space.proofs.FreeLemmas.{count_next}
+use Rattle.tetri_space.proofs.InstanceLaws.{count_next}
 use Rattle.tetri_compile.proofs.EntryLemmas.{sum_of-moved}
 use Rattle.tetri_compile.proofs.RoomLemmas.{count_last, count_step}
 use Rattle.tetri_compile.proofs.rooms.slots_of.Goals as goal

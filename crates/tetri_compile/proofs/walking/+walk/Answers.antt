@@ -6,8 +6,7 @@ use Rattle.tetri_strl.specs.declared.expr.Leaf.{Leaf}
 use Rattle.tetri_strl.specs.Aligned.{EachLeaf, EachLeafOf}
 use Rattle.tetri_strl.specs.Tree.{Tree, join, least, added, scale, barrier, more, tree, trees}
 use Rattle.tetri_strl.specs.WellMade.{peak, IsSound, AreSound}
-use Rattle.tetri_strl.proofs.TreeLemmas.{tree-Min, tree-Sum, tree-Scale, tree-Barrier}
-use Rattle.tetri_strl.proofs.WorthLemmas.{EachLeaf-both}
+use Rattle.tetri_strl.proofs.ExprLaws.{tree-Min, tree-Sum, tree-Scale, tree-Barrier, EachLeaf-both}
 use Rattle.tetri_base.specs.Lists.{Each}
 use Rattle.tetri_space.specs.Partitions.{parts_of}
 use Rattle.tetri_space.specs.Space.{space}
