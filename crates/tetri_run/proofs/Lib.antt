@@ -1,9 +1,5 @@
-pub mod FirstFitLaw
-pub mod FirstFits
-pub mod KeptLemmas
 pub mod PrintLemmas
 pub mod RunLemmas
-pub mod SlotLemmas
 pub mod ReadBackLemmas
 pub mod CheckLemmas
 pub mod StepLemmas

@@ -17,8 +17,12 @@ use Rattle.tetri_state.specs.Known.{AreOfJobs}
 use Rattle.tetri_state.specs.Launch.{start_of, starts_now}
 use Rattle.tetri_trace.specs.Scenario.{Scenario}
 use Rattle.tetri_report.specs.Block.{Block}
-use Rattle.tetri_report.specs.Printable.{AreJobs, IsPrintable, IsPrintableCertificate, IsPrintableGrant}
-use Rattle.tetri_cert.specs.declared.certificate.Certificate.TheVariants.{Tops}
+use Rattle.tetri_report.specs.Printable.{AreJobs, IsPrintable, IsPrintableCertificate, IsPrintableGrant, IsPrintableNode}
+use Rattle.tetri_cert.specs.NodeText.{HasShortLists, IsPlain}
+use Rattle.tetri_cert.specs.declared.certificate.Certificate.{Certificate}
+use Rattle.tetri_cert.specs.declared.certificate.Certificate.TheVariants as certificates
+use Rattle.tetri_cert.specs.declared.marks.Mark.{Mark}
+use Rattle.tetri_plan.specs.Plans.{IsPrintableTree}
 use Rattle.tetri_report.specs.BlockLines.{occurrences_in}
 use Rattle.tetri_run.specs.Cycle.{IsPlanFor}
 
@@ -88,8 +92,18 @@ kept_within n keeps (b ∷ bs) all =
       | false ↦ rest
     ]
 
-pub cycle_printable : (t : Scenario) (i : Space) (carry : List Grant) (b : Block) (budget : ℕ) → IsInstanceOf t i → AreOfJobs t (occurrences_in b) → IsPlanFor i budget carry b → b.certificate ≡ Tops 0 0 → IsPrintable t b
-cycle_printable t i carry b budget is jobs plan tops = record {
+certificate_printable : (c : Certificate) → IsPrintableTree c → IsPrintableCertificate c
+certificate_printable (certificates.Tops columns rows) may = tt
+certificate_printable (certificates.Tree marks) may = (may.0, nodes_printable marks may.1 may.2)
+  where
+    nodes_printable : (ms : List Mark) → All IsPlain ms → All (HasShortLists 2000) ms → All IsPrintableNode ms
+    nodes_printable [] plain short = All-nil IsPrintableNode
+    nodes_printable (m ∷ ms) plain short =
+        All-cons IsPrintableNode m ms (record { plain = All-head IsPlain m ms plain; short = All-head (HasShortLists 2000) m ms short })
+        (nodes_printable ms (All-tail IsPlain m ms plain) (All-tail (HasShortLists 2000) m ms short))
+
+pub cycle_printable : (t : Scenario) (i : Space) (carry : List Grant) (b : Block) (budget : ℕ) → IsInstanceOf t i → AreOfJobs t (occurrences_in b) → IsPlanFor i budget carry b → IsPrintableTree b.certificate → IsPrintable t b
+cycle_printable t i carry b budget is jobs plan may = record {
   ended = jobs.ended;
   cancelled = jobs.cancelled;
   failed = jobs.failed;
@@ -97,6 +111,6 @@ cycle_printable t i carry b budget is jobs plan tops = record {
   expired = jobs.expired;
   grants = All-weaker (IsLawfulGrant i) (IsPrintableGrant t) (grant_printable t i is) b.grants plan.honest.lawful.grants;
   starts = ap length plan.starts ∙ length-map b.grants (start_of i);
-  certificate = subst IsPrintableCertificate (sym tops) tt;
+  certificate = certificate_printable b.certificate may;
   launched = subst (AreJobs t) (sym plan.launched) (kept_within (length t.submissions) (λ c. starts_now i b.grants c.job) i.bids is.jobs);
 }

@@ -42,7 +42,7 @@ module _ (t : Scenario) (sound : IsSound t) where
       let there = begin_reached t s reached more in
       cycle_printable t (instance_at t s) planned.cycle.carry b t.header.budget
       (record { sound = instance_sound t (begin t s) sound (stands_begun t (begin t s) sound there) (early_begun t (begin t s) sound there); nodes = refl; jobs = begun_bids t sound (begin t s) there })
-      (subst (AreOfJobs t) (sym planned.cycle.happened) (occurring_known t sound s reached)) planned.cycle.plan planned.by_tops
+      (subst (AreOfJobs t) (sym planned.cycle.happened) (occurring_known t sound s reached)) planned.cycle.plan planned.printable
 
   run_printable : (past : List Block) → IsPlannedRun t past → All (IsPrintable t) (in_order past)
   run_printable [] run = All-nil (IsPrintable t)

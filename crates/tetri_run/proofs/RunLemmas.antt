@@ -1,5 +1,5 @@
 -- How a run grows by a slot, and where it stops.
-use Rattle.std.proofs.Common.{◌≡◌, ℕ, ◌+◌, ◌<◌, List, [], ◌∷◌, length, take, AllPairs, refl, sym, ap, ◌∙◌, subst, arith}
+use Rattle.std.proofs.Common.{◌≡◌, ℕ, ◌+◌, ◌<◌, List, [], ◌∷◌, length, take, refl, sym, ap, ◌∙◌, subst, arith}
 use Rattle.std.specs.Prelude.{Option, Some, None}
 use Rattle.std.proofs.lemmas.List.{append-nil}
 use Rattle.std.specs.Io.KnownBytes.{append_known}
@@ -14,7 +14,6 @@ use Rattle.tetri_state.specs.Launch.{worth_launched}
 use Rattle.tetri_state.specs.Reached.{ArePlans, IsReached, begun, between}
 use Rattle.tetri_state.specs.Snapshot.{Snapshot}
 use Rattle.tetri_trace.specs.Scenario.{Scenario}
-use Rattle.tetri_space.specs.GrantOrder.{ComesBefore}
 use Rattle.tetri_run.specs.Cycle.{IsPlannedCycle, instance_at}
 use Rattle.tetri_run.specs.Run.{IsPlannedRun, IsRun, NextText, cycle, summary, cycles_text, optimal_cycles, plans_of, state_behind, summary_of, worth_of_run}
 use Rattle.tetri_run.specs.Progress.{RanAll, RanSlot, RanSlots, StoppedBetween, StoppedInSlot, StoppedInText, summary_at}
@@ -41,11 +40,6 @@ run_begins t past b run = record { plans = plans_of past; are_plans = run_plans 
 pub now_behind : (t : Scenario) (past : List Block) → (state_behind t past).now ≡ length past
 now_behind t [] = refl
 now_behind t (b ∷ past) = omega (arith, now_behind t past)
-
--- the last plan is in order
-pub last_ordered : (t : Scenario) (past : List Block) → IsPlannedRun t past → AllPairs ComesBefore (state_behind t past).plan
-last_ordered t [] run = λ i j d lt within. absurd (omega (arith, within))
-last_ordered t (b ∷ past) run = run.1.kept_for.ordered
 
 no_slots : (t : Scenario) (tally : RunTally) (before : Option (List ℕ)) (s : Snapshot) → s ≡ state_behind t [] → tally.worth ≡ 0 → tally.optimal ≡ 0 → RanSlots t 0 s tally before before
 no_slots t tally before s e w o = record {

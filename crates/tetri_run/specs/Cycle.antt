@@ -1,13 +1,14 @@
 -- What one cycle of a run says.
-use Rattle.std.specs.Prelude.{◌≡◌, ◌≤◌, List, ℕ, AllPairs, map}
+use Rattle.std.specs.Prelude.{◌≡◌, List, [], ℕ, AllPairs, map}
 use Rattle.tetri_strl.specs.declared.grants.Grant.{Grant}
-use Rattle.tetri_cert.specs.declared.certificate.Certificate.TheVariants.{Tops}
 use Rattle.tetri_claims.specs.Certified.{IsCertified}
 use Rattle.tetri_claims.specs.Good.{BoundsEveryLawful, IsHonest}
 use Rattle.tetri_report.specs.Block.{Block}
 use Rattle.tetri_report.specs.BlockLines.{occurrences_in}
 use Rattle.tetri_judge.specs.PlanOf.{planned}
 use Rattle.tetri_report.specs.Printable.{IsInRange}
+use Rattle.tetri_plan.specs.Chosen.{IsChosen}
+use Rattle.tetri_plan.specs.Plans.{IsPrintableTree}
 use Rattle.tetri_space.specs.GrantOrder.{ComesBefore}
 use Rattle.tetri_space.specs.Space.{Space}
 use Rattle.tetri_space.specs.Total.{total_in}
@@ -16,8 +17,6 @@ use Rattle.tetri_state.specs.Launch.{start_of, launched_in}
 use Rattle.tetri_state.specs.Planning.{IsCarry, instance_of}
 use Rattle.tetri_state.specs.Snapshot.{Snapshot}
 use Rattle.tetri_trace.specs.Scenario.{Scenario}
-use Rattle.tetri_run.specs.FirstFit.{first_fit}
-use Rattle.tetri_run.specs.Kept.{kept}
 
 -- what the cycle plans for that begins in this state
 abbrev pub instance_at : Scenario → Snapshot → Space
@@ -44,16 +43,12 @@ pub record IsCycle (t : Scenario) (s : Snapshot) (b : Block) : Type 0 where
 abbrev pub IsBoundedCycle : Scenario → Snapshot → Block → Type 0
 IsBoundedCycle t s b = BoundsEveryLawful (instance_at t s) b.bound
 
--- the grants are those that this planner keeps, by job and leaf, and worth at least those of first fit
-pub record IsKeptFor (i : Space) (carry : List Grant) (b : Block) : Type 0 where
-  pub kept_by : b.grants ≡ kept i carry
-  pub ordered : AllPairs ComesBefore b.grants
-  pub first_fit : total_in i (first_fit i) ≤ b.value
-
--- the cycle that this planner plans, with the tops as its certificate, whose numbers are within the ranges of their lines
+-- The cycle that this planner plans: its plan is the chosen one for what is carried over and the budget of the trace, with its grants by
+-- job and leaf; its certificate may be printed, and its numbers are within the ranges of their lines.
 pub record IsPlannedCycle (t : Scenario) (s : Snapshot) (b : Block) : Type 0 where
   pub cycle : IsCycle t s b
   pub bounded : IsBoundedCycle t s b
-  pub by_tops : b.certificate ≡ Tops 0 0
-  pub kept_for : IsKeptFor (instance_at t s) cycle.carry b
+  pub chosen : IsChosen (instance_at t s) cycle.carry [] t.header.budget (planned b)
+  pub ordered : AllPairs ComesBefore b.grants
+  pub printable : IsPrintableTree b.certificate
   pub in_range : IsInRange b

@@ -1,5 +1,3 @@
-pub mod FirstFit
-pub mod Kept
 pub mod Cycle
 pub mod Run
 pub mod Faulty

@@ -6,7 +6,6 @@ mod check;
 mod cycle_check;
 mod cycles;
 mod ended;
-mod first_fit;
 mod halt;
 mod laws;
 mod planner;

@@ -1,7 +1,6 @@
 // One slot of a run.
-ghost use Rattle.std.specs.Prelude.{◌≡◌, ◌≤◌, ◌<◌, ◌^◌, AllPairs, IfOk, IsErrOf, OnOk};
+ghost use Rattle.std.specs.Prelude.{◌≡◌, ◌≤◌, ◌<◌, ◌^◌, IfOk, IsErrOf, OnOk};
 ghost use Rattle.tetri_algebra.specs.Counts.{Rose};
-ghost use Rattle.tetri_space.specs.GrantOrder.{ComesBefore};
 ghost use Rattle.tetri_run.specs.Cycle.{IsPlannedCycle};
 ghost use Rattle.tetri_run.specs.Progress.{IsReady, RanSlot, StoppedInSlot};
 ghost use Rattle.tetri_run.specs.Run.{optimal_count};
@@ -54,7 +53,6 @@ fn ready_slot(alloc: Global, trace: &Trace, state: &mut State) -> Result<Ready, 
     requires sound { IsSound (scenario trace.now) }
     requires reached { IsReached (scenario trace.now) between state.old }
     requires in_run { state.old.now < (scenario trace.now).header.until }
-    requires ordered { AllPairs ComesBefore state.old.plan }
     ensures begun { OnOk result (state.new ≡ begin (scenario trace.entry.now) state.old) }
     ensures ready { IfOk result (IsReady (scenario trace.entry.now) state.old) }
     ensures most { IfOk result (λ r. r.tally.optimal ≤ 1) }
@@ -64,7 +62,14 @@ fn ready_slot(alloc: Global, trace: &Trace, state: &mut State) -> Result<Ready, 
     let happened = state.begin_cycle(alloc, trace)?;
     let inst = state.instance(alloc, trace)?;
     let carry = state.carry(alloc, trace, &inst)?;
-    let told = plan_cycle(alloc, &inst, inst.now, happened, carry)?;
+    let told = plan_cycle(
+        alloc,
+        &inst,
+        inst.now,
+        happened,
+        &carry,
+        trace.header.budget,
+    )?;
     let text = print_cycle(alloc, trace, &told.cycle)?;
     let prepared = state.prepare(alloc, trace, &inst, &told.cycle.grants)?;
     let tally = SlotTally {
@@ -89,7 +94,6 @@ pub(crate) fn run_slot<K: Sink>(
     requires sound { IsSound (scenario trace.now) }
     requires reached { IsReached (scenario trace.now) between state.old }
     requires in_run { state.old.now < (scenario trace.now).header.until }
-    requires ordered { AllPairs ComesBefore state.old.plan }
     ensures ok { IfOk result (λ tally. RanSlot (scenario trace.entry.now) state.old state.new tally (K.written sink.old) (K.written sink.new)) }
     ensures most { IfOk result (λ tally. tally.optimal ≤ 1) }
     ensures small { IfOk result (λ tally. tally.worth < 2 ^ 64) }

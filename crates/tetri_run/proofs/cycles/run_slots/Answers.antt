@@ -1,13 +1,12 @@
-use Rattle.std.proofs.Common.{◌∙◌, ◌+◌, ◌<◌, ap, sym, subst, refl, arith, rules, AllPairs}
+use Rattle.std.proofs.Common.{◌∙◌, ◌+◌, ◌<◌, ap, sym, subst, refl, arith, rules}
 use Rattle.std.specs.Prelude.{IsErrOf}
 use Rattle.tetri_state.specs.Reached.{IsReached, between}
 use Rattle.tetri_state.specs.Snapshot.{Snapshot}
 use Rattle.tetri_trace.specs.Scenario.{scenario}
-use Rattle.tetri_space.specs.GrantOrder.{ComesBefore}
 use Rattle.tetri_run.specs.Progress.{StoppedInSlot}
 use Rattle.tetri_run.specs.declared.cycles.RunTally.{RunTally}
 use Rattle.tetri_run.specs.declared.halt.Halt.TheVariants.{WriteFault}
-use Rattle.tetri_run.proofs.RunLemmas.{last_ordered, now_behind, one_more_slot, run_of, run_reaches, stopped_in_slot, summary_is}
+use Rattle.tetri_run.proofs.RunLemmas.{now_behind, one_more_slot, run_of, run_reaches, stopped_in_slot, summary_is}
 use Rattle.tetri_run.proofs.cycles.run_slots.Goals as goal
 
 pub run_slot-requires-clause-reached : goal.run_slot-requires-clause-reached
@@ -21,12 +20,6 @@ run_slot-requires-clause-in_run g c =
     let t = scenario c.args.trace.now in
     let ran = c.loop-number.invariant.ran in
     omega (arith, ap (λ (s : Snapshot). s.now) ran.state, now_behind t ran.past, ran.as_many, c.loop-number-test.true)
-
-pub run_slot-requires-clause-ordered : goal.run_slot-requires-clause-ordered
-run_slot-requires-clause-ordered g c =
-    let t = scenario c.args.trace.now in
-    let ran = c.loop-number.invariant.ran in
-    subst (λ (s : Snapshot). AllPairs ComesBefore s.plan) (sym ran.state) (last_ordered t ran.past ran.run)
 
 pub returns-in_err-slot-clause-failed : goal.returns-in_err-slot-clause-failed
 returns-in_err-slot-clause-failed g c =

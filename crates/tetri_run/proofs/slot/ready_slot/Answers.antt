@@ -1,4 +1,4 @@
-use Rattle.std.proofs.Common.{◌≡◌, ◌∙◌, ap, sym, subst, ◌<◌, length, All, AllPairs}
+use Rattle.std.proofs.Common.{◌≡◌, ◌∙◌, ap, sym, subst, ◌<◌, length, All, []}
 use Rattle.tetri_claims.specs.Good.{BoundsEveryLawful}
 use Rattle.tetri_report.specs.Block.{block}
 use Rattle.tetri_space.specs.Space.{Bid, Space, space}
@@ -9,19 +9,14 @@ use Rattle.tetri_state.specs.Planning.{IsCarry, instance_of}
 use Rattle.tetri_state.specs.Readied.{Fits, IsLaunchOf}
 use Rattle.tetri_state.specs.Snapshot.{Snapshot}
 use Rattle.tetri_trace.specs.Scenario.{scenario}
-use Rattle.tetri_space.specs.GrantOrder.{ComesBefore}
-use Rattle.tetri_run.specs.Cycle.{IsKeptFor, IsPlanFor, instance_at}
+use Rattle.tetri_judge.specs.PlanOf.{planned}
+use Rattle.tetri_plan.specs.Chosen.{IsChosen}
+use Rattle.tetri_run.specs.Cycle.{IsPlanFor, instance_at}
 use Rattle.tetri_run.proofs.PrintLemmas.{cycle_printable}
-use Rattle.tetri_run.proofs.SlotLemmas.{carry_ordered, numbered_ascend}
 use Rattle.tetri_run.proofs.slot.ready_slot.Goals as goal
 
-pub plan_cycle-requires-clause-numbered : goal.plan_cycle-requires-clause-numbered
-plan_cycle-requires-clause-numbered c = numbered_ascend _ c.in_ok-inst.ensures.numbered
-
-pub plan_cycle-requires-clause-ordered : goal.plan_cycle-requires-clause-ordered
-plan_cycle-requires-clause-ordered c =
-    carry_ordered (space c.in_ok-inst.inst) c.begin_cycle.new.self.plan c.in_ok-carry.carry
-    (subst (λ (q : Snapshot). AllPairs ComesBefore q.plan) (sym c.in_ok-happened.ensures.state) c.requires.ordered) c.in_ok-carry.ensures.carry
+pub plan_cycle-requires-clause-budget : goal.plan_cycle-requires-clause-budget
+plan_cycle-requires-clause-budget c = c.requires.sound.header.some_budget
 
 pub print_cycle-requires : goal.print_cycle-requires
 print_cycle-requires c =
@@ -34,13 +29,13 @@ print_cycle-requires c =
       jobs = subst (λ (i : Space). All (λ (b : Bid). b.job < length t.submissions) i.bids) (sym is) (c.jobs_of_a_run_are_known.ensures.pending c.begin_cycle.new.self c.in_ok-happened.ensures.reached);
     })
     (subst (AreOfJobs t) (sym (ap occurrences c.in_ok-told.ensures.happened ∙ c.in_ok-happened.ensures.happened)) (c.jobs_of_a_run_are_known.ensures.happened c.args.state.now c.requires.reached))
-    (c.in_ok-told.ensures.plan t.header.budget) c.in_ok-told.ensures.by_tops
+    c.in_ok-told.ensures.plan c.in_ok-told.ensures.printable
 
 pub prepare-requires-clause-lawful : goal.prepare-requires-clause-lawful
-prepare-requires-clause-lawful c = (c.in_ok-told.ensures.plan 0).honest.lawful
+prepare-requires-clause-lawful c = c.in_ok-told.ensures.plan.honest.lawful
 
 pub prepare-requires-clause-thrifty : goal.prepare-requires-clause-thrifty
-prepare-requires-clause-thrifty c = (c.in_ok-told.ensures.plan 0).honest.thrifty
+prepare-requires-clause-thrifty c = c.in_ok-told.ensures.plan.honest.thrifty
 
 pub returns-clause-ready : goal.returns-clause-ready
 returns-clause-ready c =
@@ -58,11 +53,12 @@ returns-clause-ready c =
           happened = ap occurrences c.in_ok-told.ensures.happened ∙ c.in_ok-happened.ensures.happened;
           carry = carry;
           carried = subst (λ (i : Space). IsCarry i s.plan carry) is (subst (λ (q : Snapshot). IsCarry (space c.in_ok-inst.inst) q.plan carry) begun c.in_ok-carry.ensures.carry);
-          plan = subst (λ (i : Space). IsPlanFor i t.header.budget carry b) is (c.in_ok-told.ensures.plan t.header.budget);
+          plan = subst (λ (i : Space). IsPlanFor i t.header.budget carry b) is c.in_ok-told.ensures.plan;
         };
         bounded = subst (λ (i : Space). BoundsEveryLawful i b.bound) is c.in_ok-told.ensures.bounded;
-        by_tops = c.in_ok-told.ensures.by_tops;
-        kept_for = subst (λ (i : Space). IsKeptFor i carry b) is c.in_ok-told.ensures.kept;
+        chosen = subst (λ (i : Space). IsChosen i carry [] t.header.budget (planned b)) is c.in_ok-told.ensures.chosen;
+        ordered = c.in_ok-told.ensures.ordered;
+        printable = c.in_ok-told.ensures.printable;
         in_range = c.in_ok-text.ensures.in_range;
       };
       text = c.in_ok-text.ensures.text;
