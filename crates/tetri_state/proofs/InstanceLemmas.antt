@@ -7,7 +7,7 @@ use Rattle.std.proofs.lemmas.List.FromFn.{get_or-map-range_with_len, length-map-
 use Rattle.std.proofs.lemmas.List.Folds.{list_any_at}
 use Rattle.std.proofs.lemmas.Bool.Decides.{nat_tests}
 use Rattle.tetri_base.specs.Lists.{Ascends, Each, has}
-use Rattle.tetri_base.proofs.ListLaws.{Each-get, Each-map}
+use Rattle.tetri_base.proofs.ListLaws.{Each-both, Each-get, Each-map}
 use Rattle.tetri_state.proofs.Ascending.{all_each}
 use Rattle.tetri_strl.specs.declared.expr.Leaf.{Leaf}
 use Rattle.tetri_strl.specs.Tree.{leaves}
@@ -15,11 +15,12 @@ use Rattle.tetri_space.specs.Free.{IsFree}
 use Rattle.tetri_space.specs.Space.{Bid, Space}
 use Rattle.tetri_space.specs.Sound.{HasKnownSet, IsSoundBid, IsSound as IsSoundSpace}
 use Rattle.tetri_trace.specs.Scenario.{Scenario}
-use Rattle.tetri_trace.specs.Sound.{IsSound, IsSoundSubmission}
+use Rattle.tetri_trace.specs.Sound.{IsSound}
 use Rattle.tetri_state.specs.declared.pieces.Piece.{Piece}
-use Rattle.tetri_state.specs.Planning.{IsNumbered, bid_of, busy_until, expected_or, instance_of}
-use Rattle.tetri_state.specs.Snapshot.{Snapshot, demanded, nothing_submitted, submission_of}
-use Rattle.tetri_state.proofs.ArrivalLemmas.{ArrivedBefore}
+use Rattle.tetri_state.specs.Begin.{has_expired}
+use Rattle.tetri_state.specs.Planning.{bid_of, busy_until, expected_or, instance_of}
+use Rattle.tetri_state.specs.Snapshot.{ArrivedBefore, Snapshot, offered}
+use Rattle.tetri_state.proofs.OfferedLemmas.{IsGoodOffer, good_offer}
 use Rattle.tetri_state.proofs.StandLemmas.{IsWithin, Stands}
 
 -- numbers that ascend within a range are no more than it has
@@ -41,33 +42,34 @@ expected_within now (p ∷ ps) node early within = by_test (has p.nodes node) (e
     by_test true rest = within.0
     by_test false rest = rest
 
-bids_ascend : (t : Scenario) (ns : List ℕ) → Ascends ns → AllPairs (λ (a b : Bid). a.job < b.job) (map (bid_of t) ns)
-bids_ascend t [] up i j d before within = absurd (omega arith)
-bids_ascend t (n ∷ ns) up i zero d before within = absurd (omega arith)
-bids_ascend t (n ∷ ns) up zero (suc j) d before within =
-    let lt : j < length ns = omega (arith, length-map ns (bid_of t)) in
-    subst (λ (b : Bid). n < b.job) (sym (get_or-map (bid_of t) ns j 0 d lt)) (Each-get (λ m. n < m) ns j 0 up.0 lt)
-bids_ascend t (n ∷ ns) up (suc i) (suc j) d before within = bids_ascend t ns up.1 i j d (omega arith) (omega arith)
+bids_ascend : (t : Scenario) (now : ℕ) (ns : List ℕ) → Ascends ns → AllPairs (λ (a b : Bid). a.job < b.job) (map (bid_of t now) ns)
+bids_ascend t now [] up i j d before within = absurd (omega arith)
+bids_ascend t now (n ∷ ns) up i zero d before within = absurd (omega arith)
+bids_ascend t now (n ∷ ns) up zero (suc j) d before within =
+    let lt : j < length ns = omega (arith, length-map ns (bid_of t now)) in
+    subst (λ (b : Bid). n < b.job) (sym (get_or-map (bid_of t now) ns j 0 d lt)) (Each-get (λ m. n < m) ns j 0 up.0 lt)
+bids_ascend t now (n ∷ ns) up (suc i) (suc j) d before within = bids_ascend t now ns up.1 i j d (omega arith) (omega arith)
 
 module _ (t : Scenario) (s : Snapshot) (sound : IsSound t) (stands : Stands t (s.now + 1) s) (early : s.now < 10000) where
   abbrev i : Space
   i = instance_of t s
 
-  -- what a pending job asks for
-  abbrev IsGood : ℕ → Type 0
-  IsGood job = IsSoundSubmission t (submission_of t job)
+  -- what a pending job offers
+  abbrev pub OffersGood : ℕ → Type 0
+  OffersGood job = IsGoodOffer (length t.sets) (offered t s.now job)
 
-  pub pending_good : Each IsGood s.pending
+  pub pending_good : Each OffersGood s.pending
   pending_good =
-      Each-map (ArrivedBefore t (s.now + 1)) IsGood (λ job known. sound.jobs job nothing_submitted known.0) s.pending stands.arrived
+      Each-both (ArrivedBefore t (s.now + 1)) (λ j. has_expired t s.now j ≡ false) OffersGood
+      (λ job arrived alive. good_offer t sound job s.now arrived (omega (arith, early)) alive) s.pending stands.arrived (stands.alive (omega arith))
 
   sets_known : (l : Leaf) → l.set < length t.sets → HasKnownSet i l
   sets_known l known = record { known = known; there = sound.known_nodes l.set [] known }
 
-  good_bid : (job : ℕ) → IsGood job → IsSoundBid i (bid_of t job)
+  good_bid : (job : ℕ) → OffersGood job → IsSoundBid i (bid_of t s.now job)
   good_bid job good = record {
     well_made = good.well_made;
-    known_sets = λ k d lt. sets_known (get_or (leaves (demanded t job)) k d) (good.known_sets k d lt);
+    known_sets = λ k d lt. sets_known (get_or (leaves (offered t s.now job)) k d) (good.known_sets k d lt);
   }
 
   pub instance_sound : IsSoundSpace i
@@ -87,24 +89,19 @@ module _ (t : Scenario) (s : Snapshot) (sound : IsSound t) (stands : Stands t (s
     few_jobs =
         omega (
           arith,
-          length-map s.pending (bid_of t),
+          length-map s.pending (bid_of t s.now),
           sound.few_jobs,
           ascend_length s.pending 0 (length t.submissions) (omega arith) stands.ascending (any_low s.pending)
               (Each-map (ArrivedBefore t (s.now + 1)) (λ n. n < length t.submissions) (λ n known. known.0) s.pending stands.arrived),
         );
-    ascending = bids_ascend t s.pending stands.ascending;
-    sound_bids = All-map (IsSoundBid i) (bid_of t) s.pending (all_each (λ job. IsSoundBid i (bid_of t job)) s.pending (Each-map IsGood (λ job. IsSoundBid i (bid_of t job)) good_bid s.pending pending_good));
+    ascending = bids_ascend t s.now s.pending stands.ascending;
+    sound_bids =
+        All-map (IsSoundBid i) (bid_of t s.now) s.pending
+        (all_each (λ job. IsSoundBid i (bid_of t s.now job)) s.pending (Each-map OffersGood (λ job. IsSoundBid i (bid_of t s.now job)) good_bid s.pending pending_good));
   }
 
-  pub instance_numbered : All IsNumbered i.bids
-  instance_numbered =
-      All-map IsNumbered (bid_of t) s.pending
-      (all_each (λ job. IsNumbered (bid_of t job)) s.pending (Each-map IsGood (λ job. IsNumbered (bid_of t job)) (λ job good. good.numbered) s.pending pending_good))
-
-  pub jobs_known : All (λ j. j < length t.submissions) s.pending
-  jobs_known =
-      all_each (λ j. j < length t.submissions) s.pending
-      (Each-map (ArrivedBefore t (s.now + 1)) (λ n. n < length t.submissions) (λ n known. known.0) s.pending stands.arrived)
+  pub jobs_arrived : All (ArrivedBefore t (s.now + 1)) s.pending
+  jobs_arrived = all_each (ArrivedBefore t (s.now + 1)) s.pending stands.arrived
 
   pub nodes_there : All (λ p. All (λ n. n < length t.nodes) p.nodes) s.pieces
   nodes_there =

@@ -17,8 +17,7 @@ use Rattle.tetri_state.specs.Begin.{Turn, but_of, cancel, comes_before, ending, 
 use Rattle.tetri_state.specs.Known.{AreOfJobs}
 use Rattle.tetri_state.specs.Planning.{bid_of, instance_of}
 use Rattle.tetri_state.specs.Reached.{IsReached, between, begun}
-use Rattle.tetri_state.specs.Snapshot.{Snapshot}
-use Rattle.tetri_state.proofs.ArrivalLemmas.{ArrivedBefore}
+use Rattle.tetri_state.specs.Snapshot.{ArrivedBefore, Snapshot}
 use Rattle.tetri_state.proofs.PieceLemmas.{each_mapped}
 use Rattle.tetri_state.proofs.ReachedLemmas.{stands_begun, stands_between}
 use Rattle.tetri_state.proofs.SoundLemmas.{held_of}
@@ -44,7 +43,7 @@ module _ (t : Scenario) where
   staying_known s each = Each-filter IsOfJob (λ p. runs (turn t s).running p.job) (running_on s) (running_known s each)
 
   bids_known : (s : Snapshot) → Each IsJob s.pending → All (λ b. b.job < length t.submissions) (instance_of t s).bids
-  bids_known s each = all_each (λ (b : Bid). b.job < length t.submissions) (map (bid_of t) s.pending) (each_mapped IsJob (λ (b : Bid). b.job < length t.submissions) (bid_of t) (λ j h. h) s.pending each)
+  bids_known s each = all_each (λ (b : Bid). b.job < length t.submissions) (map (bid_of t s.now) s.pending) (each_mapped IsJob (λ (b : Bid). b.job < length t.submissions) (bid_of t s.now) (λ j h. h) s.pending each)
 
   pending_known : (slot : ℕ) (s : Snapshot) → Stands t slot s → Each IsJob s.pending
   pending_known slot s stands = Each-map (ArrivedBefore t slot) IsJob (λ j h. h.0) s.pending stands.arrived

@@ -1,5 +1,5 @@
 -- What a plan launches.
-use Rattle.std.proofs.Common.{◌≡◌, ℕ, ◌+◌, ◌<◌, ◌==◌, ◌&&◌, ◌||◌, Bool, true, false, cond, List, [], ◌∷◌, length, get_or, map, filter, not, All, Contains, Option, Some, None, refl, sym, ap, ◌∙◌, subst, arith, zero, suc}
+use Rattle.std.proofs.Common.{◌≡◌, ℕ, ◌+◌, ◌<◌, ◌==◌, ◌&&◌, ◌||◌, Bool, true, false, cond, List, [], ◌∷◌, length, get_or, map, filter, not, All, Contains, Option, Some, None, refl, sym, ap, ◌∙◌, subst, arith, inl, inr, zero, suc, ◌⊎◌}
 use Rattle.std.specs.List.{cons_option, filter_map, find, list_any, position_from}
 use Rattle.std.specs.Option.{IsSomeAnd, option_and_then, option_map}
 use Rattle.std.proofs.lemmas.Bool.Decides.{nat_tests}
@@ -15,7 +15,7 @@ use Rattle.tetri_strl.specs.Tree.{Tree, leaves}
 use Rattle.tetri_strl.specs.Trim.{idle, wastes}
 use Rattle.tetri_strl.specs.WellMade.{IsGoodLeaf, IsSound as IsSoundTree}
 use Rattle.tetri_strl.specs.Worth.{leaf_worth}
-use Rattle.tetri_strl.proofs.ExprLaws.{Begins, one_held_start, waste_is_exact}
+use Rattle.tetri_strl.proofs.ExprLaws.{Begins, NamesNot, one_held_start, waste_is_exact}
 use Rattle.tetri_space.proofs.InstanceLaws.{EachLeaf-at, leaf_in-within, offered_leaf}
 use Rattle.tetri_space.specs.Free.{IsFree}
 use Rattle.tetri_space.specs.Lawful.{AreApart, IsLawful, IsLawfulGrant, MayBeGranted}
@@ -25,16 +25,16 @@ use Rattle.tetri_trace.specs.Scenario.{Scenario}
 use Rattle.tetri_trace.specs.Sound.{IsSound}
 use Rattle.tetri_state.specs.declared.pieces.Piece.{Piece}
 use Rattle.tetri_state.specs.After.{after, new_pieces, piece_of}
+use Rattle.tetri_state.specs.Begin.{has_expired}
 use Rattle.tetri_state.specs.Launch.{start_of, start_or_0, starts_now}
 use Rattle.tetri_state.specs.Pieces.{ShareNoNode}
 use Rattle.tetri_state.specs.Planning.{bid_of, instance_of}
 use Rattle.tetri_state.specs.Reached.{IsPlan}
-use Rattle.tetri_state.specs.Snapshot.{Snapshot, demanded, nothing_submitted}
-use Rattle.tetri_state.proofs.ArrivalLemmas.{ArrivedBefore}
+use Rattle.tetri_state.specs.Snapshot.{ArrivedBefore, Snapshot, offered}
 use Rattle.tetri_state.proofs.Ascending.{each_from, each_passing}
 use Rattle.tetri_state.proofs.InstanceLemmas.{instance_sound, not_free}
 use Rattle.tetri_state.proofs.PieceLemmas.{NoneShare}
-use Rattle.tetri_state.proofs.StandLemmas.{IsWithin, NamesLeaf, Stands}
+use Rattle.tetri_state.proofs.StandLemmas.{IsWithin, NamesLeaf, Stands, WasPlanned}
 
 -- of the elements that pass a test
 module _ {X : Type 0} (test : X → Bool) where
@@ -121,21 +121,21 @@ thrifty_without a job e sound others =
     other g differ = let no : (g.job == job) ≡ false = grind (arith, nat_tests) in ap (λ b. b && list_any (λ n. n == g.leaf) (idle (leaf_worth a job) e)) no
 
 -- a pending job has its bid
-has_bid : (t : Scenario) (ns : List ℕ) (job : ℕ) → has ns job ≡ true → Contains (map (bid_of t) ns) (bid_of t job)
-has_bid t [] job there = absurd cc
-has_bid t (n ∷ ns) job there = by_test (n == job) refl there (has_bid t ns job)
+has_bid : (t : Scenario) (now : ℕ) (ns : List ℕ) (job : ℕ) → has ns job ≡ true → Contains (map (bid_of t now) ns) (bid_of t now job)
+has_bid t now [] job there = absurd cc
+has_bid t now (n ∷ ns) job there = by_test (n == job) refl there (has_bid t now ns job)
   where
-    by_test : (b : Bool) → (n == job) ≡ b → (b || has ns job) ≡ true → (has ns job ≡ true → Contains (map (bid_of t) ns) (bid_of t job)) →
-        Contains (bid_of t n ∷ map (bid_of t) ns) (bid_of t job)
-    by_test true same e rest = let at : n ≡ job = grind (arith, nat_tests) in (0, omega arith, ap (bid_of t) at)
+    by_test : (b : Bool) → (n == job) ≡ b → (b || has ns job) ≡ true → (has ns job ≡ true → Contains (map (bid_of t now) ns) (bid_of t now job)) →
+        Contains (bid_of t now n ∷ map (bid_of t now) ns) (bid_of t now job)
+    by_test true same e rest = let at : n ≡ job = grind (arith, nat_tests) in (0, omega arith, ap (bid_of t now) at)
     by_test false differ e rest = let later = rest e in (suc later.0, omega (arith, later.1), later.2)
 
 -- a bid is one of a pending job
-pub bid_known : (t : Scenario) (ns : List ℕ) (b : Bid) → Contains (map (bid_of t) ns) b → (b.expr ≡ demanded t b.job) × (has ns b.job ≡ true)
-bid_known t ns b at =
-    let lt : at.0 < length ns = omega (arith, at.1, length-map ns (bid_of t)) in
-    let is : b ≡ bid_of t (get_or ns at.0 0) = sym at.2 ∙ get_or-map (bid_of t) ns at.0 0 b lt in
-    subst (λ (c : Bid). (c.expr ≡ demanded t c.job) × (has ns c.job ≡ true)) (sym is) (refl, list_any_at (λ m. m == get_or ns at.0 0) ns at.0 0 lt (itself (get_or ns at.0 0)))
+pub bid_known : (t : Scenario) (now : ℕ) (ns : List ℕ) (b : Bid) → Contains (map (bid_of t now) ns) b → (b.expr ≡ offered t now b.job) × (has ns b.job ≡ true)
+bid_known t now ns b at =
+    let lt : at.0 < length ns = omega (arith, at.1, length-map ns (bid_of t now)) in
+    let is : b ≡ bid_of t now (get_or ns at.0 0) = sym at.2 ∙ get_or-map (bid_of t now) ns at.0 0 b lt in
+    subst (λ (c : Bid). (c.expr ≡ offered t now c.job) × (has ns c.job ≡ true)) (sym is) (refl, list_any_at (λ m. m == get_or ns at.0 0) ns at.0 0 lt (itself (get_or ns at.0 0)))
   where
     itself : (n : ℕ) → (n == n) ≡ true
     itself n = grind (arith, nat_tests)
@@ -156,17 +156,17 @@ both_true false y e = absurd cc
 pub same_from_test : (x y : ℕ) → (x == y) ≡ true → x ≡ y
 same_from_test x y e = grind (arith, nat_tests)
 
--- and its leaves are those of what it asks for
-pub leaf_pending : (t : Scenario) (ns : List ℕ) (job num : ℕ) → has ns job ≡ true → leaf_in (map (bid_of t) ns) job num ≡ find (λ l. l.num == num) (leaves (demanded t job))
-leaf_pending t ns job num there = ap (option_and_then (λ (b : Bid). find (λ l. l.num == num) (leaves b.expr))) (found ns there)
+-- and its leaves are those of what it offers
+pub leaf_pending : (t : Scenario) (now : ℕ) (ns : List ℕ) (job num : ℕ) → has ns job ≡ true → leaf_in (map (bid_of t now) ns) job num ≡ find (λ l. l.num == num) (leaves (offered t now job))
+leaf_pending t now ns job num there = ap (option_and_then (λ (b : Bid). find (λ l. l.num == num) (leaves b.expr))) (found ns there)
   where
-    found : (ms : List ℕ) → has ms job ≡ true → find (λ b. b.job == job) (map (bid_of t) ms) ≡ Some (bid_of t job)
+    found : (ms : List ℕ) → has ms job ≡ true → find (λ b. b.job == job) (map (bid_of t now) ms) ≡ Some (bid_of t now job)
     found [] here = absurd cc
     found (m ∷ ms) here = by_test (m == job) refl here (found ms)
       where
-        by_test : (b : Bool) → (m == job) ≡ b → (b || has ms job) ≡ true → (has ms job ≡ true → find (λ b. b.job == job) (map (bid_of t) ms) ≡ Some (bid_of t job)) →
-            cond b (Some (bid_of t m)) (find (λ b. b.job == job) (map (bid_of t) ms)) ≡ Some (bid_of t job)
-        by_test true same e rest = let at : m ≡ job = grind (arith, nat_tests) in ap (λ n. Some (bid_of t n)) at
+        by_test : (b : Bool) → (m == job) ≡ b → (b || has ms job) ≡ true → (has ms job ≡ true → find (λ b. b.job == job) (map (bid_of t now) ms) ≡ Some (bid_of t now job)) →
+            cond b (Some (bid_of t now m)) (find (λ b. b.job == job) (map (bid_of t now) ms)) ≡ Some (bid_of t now job)
+        by_test true same e rest = let at : m ≡ job = grind (arith, nat_tests) in ap (λ n. Some (bid_of t now n)) at
         by_test false differ e rest = rest e
 
 -- grants that a cycle may plan in a state whose slot has begun
@@ -201,7 +201,7 @@ module _ (t : Scenario) (s : Snapshot) (sound : IsSound t) (stands : Stands t (s
       let start = one_held_start (leaf_worth a job) held b.0.expr (bid_sound b.0 b.1.pending).well_made.aligned thrifty in
       let same_job : h.job ≡ job = same ∙ sym b.1.of_job in
       let same_expr : c.0.expr ≡ b.0.expr =
-      (bid_known t s.pending c.0 c.1.pending).0 ∙ ap (demanded t) (c.1.of_job ∙ same_job) ∙ sym (bid_known t s.pending b.0 b.1.pending).0 in
+      (bid_known t s.now s.pending c.0 c.1.pending).0 ∙ ap (offered t s.now) (c.1.of_job ∙ same_job) ∙ sym (bid_known t s.now s.pending b.0 b.1.pending).0 in
       let held_l : Contains held l.num =
       subst (Contains held) (ap (λ (x : Grant). x.leaf) at_g.2 ∙ sym b.1.numbered)
       (held_grant a job at_g.0 g at_g.1 (ap (λ (x : Grant). x.job) at_g.2 ∙ sym b.1.of_job)) in
@@ -263,13 +263,13 @@ module _ (t : Scenario) (s : Snapshot) (sound : IsSound t) (stands : Stands t (s
   grant_job g at =
       let m = grant_leaf g at in
       let b = leaf_in-within i.bids g.job g.leaf m.0 m.1 in
-      subst (λ j. has s.pending j ≡ true) b.1.of_job (bid_known t s.pending b.0 b.1.pending).1
+      subst (λ j. has s.pending j ≡ true) b.1.of_job (bid_known t s.now s.pending b.0 b.1.pending).1
 
   grant_arrived : (g : Grant) → Contains a g → ArrivedBefore t (s.now + 1) g.job
   grant_arrived g at = each_has (ArrivedBefore t (s.now + 1)) s.pending g.job stands.arrived (grant_job g at)
 
-  grant_named : (g : Grant) → Contains a g → NamesLeaf t g
-  grant_named g at = let m = grant_leaf g at in (m.0, sym (leaf_pending t s.pending g.job g.leaf (grant_job g at)) ∙ m.1)
+  grant_named : (g : Grant) → Contains a g → NamesLeaf (offered t s.now g.job) g
+  grant_named g at = let m = grant_leaf g at in (m.0, sym (leaf_pending t s.now s.pending g.job g.leaf (grant_job g at)) ∙ m.1)
 
   new_ran : Each (λ p. ArrivedBefore t (s.now + 1) p.job) (new_pieces t i a)
   new_ran =
@@ -307,18 +307,27 @@ module _ (t : Scenario) (s : Snapshot) (sound : IsSound t) (stands : Stands t (s
       let g = get_or a k d in
       let m = grant_leaf g (Contains-get_or a k d lt) in
       let b = leaf_in-within i.bids g.job g.leaf m.0 m.1 in
-      let there = (bid_known t s.pending b.0 b.1.pending).1 in
+      let there = (bid_known t s.now s.pending b.0 b.1.pending).1 in
       let here : has s.pending job ≡ true = subst (λ j. has s.pending j ≡ true) (b.1.of_job ∙ same) there in
       let e : true ≡ false = sym here ∙ absent in
       absurd cc
 
-  after_thrifty : (job : ℕ) → job < length t.submissions → IsThriftyFor a job (demanded t job)
-  after_thrifty job known = by_test (has s.pending job) refl
+  -- what is granted to a pending job is planned for what it offers in this slot, and nothing is granted to another one
+  after_planned : (job : ℕ) → NamesNot job a ⊎ ((last : ℕ) × WasPlanned t (s.now + 1) a job last)
+  after_planned job = by_test (has s.pending job) refl
     where
-      by_test : (b : Bool) → has s.pending job ≡ b → IsThriftyFor a job (demanded t job)
-      by_test true there = All-contains (λ (d : Bid). IsThriftyFor a d.job d.expr) i.bids (bid_of t job) plan.thrifty (has_bid t s.pending job there)
-      by_test false absent =
-          thrifty_without a job (demanded t job) (sound.jobs job nothing_submitted known).well_made.sound (not_granted job absent)
+      by_test : (b : Bool) → has s.pending job ≡ b → NamesNot job a ⊎ ((last : ℕ) × WasPlanned t (s.now + 1) a job last)
+      by_test true there = inr (
+        s.now,
+        record {
+          before = refl;
+          arrived = each_has (ArrivedBefore t (s.now + 1)) s.pending job stands.arrived there;
+          alive = each_has (λ j. has_expired t s.now j ≡ false) s.pending job (stands.alive (omega arith)) there;
+          named = λ g at same. subst (λ j. NamesLeaf (offered t s.now j) g) same (grant_named g at);
+          thrifty = All-contains (λ (d : Bid). IsThriftyFor a d.job d.expr) i.bids (bid_of t s.now job) plan.thrifty (has_bid t s.now s.pending job there);
+        },
+      )
+      by_test false absent = inl (not_granted job absent)
 
   -- after the cycle
   pub after_stands : Each (λ p. s.now < p.expected) s.pieces → Stands t (s.now + 1) (after t s a)
@@ -329,8 +338,8 @@ module _ (t : Scenario) (s : Snapshot) (sound : IsSound t) (stands : Stands t (s
     drained = stands.drained;
     pieces = Each-append (IsWithin t) s.pieces (new_pieces t i a) stands.pieces new_within;
     apart = EachPair-append ShareNoNode s.pieces (new_pieces t i a) stands.apart new_apart (old_apart ahead);
-    planned = Each-map (Contains a) (NamesLeaf t) grant_named a contained;
-    thrifty = after_thrifty;
+    planned = after_planned;
+    alive = λ begun. absurd (omega (arith, begun));
   }
 
 -- a node that a lawful grant uses in a slot is free in it

@@ -5,6 +5,7 @@ pub mod BusyLemmas
 pub mod CarryLemmas
 pub mod InstanceLemmas
 pub mod LaunchLemmas
+pub mod OfferedLemmas
 pub mod PieceLemmas
 pub mod ReachedLemmas
 pub mod ReadyLemmas

@@ -1,5 +1,5 @@
 -- The states that a run reaches.
-use Rattle.std.proofs.Common.{◌≡◌, ◌+◌, ◌<◌, List, [], ◌∷◌, length, refl, sym, ap, subst, arith, Result, Ok, Err, IfOk}
+use Rattle.std.proofs.Common.{◌≡◌, ◌+◌, ◌<◌, List, [], ◌∷◌, length, refl, sym, ap, subst, arith, inl, Result, Ok, Err, IfOk}
 use Rattle.std.proofs.lemmas.List.{length-replicate}
 use Rattle.std.proofs.lemmas.List.Elements.{All-nil}
 use Rattle.tetri_base.specs.Lists.{Each}
@@ -10,8 +10,8 @@ use Rattle.tetri_state.specs.declared.pieces.Piece.{Piece}
 use Rattle.tetri_state.specs.After.{after}
 use Rattle.tetri_state.specs.Begin.{begin}
 use Rattle.tetri_state.specs.Reached.{ArePlans, IsPlan, IsReached, Moment, between, begun, state_after}
-use Rattle.tetri_state.specs.Snapshot.{Snapshot, demanded, nothing_submitted, opening_state}
-use Rattle.tetri_state.proofs.LaunchLemmas.{after_stands, thrifty_without}
+use Rattle.tetri_state.specs.Snapshot.{Snapshot, opening_state}
+use Rattle.tetri_state.proofs.LaunchLemmas.{after_stands}
 use Rattle.tetri_state.proofs.PieceLemmas.{NoneShare}
 use Rattle.tetri_state.proofs.StandLemmas.{Stands, begin_ahead, begin_stands}
 
@@ -23,8 +23,8 @@ opening_stands t sound = record {
   drained = length-replicate (length t.nodes) _;
   pieces = tt;
   apart = tt;
-  planned = tt;
-  thrifty = λ job known. thrifty_without [] job (demanded t job) (sound.jobs job nothing_submitted known).well_made.sound (All-nil (λ (g : Grant). g.job ≡ job → ⊥));
+  planned = λ job. inl (All-nil (λ (g : Grant). g.job ≡ job → ⊥));
+  alive = λ begun. tt;
 }
 
 state_stands : (t : Scenario) → IsSound t → (plans : List (List Grant)) → ArePlans t plans → Stands t (state_after t plans).now (state_after t plans)

@@ -6,10 +6,8 @@ use Rattle.std.proofs.lemmas.List.{get_or-map, length-map}
 use Rattle.tetri_base.specs.Lists.{Each, has}
 use Rattle.tetri_base.proofs.ListLaws.{Each-filter, Each-from, Each-get, Each-map, any_from, has-filter, test_from_eq}
 use Rattle.tetri_space.proofs.InstanceLaws.{leaf_in-within}
-use Rattle.tetri_trace.specs.declared.trace.Job.{Job}
-use Rattle.tetri_trace.specs.declared.trace.Trace.{Trace}
-use Rattle.tetri_trace.specs.Scenario.{Scenario, scenario, submission}
-use Rattle.tetri_trace.specs.Sound.{IsSound, IsSoundSubmission}
+use Rattle.tetri_trace.specs.Scenario.{Scenario}
+use Rattle.tetri_trace.specs.Sound.{IsSound}
 use Rattle.std.specs.Option.{option_map}
 use Rattle.std.proofs.lemmas.List.Elements.{All-contains_itself, Contains-get_or}
 use Rattle.std.proofs.lemmas.List.Folds.{list_any_at}
@@ -24,8 +22,7 @@ use Rattle.tetri_space.specs.Trimmed.{IsThriftyForAll}
 use Rattle.tetri_state.specs.Planning.{bid_of, instance_of}
 use Rattle.tetri_state.specs.Reached.{IsPlan}
 use Rattle.tetri_state.specs.Readied.{IsLaunchOf, Readied, launched_from}
-use Rattle.tetri_state.specs.Snapshot.{Snapshot}
-use Rattle.tetri_state.proofs.ArrivalLemmas.{ArrivedBefore}
+use Rattle.tetri_state.specs.Snapshot.{ArrivedBefore, Snapshot}
 use Rattle.tetri_state.proofs.Ascending.{each_from}
 use Rattle.tetri_state.proofs.BeginLemmas.{same_state}
 use Rattle.tetri_state.proofs.LaunchLemmas.{grant_leaf, starts_here}
@@ -35,13 +32,6 @@ use Rattle.tetri_state.proofs.StandLemmas.{Stands}
 pub any_job : (ps : List Piece) (job : ℕ) → has (map (λ (p : Piece). p.job) ps) job ≡ list_any (λ p. p.job == job) ps
 any_job [] job = refl
 any_job (p ∷ ps) job = ap (λ b. p.job == job || b) (any_job ps job)
-
--- a job of a sound trace
-pub sound_job : (trace : Trace) → IsSound (scenario trace) → (job : ℕ) (j : Job) → job < length (scenario trace).submissions → j ≡ get_or trace.jobs job j →
-    IsSoundSubmission (scenario trace) (submission j)
-sound_job trace sound job j known is =
-    subst (IsSoundSubmission (scenario trace)) (get_or-map submission trace.jobs job j (submission j) (omega (arith, known, length-map trace.jobs submission)) ∙ ap submission (sym is))
-    (sound.jobs job (submission j) known)
 
 module _ {X : Type 0} (p q : X → Bool) where
   -- tests that agree on the elements keep the same
@@ -86,12 +76,12 @@ rest_is f ns =
 pub launched_is : (t : Scenario) (s : Snapshot) (a : List Grant) → launched_in (instance_of t s) a ≡ filter (starts_now (instance_of t s) a) s.pending
 launched_is t s a = along s.pending
   where
-    along : (ns : List ℕ) → map (λ (b : Bid). b.job) (filter (λ b. starts_now (instance_of t s) a b.job) (map (bid_of t) ns)) ≡ filter (starts_now (instance_of t s) a) ns
+    along : (ns : List ℕ) → map (λ (b : Bid). b.job) (filter (λ b. starts_now (instance_of t s) a b.job) (map (bid_of t s.now) ns)) ≡ filter (starts_now (instance_of t s) a) ns
     along [] = refl
     along (n ∷ ns) = by_test (starts_now (instance_of t s) a n) (along ns)
       where
-        by_test : (b : Bool) → map (λ (c : Bid). c.job) (filter (λ c. starts_now (instance_of t s) a c.job) (map (bid_of t) ns)) ≡ filter (starts_now (instance_of t s) a) ns →
-            map (λ (c : Bid). c.job) (cond b (bid_of t n ∷ filter (λ c. starts_now (instance_of t s) a c.job) (map (bid_of t) ns)) (filter (λ c. starts_now (instance_of t s) a c.job) (map (bid_of t) ns)))
+        by_test : (b : Bool) → map (λ (c : Bid). c.job) (filter (λ c. starts_now (instance_of t s) a c.job) (map (bid_of t s.now) ns)) ≡ filter (starts_now (instance_of t s) a) ns →
+            map (λ (c : Bid). c.job) (cond b (bid_of t s.now n ∷ filter (λ c. starts_now (instance_of t s) a c.job) (map (bid_of t s.now) ns)) (filter (λ c. starts_now (instance_of t s) a c.job) (map (bid_of t s.now) ns)))
             ≡ cond b (n ∷ filter (starts_now (instance_of t s) a) ns) (filter (starts_now (instance_of t s) a) ns)
         by_test true rest = ap (λ ms. n ∷ ms) rest
         by_test false rest = rest
@@ -175,8 +165,8 @@ module _ (t : Scenario) (s : Snapshot) (sound : IsSound t) (stands : Stands t (s
       let g = get_or a k d in
       let l = grant_leaf t s sound stands early a plan g (Contains-get_or a k d lt) in
       let b = leaf_in-within i.bids g.job g.leaf l.0 l.1 in
-      let m : b.1.pending.0 < length s.pending = omega (arith, b.1.pending.1, length-map s.pending (bid_of t)) in
-      let is : b.0 ≡ bid_of t (get_or s.pending b.1.pending.0 0) = sym b.1.pending.2 ∙ get_or-map (bid_of t) s.pending b.1.pending.0 0 b.0 m in
+      let m : b.1.pending.0 < length s.pending = omega (arith, b.1.pending.1, length-map s.pending (bid_of t s.now)) in
+      let is : b.0 ≡ bid_of t s.now (get_or s.pending b.1.pending.0 0) = sym b.1.pending.2 ∙ get_or-map (bid_of t s.now) s.pending b.1.pending.0 0 b.0 m in
       let job : get_or s.pending b.1.pending.0 0 ≡ g.job = sym (ap (λ (c : Bid). c.job) is) ∙ b.1.of_job in
       omega (arith, job, (Each-get (ArrivedBefore t (s.now + 1)) s.pending b.1.pending.0 0 stands.arrived m).0)
 

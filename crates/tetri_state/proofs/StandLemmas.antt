@@ -1,20 +1,21 @@
 -- What holds in each state that a run reaches.
-use Rattle.std.proofs.Common.{◌≡◌, ℕ, ◌+◌, ◌<◌, ◌≤◌, ◌==◌, Some, length, map, not, All, sym, subst, arith}
+use Rattle.std.proofs.Common.{◌≡◌, ◌⊎◌, ℕ, ◌+◌, ◌<◌, ◌≤◌, ◌==◌, Bool, true, false, List, Some, length, map, not, All, Contains, refl, sym, subst, arith}
 use Rattle.std.specs.List.{find}
 use Rattle.std.specs.List.Sorted.{IsStrictlyIncreasing}
 use Rattle.tetri_base.specs.Lists.{Ascends, Each}
-use Rattle.tetri_base.proofs.ListLaws.{Each-all, Each-filter, Each-map, EachPair-filter, filter-ascends}
+use Rattle.tetri_base.proofs.ListLaws.{Each-all, Each-filter, Each-map, Each-passed, EachPair-filter, filter-ascends}
 use Rattle.tetri_state.specs.Pieces.{ShareNoNode}
 use Rattle.tetri_strl.specs.declared.expr.Leaf.{Leaf}
 use Rattle.tetri_strl.specs.declared.grants.Grant.{Grant}
-use Rattle.tetri_strl.specs.Tree.{leaves}
+use Rattle.tetri_strl.specs.Tree.{Tree, leaves}
 use Rattle.tetri_strl.specs.Thrifty.{IsThriftyFor}
+use Rattle.tetri_strl.proofs.ExprLaws.{NamesNot}
 use Rattle.tetri_trace.specs.Scenario.{Scenario}
 use Rattle.tetri_trace.specs.Sound.{IsSound}
 use Rattle.tetri_state.specs.declared.pieces.Piece.{Piece}
 use Rattle.tetri_state.specs.Begin.{begin, events_at, has_ended, has_expired, holder_in, named, occurring, prolonged, running_on, runs, staying, turn, unturned}
-use Rattle.tetri_state.specs.Snapshot.{Snapshot, demanded}
-use Rattle.tetri_state.proofs.ArrivalLemmas.{ArrivedBefore, arrivals_before, arrived_later}
+use Rattle.tetri_state.specs.Snapshot.{ArrivedBefore, Snapshot, offered}
+use Rattle.tetri_state.proofs.ArrivalLemmas.{arrivals_before, arrived_later}
 use Rattle.tetri_state.proofs.Ascending.{ascend_to}
 use Rattle.tetri_state.proofs.PieceLemmas.{NoneShare, each_mapped, prolonged-ahead, prolonged-job, prolonged-nodes, prolonged-within, share_prolonged}
 use Rattle.tetri_state.proofs.SoundLemmas.{happen_all-pending, held_of}
@@ -26,9 +27,18 @@ pub record IsWithin (t : Scenario) (p : Piece) : Type 0 where
   pub nodes : All (λ n. n < length t.nodes) p.nodes
   pub expected : p.expected ≤ 30000
 
--- the grant names a leaf of what its job asks for
-abbrev pub NamesLeaf : Scenario → Grant → Type 0
-NamesLeaf t g = (l : Leaf) × (find (λ l. l.num == g.leaf) (leaves (demanded t g.job)) ≡ Some l)
+-- the grant names a leaf of this expression
+abbrev pub NamesLeaf : Tree → Grant → Type 0
+NamesLeaf e g = (l : Leaf) × (find (λ l. l.num == g.leaf) (leaves e) ≡ Some l)
+
+-- The job's grants were planned in the slot before this one: they name leaves of what it offered then, and are thrifty for
+-- that.
+pub record WasPlanned (t : Scenario) (now : ℕ) (plan : List Grant) (job last : ℕ) : Type 0 where
+  pub before : last + 1 ≡ now
+  pub arrived : ArrivedBefore t (last + 1) job
+  pub alive : has_expired t last job ≡ false
+  pub named : (g : Grant) → Contains plan g → g.job ≡ job → NamesLeaf (offered t last job) g
+  pub thrifty : IsThriftyFor plan job (offered t last job)
 
 -- what holds of a state in which all jobs that arrived before this slot have been taken
 pub record Stands (t : Scenario) (slot : ℕ) (s : Snapshot) : Type 0 where
@@ -38,8 +48,9 @@ pub record Stands (t : Scenario) (slot : ℕ) (s : Snapshot) : Type 0 where
   pub drained : length s.drained ≡ length t.nodes
   pub pieces : Each (IsWithin t) s.pieces
   pub apart : NoneShare s.pieces
-  pub planned : Each (NamesLeaf t) s.plan
-  pub thrifty : (job : ℕ) → job < length t.submissions → IsThriftyFor s.plan job (demanded t job)
+  pub planned : (job : ℕ) → NamesNot job s.plan ⊎ ((last : ℕ) × WasPlanned t s.now s.plan job last)
+  -- once the slot of the state has begun
+  pub alive : s.now < slot → Each (λ j. has_expired t s.now j ≡ false) s.pending
 
 module _ (t : Scenario) (s : Snapshot) (sound : IsSound t) (stands : Stands t s.now s) where
   turn_keeps : Keeps (length t.nodes) (turn t s)
@@ -83,8 +94,12 @@ module _ (t : Scenario) (s : Snapshot) (sound : IsSound t) (stands : Stands t s.
         share_prolonged s.now (staying t s)
         (EachPair-filter ShareNoNode (λ p. runs (turn t s).running p.job) (running_on s) (EachPair-filter ShareNoNode (λ p. not (has_ended s.now p)) s.pieces stands.apart));
     planned = stands.planned;
-    thrifty = stands.thrifty;
+    alive = λ after. Each-passed (λ j. has_expired t s.now j ≡ false) (λ j. not (has_expired t s.now j)) (λ j passes. by_test (has_expired t s.now j) passes) (turn t s).pending;
   }
+    where
+      by_test : (b : Bool) → not b ≡ true → b ≡ false
+      by_test true e = absurd cc
+      by_test false e = refl
 
 -- each piece is expected to end later than now
 pub begin_ahead : (t : Scenario) (s : Snapshot) → Each (λ p. s.now < p.expected) (begin t s).pieces

@@ -4,11 +4,11 @@ use Rattle.std.specs.List.{filter_map}
 use Rattle.tetri_strl.specs.declared.expr.Leaf.{Leaf}
 use Rattle.tetri_strl.specs.declared.grants.Grant.{Grant}
 use Rattle.tetri_space.specs.Space.{Space, leaf_in}
-use Rattle.tetri_trace.specs.Scenario.{Scenario}
+use Rattle.tetri_trace.specs.Scenario.{Scenario, submission_of}
 use Rattle.tetri_state.specs.declared.pieces.Piece.{Piece}
 use Rattle.tetri_state.specs.Launch.{starts_now, launched_in}
 use Rattle.tetri_state.specs.Planning.{instance_of}
-use Rattle.tetri_state.specs.Snapshot.{Snapshot, submission_of}
+use Rattle.tetri_state.specs.Snapshot.{Snapshot}
 
 -- how many slots a piece really runs that is expected to run `dur` and is this late: at least one
 abbrev pub real_dur : ℕ → ℤ → ℕ

@@ -4,14 +4,15 @@ use Rattle.std.specs.List.{list_any}
 use Rattle.tetri_base.specs.Lists.{has}
 use Rattle.tetri_base.specs.Order.{in_order}
 use Rattle.tetri_strl.specs.Worth.{top_of}
+use Rattle.tetri_request.specs.Options.{has_expired as ask_has_expired}
 use Rattle.tetri_trace.specs.declared.trace.Event.{Event}
 use Rattle.tetri_trace.specs.declared.trace.Happening.{Happening}
 use Rattle.tetri_trace.specs.declared.trace.Happening.TheVariants.{Arrive, Cancel, Drain, Undrain, Fail}
-use Rattle.tetri_trace.specs.Scenario.{Scenario}
+use Rattle.tetri_trace.specs.Scenario.{Demand, Scenario, strl, asks, submission_of}
 use Rattle.tetri_state.specs.declared.happened.PieceId.{PieceId}
 use Rattle.tetri_state.specs.declared.happened.Happened.{Happened}
 use Rattle.tetri_state.specs.declared.pieces.Piece.{Piece}
-use Rattle.tetri_state.specs.Snapshot.{Snapshot, demanded}
+use Rattle.tetri_state.specs.Snapshot.{Snapshot}
 
 abbrev pub without : ℕ → List ℕ → List ℕ
 without n ns = filter (λ m. not (m == n)) ns
@@ -137,10 +138,16 @@ prolonged now p = if is_over now p
     then record p { expected = now + 1 }
     else p
 
--- Last, jobs expire: their leaves that start from now on are worth nothing. No leaf starts after slot 20,000.
+-- Last, jobs expire.
+
+-- An expression whose leaves that start from now on are worth nothing, where no leaf starts after slot 20,000; and an ask
+-- none of whose options that start from now on is worth anything.
+abbrev pub is_spent : Demand → ℕ → ℕ → Bool
+is_spent (strl e) arrival now = top_of now 20001 e == 0
+is_spent (asks a) arrival now = ask_has_expired a arrival now
 
 abbrev pub has_expired : Scenario → ℕ → ℕ → Bool
-has_expired t now job = top_of now 20001 (demanded t job) == 0
+has_expired t now job = is_spent (submission_of t job).demand (submission_of t job).arrival now
 
 -- the state once its slot has begun
 abbrev pub begin : Scenario → Snapshot → Snapshot

@@ -5,12 +5,11 @@ use Rattle.tetri_base.specs.Lists.{has}
 use Rattle.tetri_strl.specs.declared.expr.Leaf.{Leaf}
 use Rattle.tetri_strl.specs.declared.grants.Grant.{Grant}
 use Rattle.tetri_strl.specs.Prune.{starts_in}
-use Rattle.tetri_strl.specs.Tree.{leaves, numbers}
 use Rattle.tetri_space.specs.Space.{Bid, Space, leaf_in}
 use Rattle.tetri_space.specs.Lawful.{IsLawful}
 use Rattle.tetri_trace.specs.Scenario.{Scenario}
 use Rattle.tetri_state.specs.declared.pieces.Piece.{Piece}
-use Rattle.tetri_state.specs.Snapshot.{Snapshot, demanded}
+use Rattle.tetri_state.specs.Snapshot.{Snapshot, offered}
 
 abbrev pub expected_or : ℕ → Option Piece → ℕ
 expected_or now None = now
@@ -25,8 +24,9 @@ abbrev pub marked : {X : Type 0} → X → List X → List ℕ → List X
 marked x row [] = row
 marked x row (n ∷ ns) = marked x (slice_set row n x) ns
 
-abbrev pub bid_of : Scenario → ℕ → Bid
-bid_of t job = record { job = job; expr = demanded t job }
+-- what a job offers in a slot
+abbrev pub bid_of : Scenario → ℕ → ℕ → Bid
+bid_of t now job = record { job = job; expr = offered t now job }
 
 -- the instance of a slot that has begun
 abbrev pub instance_of : Scenario → Snapshot → Space
@@ -38,12 +38,8 @@ instance_of t s = record {
   busy_until = map (busy_until s.now s.pieces) (range_with_len 0 (length t.nodes));
   drained = s.drained;
   closures = t.closures;
-  bids = map (bid_of t) s.pending;
+  bids = map (bid_of t s.now) s.pending;
 }
-
--- the leaves are numbered from 0 on, in the order of the text
-abbrev pub IsNumbered : Bid → Type 0
-IsNumbered b = numbers b.expr ≡ range_with_len 0 (length (leaves b.expr))
 
 -- the leaf is there, and starts in the window
 abbrev pub is_live : Space → Option Leaf → Bool

@@ -1,9 +1,10 @@
 // The beginning of a cycle.
-ghost use Rattle.std.specs.Prelude.{◌≡◌, ◌<◌, ◌&&◌, All, filter, length, map, not, IfOk, OnErr, OnOk};
+ghost use Rattle.std.specs.Prelude.{◌≡◌, ◌+◌, ◌<◌, ◌≤◌, ◌&&◌, All, filter, length, map, not, IfOk, OnErr, OnOk};
 ghost use Rattle.std.specs.List.Sorted.{IsNonDecreasingBy, IsStrictlyIncreasing};
 ghost use Rattle.tetri_state.specs.Begin.{begin, ending, finished, has_ended, occurrences, occurring, prolonged, running_on, runs, standing, told, turn};
 ghost use Rattle.tetri_state.specs.Reached as moment;
 ghost use Rattle.tetri_state.specs.Reached.{IsReached};
+ghost use Rattle.tetri_state.specs.Snapshot.{ArrivedBefore};
 ghost use Rattle.tetri_trace.specs.Scenario.{scenario};
 ghost use Rattle.tetri_trace.specs.Sound.{IsSound};
 
@@ -62,7 +63,8 @@ fn begin_slot(
     requires sound { IsSound (scenario trace.now) }
     requires drained { length drained.now ≡ length (scenario trace.now).nodes }
     requires pending { IsStrictlyIncreasing pending.now }
-    requires known { All (λ j. j < length (scenario trace.now).submissions)
+    requires early { now ≤ 10000 }
+    requires arrived { All (ArrivedBefore (scenario trace.now) (now + 1))
         (turn (scenario trace.now) (standing now drained.now pending.now pieces.now)).pending }
     requires nodes { All (λ p. All (λ n. n < length (scenario trace.now).nodes) p.nodes) pieces.now }
     ensures drained { let s = standing now drained.now pending.now pieces.now in
@@ -102,8 +104,8 @@ fn begin_slot(
 
 impl State {
     /// Begins the cycle of the slot: pieces that really end do so, the events of the slot happen, pieces that run longer
-    /// than expected are prolonged, and pending jobs whose remaining leaves are worth nothing expire. Its only error is want
-    /// of memory, which changes nothing.
+    /// than expected are prolonged, and pending jobs that can earn nothing from now on expire, which is found without making
+    /// the offers of asks. Its only error is want of memory, which changes nothing.
     pub fn begin_cycle(&mut self, alloc: Global, trace: &Trace) -> Result<Happened, AllocError>
         requires sound { IsSound (scenario trace.now) }
         requires reached { IsReached (scenario trace.now) moment.between self.old }
@@ -120,10 +122,10 @@ impl State {
     // The beginning of the cycle. What takes memory comes first.
     fn begin(&mut self, alloc: Global, trace: &Trace) -> Result<Happened, AllocError>
         requires sound { IsSound (scenario trace.now) }
-        requires early { self.old.now < 20000 }
+        requires early { self.old.now ≤ 10000 }
         requires drained { length self.old.drained ≡ length (scenario trace.now).nodes }
         requires pending { IsStrictlyIncreasing self.old.pending }
-        requires known { All (λ j. j < length (scenario trace.now).submissions) (turn (scenario trace.now) self.old).pending }
+        requires arrived { All (ArrivedBefore (scenario trace.now) (self.old.now + 1)) (turn (scenario trace.now) self.old).pending }
         requires nodes { All (λ p. All (λ n. n < length (scenario trace.now).nodes) p.nodes) self.old.pieces }
         ensures state { OnOk result (self.new ≡ begin (scenario trace.now) self.old) }
         ensures happened { IfOk result (λ h. occurrences h ≡ occurring (scenario trace.now) self.old) }

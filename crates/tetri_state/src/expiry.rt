@@ -1,34 +1,29 @@
 // Which pending jobs expire.
-ghost use Rattle.std.specs.Prelude.{◌≡◌, ◌<◌, ◌≤◌, All, filter, length, not, IfOk};
+ghost use Rattle.std.specs.Prelude.{◌≡◌, ◌+◌, ◌≤◌, All, filter, not, IfOk};
 ghost use Rattle.tetri_state.specs.Begin.{has_expired};
-ghost use Rattle.tetri_state.specs.Snapshot.{demanded};
-ghost use Rattle.tetri_strl.specs.Tree.{tree};
+ghost use Rattle.tetri_state.specs.Snapshot.{ArrivedBefore};
 ghost use Rattle.tetri_trace.specs.Scenario.{scenario};
 ghost use Rattle.tetri_trace.specs.Sound.{IsSound};
 
 use std::alloc::{AllocError, Global};
-use tetri_strl::{Expr, top_in};
+use tetri_request::expired;
+use tetri_strl::top_in;
 use tetri_trace::{Trace, Work};
 
 // No leaf starts at or after this slot.
 const END_OF_STARTS: u32 = 20001;
 
-// What a job asks for.
-pub fn demand(trace: &Trace, job: u32) -> &Expr
-    requires { job < length (scenario trace.now).submissions }
-    ensures { tree result.now ≡ demanded (scenario trace.now) job }
-{
-    match &trace.jobs.as_slice()[job as usize].work {
-        Work::Strl(expr) => expr,
-    }
-}
-
 fn has_expired(trace: &Trace, now: u32, job: u32) -> bool
     requires sound { IsSound (scenario trace.now) }
-    requires there { job < length (scenario trace.now).submissions }
+    requires arrived { ArrivedBefore (scenario trace.now) (now + 1) job }
+    requires early { now ≤ 10000 }
     ensures { result ≡ has_expired (scenario trace.now) now job }
 {
-    top_in(demand(trace, job), now, END_OF_STARTS) == 0
+    let job = trace.job(job);
+    match &job.work {
+        Work::Strl(expr) => top_in(expr, now, END_OF_STARTS) == 0,
+        Work::Asked(ask) => expired(ask, job.arrival, now),
+    }
 }
 
 // Pending jobs.
@@ -42,7 +37,8 @@ pub struct Parted {
 
 pub fn part(alloc: Global, trace: &Trace, now: u32, pending: &[u32]) -> Result<Parted, AllocError>
     requires sound { IsSound (scenario trace.now) }
-    requires there { All (λ j. j < length (scenario trace.now).submissions) pending.now }
+    requires arrived { All (ArrivedBefore (scenario trace.now) (now + 1)) pending.now }
+    requires early { now ≤ 10000 }
     ensures pending { IfOk result (λ v. v.pending.items ≡ filter (λ j. not (has_expired (scenario trace.now) now j)) pending.now) }
     ensures expired { IfOk result (λ v. v.expired.items ≡ filter (has_expired (scenario trace.now) now) pending.now) }
 {

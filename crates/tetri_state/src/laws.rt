@@ -1,5 +1,7 @@
 // Laws of the states that a run reaches.
-ghost use Rattle.std.specs.Prelude.{◌≡◌, ◌<◌, ℕ, Some, List, length, All, AllPairs, Contains};
+ghost use Rattle.std.specs.Prelude.{◌≡◌, ◌+◌, ◌<◌, ℕ, Some, List, length, All, AllPairs, Contains};
+ghost use Rattle.tetri_request.specs.Options.{offer};
+ghost use Rattle.tetri_request.specs.declared.ask.Ask.{Ask};
 ghost use Rattle.tetri_space.specs.Free.{IsFree};
 ghost use Rattle.tetri_space.specs.Lawful.{IsLawful};
 ghost use Rattle.tetri_space.specs.Space.{Covers, leaf_in};
@@ -10,11 +12,12 @@ ghost use Rattle.tetri_state.specs.Pieces.{RunsOnUnlessTold, ShareNoNode};
 ghost use Rattle.tetri_state.specs.Planning.{instance_of};
 ghost use Rattle.tetri_state.specs.Reached as moment;
 ghost use Rattle.tetri_state.specs.Reached.{IsReached};
-ghost use Rattle.tetri_state.specs.Snapshot.{Snapshot};
+ghost use Rattle.tetri_state.specs.Snapshot.{ArrivedBefore, Snapshot, offered};
 ghost use Rattle.tetri_state.specs.declared.pieces.Piece.{Piece};
 ghost use Rattle.tetri_strl.specs.declared.expr.Leaf.{Leaf};
 ghost use Rattle.tetri_strl.specs.declared.grants.Grant.{Grant};
-ghost use Rattle.tetri_trace.specs.Scenario.{scenario};
+ghost use Rattle.tetri_strl.specs.Tree.{Tree, leaves};
+ghost use Rattle.tetri_trace.specs.Scenario.{asks, scenario, submission_of};
 ghost use Rattle.tetri_trace.specs.Sound.{IsSound};
 
 use tetri_trace::Trace;
@@ -47,6 +50,28 @@ pub fn nodes_of_running_pieces_are_taken(trace: &Trace)
         → IsReached (scenario trace.entry.now) moment.begun s → Contains s.pieces p → Contains p.nodes n
         → IsLawful (instance_of (scenario trace.entry.now) s) a → Contains a g
         → leaf_in (instance_of (scenario trace.entry.now) s).bids g.job g.leaf ≡ Some l → Covers l s.now → Contains g.nodes n → ⊥ }
+{
+    let _ = trace;
+}
+
+/// Once a slot has begun, each pending job that asks has an offer in it.
+pub fn pending_asks_have_offers(trace: &Trace)
+    requires { IsSound (scenario trace.now) }
+    ensures { (s : Snapshot) (job : ℕ) (a : Ask) → IsReached (scenario trace.entry.now) moment.begun s → Contains s.pending job
+        → (submission_of (scenario trace.entry.now) job).demand ≡ asks a
+        → (e : Tree) × (offer a (submission_of (scenario trace.entry.now) job).arrival s.now (scenario trace.entry.now).header.window ≡ Some e) }
+{
+    let _ = trace;
+}
+
+/// In all that a job offers, in whatever slots since it arrived, a number names the same leaf. So what was planned for an
+/// ask in one slot names the same leaf in the next.
+pub fn leaves_keep_their_numbers(trace: &Trace)
+    requires { IsSound (scenario trace.now) }
+    ensures { (job now later : ℕ) (l m : Leaf)
+        → ArrivedBefore (scenario trace.entry.now) (now + 1) job → ArrivedBefore (scenario trace.entry.now) (later + 1) job
+        → Contains (leaves (offered (scenario trace.entry.now) now job)) l → Contains (leaves (offered (scenario trace.entry.now) later job)) m
+        → l.num ≡ m.num → l ≡ m }
 {
     let _ = trace;
 }

@@ -79,7 +79,7 @@ fn piece_of(alloc: Global, trace: &Trace, grant: &Grant, leaf: &Leaf) -> Result<
     requires good { IsGoodLeaf leaf.now }
     ensures { IfOk result (λ p. p ≡ piece_of (scenario trace.entry.now) grant.now leaf.now) }
 {
-    let late = trace.jobs.as_slice()[grant.job as usize].late;
+    let late = trace.job(grant.job).late;
     Ok(Piece {
         job: grant.job,
         leaf: grant.leaf,

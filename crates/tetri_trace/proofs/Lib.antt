@@ -2,6 +2,6 @@ pub mod Options
 pub mod ObjectLemmas
 pub mod JobNames
 pub mod Later
-pub mod Longer
-pub mod Arrivals
+pub mod SoundLaws
+pub mod Demands
 pub mod Ends

@@ -1,5 +1,5 @@
 -- Steps that may give nothing, where nothing is a fault.
-use Rattle.std.proofs.Common.{◌≡◌, Option, Some, None, option_and_then, ok_or, Result, Ok, Err, refl}
+use Rattle.std.proofs.Common.{◌≡◌, Option, Some, None, option_and_then, ok_or, Ok, refl}
 use Rattle.tetri_trace.specs.Answers.{Stops}
 use Rattle.tetri_trace.specs.declared.fault.Stop.{Stop}
 use Rattle.tetri_trace.specs.declared.fault.Stop.TheVariants as stops

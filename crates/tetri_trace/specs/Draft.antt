@@ -1,6 +1,8 @@
 -- The trace that is read so far.
 use Rattle.std.specs.Prelude.{◌<◌, ◌≤◌, ℕ, List, All, map}
 use Rattle.tetri_trace.specs.declared.draft.Draft.{Draft}
+use Rattle.tetri_trace.specs.declared.trace.Happening.{Happening}
+use Rattle.tetri_trace.specs.declared.trace.Happening.TheVariants.{Arrive, Cancel, Drain, Undrain, Fail}
 use Rattle.tetri_trace.specs.Scenario.{Scenario, submission}
 use Rattle.tetri_trace.specs.Sound.{IsSound}
 
@@ -25,3 +27,11 @@ with_sets s sets = record s { sets = sets }
 pub record IsNextSlot (s : Scenario) (at : ℕ) : Type 0 where
   pub in_run : at < s.header.until
   pub not_before : All (λ e. e.at ≤ at) s.events
+
+-- it brings no job
+abbrev pub BringsNone : Happening → Type 0
+BringsNone (Arrive job) = ⊥
+BringsNone (Cancel job) = Unit {0}
+BringsNone (Drain node) = Unit {0}
+BringsNone (Undrain node) = Unit {0}
+BringsNone (Fail node) = Unit {0}

@@ -3,6 +3,7 @@ pub mod Sound
 pub mod Answers
 pub mod Fields
 pub mod Closures
+pub mod Asks
 pub mod Objects
 pub mod Notices
 pub mod Lines

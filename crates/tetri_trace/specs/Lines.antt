@@ -5,12 +5,16 @@ use Rattle.serde_json.specs.Data.{Data}
 use Rattle.tetri_io.specs.Lines.{lines_from}
 use Rattle.tetri_cluster.specs.Names.{is_among, number_of}
 use Rattle.tetri_cluster.specs.Cluster.{names_of}
-use Rattle.tetri_parse.specs.Expression.{expression}
+use Rattle.tetri_cluster.specs.declared.cluster.NodeText.{NodeText}
+use Rattle.tetri_parse.specs.Expression.{expression, node_set}
+use Rattle.tetri_request.specs.declared.ask.Ask.{Ask}
+use Rattle.tetri_request.specs.declared.ask.Prefer.{Prefer}
 use Rattle.tetri_trace.specs.Answers.{at_line, in_text}
 use Rattle.tetri_base.specs.ResultSteps.{◌>>=◌}
+use Rattle.tetri_trace.specs.Asks.{AskText, PreferText, ask_with, prefer_with}
 use Rattle.tetri_trace.specs.Fields.{object_in}
-use Rattle.tetri_trace.specs.Objects.{Notice, arrives, cancels, drains, undrains, fails, event_in, header_in}
-use Rattle.tetri_trace.specs.Scenario.{Scenario, Submission, strl, job_names}
+use Rattle.tetri_trace.specs.Objects.{DemandText, written, asked, Notice, arrives, cancels, drains, undrains, fails, event_in, header_in}
+use Rattle.tetri_trace.specs.Scenario.{Demand, strl, asks, Scenario, Submission, job_names}
 use Rattle.tetri_trace.specs.declared.fault.TraceWhy.{TraceWhy}
 use Rattle.tetri_trace.specs.declared.fault.TraceWhy.TheVariants.{LineTooLong, TraceTooLong, NoHeader, OutOfOrder, PastEnd, NameTaken, NoSuchJob, NoSuchNode, TooManyJobs}
 use Rattle.tetri_trace.specs.declared.trace.Happening.{Happening}
@@ -39,15 +43,32 @@ with_job s job = with_event (record s { submissions = s.submissions ++ job ∷ [
 abbrev pub admitted : Scenario → Submission → Result Scenario TraceWhy
 admitted s job = if nat_lt (length s.submissions) 100000 then Ok (with_job s job) else Err TooManyJobs
 
--- a job with this text arrives
-unfoldable pub arrived : Scenario → ℕ → List ℕ → ℤ → List ℕ → Result Scenario TraceWhy
-arrived s at name late text =
+-- the place that an ask prefers, with the number of its set, and the sets with it
+abbrev pub prefer_of : List NodeText → Option PreferText → List (List ℕ) → Result (Option Prefer × List (List ℕ)) TraceWhy
+prefer_of nodes None sets = Ok (None, sets)
+prefer_of nodes (Some p) sets = in_text (node_set p.set nodes sets) >>= λ set. Ok (Some (prefer_with set.0 p), set.1)
+
+-- an ask with the numbers of its sets, its own before the preferred one, and the sets with them
+unfoldable pub ask_of : List NodeText → AskText → List (List ℕ) → Result (Ask × List (List ℕ)) TraceWhy
+ask_of nodes a sets = do
+  set ← in_text (node_set a.set nodes sets)
+  prefer ← prefer_of nodes a.prefer set.1
+  Ok (ask_with a set.0 prefer.0, prefer.1)
+
+-- what a job that arrives in a slot asks for, and the sets with those that it names
+abbrev pub demand_at : Scenario → ℕ → DemandText → Result (Demand × List (List ℕ)) TraceWhy
+demand_at s at (written text) = in_text (expression text s.header.unit at s.nodes s.sets) >>= λ said. Ok (strl said.0, said.1)
+demand_at s at (asked a) = ask_of s.nodes a s.sets >>= λ said. Ok (asks said.0, said.1)
+
+-- a job arrives
+unfoldable pub arrived : Scenario → ℕ → List ℕ → ℤ → DemandText → Result Scenario TraceWhy
+arrived s at name late demand =
     if is_among name (job_names s.submissions) then Err NameTaken else do
-      said ← in_text (expression text s.header.unit at s.nodes s.sets)
-      admitted (record s { sets = said.1 }) (record { name = name; arrival = at; late = late; demand = strl said.0 })
+      said ← demand_at s at demand
+      admitted (record s { sets = said.1 }) (record { name = name; arrival = at; late = late; demand = said.0 })
 
 abbrev pub happened : Scenario → ℕ → Notice → Result Scenario TraceWhy
-happened s at (arrives name late text) = arrived s at name late text
+happened s at (arrives name late demand) = arrived s at name late demand
 happened s at (cancels name) = ok_or (number_of name (job_names s.submissions)) NoSuchJob >>= λ job. Ok (with_event s at (Cancel job))
 happened s at (drains name) = ok_or (number_of name (names_of s.nodes)) NoSuchNode >>= λ node. Ok (with_event s at (Drain node))
 happened s at (undrains name) = ok_or (number_of name (names_of s.nodes)) NoSuchNode >>= λ node. Ok (with_event s at (Undrain node))
@@ -56,7 +77,7 @@ happened s at (fails name) = ok_or (number_of name (names_of s.nodes)) NoSuchNod
 -- the trace with the event that an object is
 unfoldable pub add_event : Scenario → Data → Result Scenario TraceWhy
 add_event s d = do
-  said ← event_in d
+  said ← event_in s.header.unit d
   at ← next_slot s said.0
   happened s at said.1
 

@@ -6,16 +6,19 @@ use Rattle.tetri_cluster.specs.Names.{first_repeated}
 use Rattle.tetri_cluster.specs.Cluster.{names_of}
 use Rattle.tetri_cluster.specs.declared.cluster.NodeText.{NodeText}
 use Rattle.tetri_base.specs.ResultSteps.{◌>>=◌}
-use Rattle.tetri_trace.specs.Fields.{required, has_key, optional, name_in, slot_in, number_in, unit_of, late_of, nodes_in}
-use Rattle.tetri_trace.specs.Scenario.{Scenario}
+use Rattle.tetri_trace.specs.Asks.{AskText, ask_text, ask_in, object_keys}
+use Rattle.tetri_trace.specs.Fields.{required, optional, name_in, slot_in, number_in, unit_of, late_of, nodes_in}
+use Rattle.tetri_trace.specs.Scenario.{Scenario, without_events}
 use Rattle.tetri_trace.specs.Closures.{closures_at, closures_of}
 use Rattle.tetri_trace.specs.declared.event.EventKey.{EventKey}
 use Rattle.tetri_trace.specs.declared.event.EventKey.TheVariants.{Arrive, Cancel, Drain, Undrain, Fail}
 use Rattle.tetri_trace.specs.declared.event.Notice as code
 use Rattle.tetri_trace.specs.declared.event.Notice.TheVariants as notices
+use Rattle.tetri_trace.specs.declared.event.WorkText as work
+use Rattle.tetri_trace.specs.declared.event.WorkText.TheVariants as works
 use Rattle.tetri_trace.specs.declared.fault.Field.TheVariants as fields
 use Rattle.tetri_trace.specs.declared.fault.TraceWhy.{TraceWhy}
-use Rattle.tetri_trace.specs.declared.fault.TraceWhy.TheVariants.{NoHeader, MissingField, BadField, UnknownEvent, NotBuilt, NameTaken, NoSuchNode}
+use Rattle.tetri_trace.specs.declared.fault.TraceWhy.TheVariants.{NoHeader, MissingField, BadField, UnknownEvent, NameTaken, NoSuchNode}
 
 -- from 1 to 4,096 nodes
 abbrev pub some_nodes : List NodeText → Option (List NodeText)
@@ -28,7 +31,7 @@ cluster_in d = option_and_then some_nodes (option_and_then nodes_in (as_array d)
 abbrev pub named_apart : List NodeText → Result (List NodeText) TraceWhy
 named_apart nodes = if is_none (first_repeated (names_of nodes)) then Ok nodes else Err NameTaken
 
--- a trace of a header alone
+-- the trace of a header
 unfoldable pub header_in : Data → Result Scenario TraceWhy
 header_in d = do
   list ← ok_or (get (codes "nodes") d) NoHeader
@@ -43,18 +46,27 @@ header_in d = do
   closed ← ok_or (closures_of (optional (codes "closures") d)) (BadField fields.Closures)
   cluster ← named_apart nodes
   closures ← ok_or (closures_at (names_of cluster) closed) NoSuchNode
-  Ok (record { header = record { window = window; budget = budget; until = until; unit = unit }; nodes = cluster; sets = []; closures = closures; submissions = []; events = [] })
+  Ok (without_events (record { window = window; budget = budget; until = until; unit = unit }) cluster closures)
+
+-- what a job asks for: the text of an expression, or an ask with texts for its sets
+pub data DemandText : Type 0 where
+  written : List ℕ → DemandText
+  asked : AskText → DemandText
+
+abbrev pub demand_text : work.WorkText → DemandText
+demand_text (works.Strl text) = written text.now
+demand_text (works.Asked a) = asked (ask_text a)
 
 -- what an event says, with names for what has no number yet
 pub data Notice : Type 0 where
-  arrives : List ℕ → ℤ → List ℕ → Notice
+  arrives : List ℕ → ℤ → DemandText → Notice
   cancels : List ℕ → Notice
   drains : List ℕ → Notice
   undrains : List ℕ → Notice
   fails : List ℕ → Notice
 
 abbrev pub notice : code.Notice → Notice
-notice (notices.Arrive name late text) = arrives name.now late text.now
+notice (notices.Arrive name late demand) = arrives name.now late (demand_text demand)
 notice (notices.Cancel name) = cancels name.now
 notice (notices.Drain name) = drains name.now
 notice (notices.Undrain name) = undrains name.now
@@ -76,34 +88,41 @@ event_key d =
     only
     (there Arrive (get (codes "arrive") d) ++ there Cancel (get (codes "cancel") d) ++ there Drain (get (codes "drain") d) ++ there Undrain (get (codes "undrain") d) ++ there Fail (get (codes "fail") d))
 
--- the text of an expression, beside which nothing is asked for
-abbrev pub text_alone : Data → Data → Option (List ℕ)
-text_alone d strl = if has_key (codes "ask") d then None else as_str strl
+-- an arrival has an expression or an ask
+abbrev pub arrival_keys : Option Data → Option Data → Result (Unit {0}) TraceWhy
+arrival_keys None None = Err (MissingField fields.Strl)
+arrival_keys None (Some ask) = object_keys ask
+arrival_keys (Some strl) None = Ok tt
+arrival_keys (Some strl) (Some ask) = object_keys ask
 
-abbrev pub without_strl : Data → TraceWhy
-without_strl d = if has_key (codes "ask") d then NotBuilt else MissingField fields.Strl
+-- what the job of an arrival with this expression or this ask asks for, where not both are there
+abbrev pub demand_in : ℕ → Option Data → Option Data → Result DemandText TraceWhy
+demand_in unit None None = Err (BadField fields.Strl)
+demand_in unit None (Some ask) = ask_in unit ask >>= λ a. Ok (asked a)
+demand_in unit (Some strl) None = ok_or (as_str strl) (BadField fields.Strl) >>= λ text. Ok (written text)
+demand_in unit (Some strl) (Some ask) = Err (BadField fields.Strl)
 
 -- the job that arrives by this value
-unfoldable pub arrival_notice : Data → Data → Result Notice TraceWhy
-arrival_notice d value = do
-  strl ← ok_or (get (codes "strl") d) (without_strl d)
+unfoldable pub arrival_notice : ℕ → Data → Data → Result Notice TraceWhy
+arrival_notice unit d value = do
+  complete ← arrival_keys (get (codes "strl") d) (get (codes "ask") d)
   name ← ok_or (name_in value) (BadField fields.Arrive)
   late ← ok_or (late_of (optional (codes "late") d)) (BadField fields.Late)
-  text ← ok_or (text_alone d strl) (BadField fields.Strl)
-  Ok (arrives name late text)
+  demand ← demand_in unit (get (codes "strl") d) (get (codes "ask") d)
+  Ok (arrives name late demand)
 
-abbrev pub notice_by : Data → EventKey → Data → Result Notice TraceWhy
-notice_by d Arrive value = arrival_notice d value
-notice_by d Cancel value = ok_or (name_in value) (BadField fields.Cancel) >>= λ name. Ok (cancels name)
-notice_by d Drain value = ok_or (name_in value) (BadField fields.Drain) >>= λ name. Ok (drains name)
-notice_by d Undrain value = ok_or (name_in value) (BadField fields.Undrain) >>= λ name. Ok (undrains name)
-notice_by d Fail value = ok_or (name_in value) (BadField fields.Fail) >>= λ name. Ok (fails name)
+abbrev pub notice_by : ℕ → Data → EventKey → Data → Result Notice TraceWhy
+notice_by unit d Arrive value = arrival_notice unit d value
+notice_by unit d Cancel value = ok_or (name_in value) (BadField fields.Cancel) >>= λ name. Ok (cancels name)
+notice_by unit d Drain value = ok_or (name_in value) (BadField fields.Drain) >>= λ name. Ok (drains name)
+notice_by unit d Undrain value = ok_or (name_in value) (BadField fields.Undrain) >>= λ name. Ok (undrains name)
+notice_by unit d Fail value = ok_or (name_in value) (BadField fields.Fail) >>= λ name. Ok (fails name)
 
--- the slot and the notice of an event
-unfoldable pub event_in : Data → Result (ℕ × Notice) TraceWhy
-event_in d = do
+-- the slot and the notice of an event, where written worths are multiplied by the unit
+unfoldable pub event_in : ℕ → Data → Result (ℕ × Notice) TraceWhy
+event_in unit d = do
   value ← required fields.At (codes "at") d
   at ← ok_or (slot_in value) (BadField fields.At)
   key ← event_key d
-  said ← notice_by d key.0 key.1
+  said ← notice_by unit d key.0 key.1
   Ok (at, said)

@@ -1,7 +1,8 @@
 -- Which traces are sound.
-use Rattle.std.specs.Prelude.{◌≡◌, ◌+◌, ◌<◌, ◌≤◌, ℕ, pos, negsuc, ◌≤ℤ◌, true, map, All, AllPairs, length, Option, Some, None}
-use Rattle.std.specs.List.{filter_map, zip, range_with_len}
-use Rattle.tetri_strl.specs.Tree.{leaves, numbers}
+use Rattle.std.specs.Prelude.{◌≡◌, ◌≢◌, ◌+◌, ◌<◌, ◌≤◌, ℕ, pos, negsuc, ◌≤ℤ◌, true, All, AllPairs, Contains, length}
+use Rattle.tetri_request.specs.declared.ask.Ask.{Ask}
+use Rattle.tetri_request.specs.Options.{IsSetOf, IsSoundAsk}
+use Rattle.tetri_strl.specs.Tree.{Tree, leaves}
 use Rattle.tetri_strl.specs.WellMade.{IsWellMade}
 use Rattle.tetri_cluster.specs.Names.{is_name, differ}
 use Rattle.tetri_cluster.specs.Cluster.{names_of}
@@ -11,7 +12,7 @@ use Rattle.tetri_trace.specs.declared.trace.Header.{Header}
 use Rattle.tetri_trace.specs.declared.trace.Event.{Event}
 use Rattle.tetri_trace.specs.declared.trace.Happening.{Happening}
 use Rattle.tetri_trace.specs.declared.trace.Happening.TheVariants.{Arrive, Cancel, Drain, Undrain, Fail}
-use Rattle.tetri_trace.specs.Scenario.{Submission, Scenario, expr_of, job_names}
+use Rattle.tetri_trace.specs.Scenario.{Demand, strl, asks, Submission, Scenario, job_names, submission_of}
 
 pub record IsSoundHeader (h : Header) : Type 0 where
   pub some_slots : 1 ≤ h.window
@@ -23,15 +24,27 @@ pub record IsSoundHeader (h : Header) : Type 0 where
   pub some_unit : 1 ≤ h.unit
   pub small_unit : h.unit ≤ 1000000
 
+-- a well-made expression over the first so many sets, which starts within 10,000 slots of the arrival
+pub record IsExpressionOver (sets arrival : ℕ) (t : Tree) : Type 0 where
+  pub well_made : IsWellMade t
+  pub known_sets : All (λ l. l.set < sets) (leaves t)
+  pub starts : All (λ l. (arrival ≤ l.start) × (l.start ≤ arrival + 10000)) (leaves t)
+
+-- an ask within its limits, over the first so many sets
+pub record IsAskOver (sets : ℕ) (a : Ask) : Type 0 where
+  pub sound : IsSoundAsk a
+  pub known_sets : (set : ℕ) → IsSetOf a set → set < sets
+
+abbrev pub IsSoundDemand : ℕ → ℕ → Demand → Type 0
+IsSoundDemand sets arrival (strl t) = IsExpressionOver sets arrival t
+IsSoundDemand sets arrival (asks a) = IsAskOver sets a
+
 pub record IsSoundSubmission (s : Scenario) (j : Submission) : Type 0 where
   pub named : is_name j.name ≡ true
   pub in_run : j.arrival < s.header.until
   pub not_too_early : negsuc 9999 ≤ℤ j.late
   pub not_too_late : j.late ≤ℤ pos 10000
-  pub well_made : IsWellMade (expr_of j.demand)
-  pub numbered : numbers (expr_of j.demand) ≡ range_with_len 0 (length (leaves (expr_of j.demand)))
-  pub known_sets : All (λ l. l.set < length s.sets) (leaves (expr_of j.demand))
-  pub starts : All (λ l. (j.arrival ≤ l.start) × (l.start ≤ j.arrival + 10000)) (leaves (expr_of j.demand))
+  pub demand : IsSoundDemand (length s.sets) j.arrival j.demand
 
 -- the number names a job or a node that is there
 abbrev pub NamesKnown : Scenario → Happening → Type 0
@@ -41,20 +54,23 @@ NamesKnown s (Drain node) = node < length s.nodes
 NamesKnown s (Undrain node) = node < length s.nodes
 NamesKnown s (Fail node) = node < length s.nodes
 
--- the second does not bring what the first cancels
-abbrev pub CancelsNothingLater : Happening → Happening → Type 0
-CancelsNothingLater (Cancel job) (Arrive other) = job ≡ other → ⊥
-CancelsNothingLater _ _ = Unit {0}
+-- the first is not of the job that the second brings
+abbrev pub BringsNew : Happening → Happening → Type 0
+BringsNew (Arrive job) (Arrive other) = job ≢ other
+BringsNew (Cancel job) (Arrive other) = job ≢ other
+BringsNew _ _ = Unit {0}
 
-abbrev pub arrival_in : Event → Option (ℕ × ℕ)
-arrival_in e = by_kind e.what
-  where
-    by_kind : Happening → Option (ℕ × ℕ)
-    by_kind (Arrive job) = Some (e.at, job)
-    by_kind (Cancel job) = None
-    by_kind (Drain node) = None
-    by_kind (Undrain node) = None
-    by_kind (Fail node) = None
+-- a job arrives at this slot
+abbrev pub arrival_at : ℕ → ℕ → Event
+arrival_at at job = record { at = at; what = Arrive job }
+
+-- a job that arrives does so at its slot
+abbrev pub ArrivesOnTime : Scenario → ℕ → Happening → Type 0
+ArrivesOnTime s at (Arrive job) = (submission_of s job).arrival ≡ at
+ArrivesOnTime s at (Cancel job) = Unit {0}
+ArrivesOnTime s at (Drain node) = Unit {0}
+ArrivesOnTime s at (Undrain node) = Unit {0}
+ArrivesOnTime s at (Fail node) = Unit {0}
 
 pub record IsSound (s : Scenario) : Type 0 where
   pub header : IsSoundHeader s.header
@@ -73,6 +89,6 @@ pub record IsSound (s : Scenario) : Type 0 where
   pub events_ascend : AllPairs (λ e f. e.at ≤ f.at) s.events
   pub in_run : All (λ e. e.at < s.header.until) s.events
   pub known : All (λ e. NamesKnown s e.what) s.events
-  -- each job arrives once, at its slot, in the order of the numbers
-  pub arrivals : filter_map arrival_in s.events ≡ zip (map (λ j. j.arrival) s.submissions) (range_with_len 0 (length s.submissions))
-  pub cancels : AllPairs (λ e f. CancelsNothingLater e.what f.what) s.events
+  -- each job arrives at its slot, and no event of it comes before: it arrives once, and is cancelled later
+  pub arrivals : (job : ℕ) → job < length s.submissions → Contains s.events (arrival_at (submission_of s job).arrival job)
+  pub fresh : AllPairs (λ e f. BringsNew e.what f.what) s.events

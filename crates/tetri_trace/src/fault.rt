@@ -51,8 +51,6 @@ pub enum TraceWhy {
     BadField(Field),
     /// Not exactly one of the keys that name an event is there.
     UnknownEvent,
-    /// An arrival asks without an expression, which is not built yet.
-    NotBuilt,
     /// The slot is below that of an earlier event.
     OutOfOrder,
     /// The slot is not below the number of cycles.
@@ -63,7 +61,7 @@ pub enum TraceWhy {
     NoSuchJob,
     /// No node has this name.
     NoSuchNode,
-    /// The text of an expression has this fault behind so many bytes.
+    /// The text of an expression, or of a set of an ask, has this fault behind so many bytes.
     BadStrl { offset: u64, fault: Fault },
     /// 100,000 jobs came before.
     TooManyJobs,

@@ -1,27 +1,31 @@
 // What an event does to the trace that is read so far.
-ghost use Rattle.std.specs.Prelude.{◌≡◌, ◌<◌, ◌≤◌, ◌≤ℤ◌, pos, negsuc, true, false, nat_lt, AllPairs, None, length, IfOk, OnOk, IsOkUnless, ok_or};
+ghost use Rattle.std.specs.Prelude.{◌≡◌, ◌<◌, ◌≤◌, ◌≤ℤ◌, pos, negsuc, true, false, nat_lt, AllPairs, length, IfOk, IfSome, OnOk, IsOkUnless, ok_or, option_map};
 ghost use Rattle.std.specs.List.{list_any};
 ghost use Rattle.tetri_cluster.specs.Cluster.{names_of};
 ghost use Rattle.tetri_cluster.specs.Names.{is_among, is_name, number_of};
-ghost use Rattle.tetri_parse.specs.Expression.{expression};
+ghost use Rattle.tetri_parse.specs.Expression.{expression, node_set};
 ghost use Rattle.tetri_parse.specs.TextTree.{IsTextTree};
+ghost use Rattle.tetri_request.specs.Options.{IsSoundPrefer};
 ghost use Rattle.tetri_strl.specs.Tree.{tree};
 ghost use Rattle.tetri_trace.specs.Answers.{Gives, in_text};
-ghost use Rattle.tetri_trace.specs.Draft.{so_far, with_sets, IsNextSlot, IsSoundDraft};
-ghost use Rattle.tetri_trace.specs.Lines.{admitted, arrived, happened, next_slot, with_event};
-ghost use Rattle.tetri_trace.specs.Notices.{IsGoodNotice};
-ghost use Rattle.tetri_trace.specs.Objects.{notice};
-ghost use Rattle.tetri_trace.specs.Scenario.{job_names, submission};
-ghost use Rattle.tetri_trace.specs.Sound.{arrival_in, IsSoundSubmission, NamesKnown};
+ghost use Rattle.tetri_trace.specs.Asks.{ask_text, prefer_text, IsSoundAskText, IsSoundPreference};
+ghost use Rattle.tetri_trace.specs.Draft.{so_far, with_sets, BringsNone, IsNextSlot, IsSoundDraft};
+ghost use Rattle.tetri_trace.specs.Lines.{admitted, arrived, ask_of, demand_at, happened, next_slot, prefer_of, with_event};
+ghost use Rattle.tetri_trace.specs.Notices.{IsGoodDemand, IsGoodNotice};
+ghost use Rattle.tetri_trace.specs.Objects.{demand_text, notice};
+ghost use Rattle.tetri_trace.specs.Scenario.{demand_of, job_names, submission};
+ghost use Rattle.tetri_trace.specs.Sound.{IsAskOver, IsSoundDemand, IsSoundSubmission, NamesKnown};
 ghost use Rattle.tetri_trace.specs.declared.fault.TraceWhy.TheVariants as whys;
 
+use crate::asks::{AskText, PreferText};
 use crate::draft::Draft;
-use crate::event::Notice;
+use crate::event::{Notice, WorkText};
 use crate::fault::{Stop, TraceWhy};
 use crate::field::read_name;
 use crate::trace::{Event, Happening, Job, Work};
 use std::alloc::Global;
-use tetri_parse::{ParseFault, read_expr};
+use tetri_parse::{ParseFault, read_expr, read_set};
+use tetri_request::{Ask, Prefer};
 use tetri_strl::Expr;
 
 const JOBS_MOST: usize = 100_000;
@@ -57,7 +61,7 @@ fn with_event(draft: &mut Draft, at: u32, what: Happening) -> Result<(), Stop>
     requires sound { IsSoundDraft draft.old }
     requires next { IsNextSlot (so_far draft.old) at }
     requires known { NamesKnown (so_far draft.old) what }
-    requires no_arrival { arrival_in (record { at = at; what = what }) ≡ None }
+    requires no_arrival { BringsNone what }
     ensures same { OnOk result (so_far draft.new ≡ with_event (so_far draft.old) at what) }
     ensures sound { OnOk result (IsSoundDraft draft.new) }
     ensures memory { IsOkUnless result Stop.NoMemory }
@@ -116,7 +120,101 @@ fn with_text(alloc: Global, draft: &mut Draft, at: u32, text: &str) -> Result<Ex
     }
 }
 
-// A job with this text arrives.
+// The number of a set that an ask names, which comes to the trace.
+fn with_set(alloc: Global, draft: &mut Draft, text: &str) -> Result<u32, Stop>
+    requires { IsSoundDraft draft.old }
+    ensures value { Gives (λ n. (n, draft.new.sets)) result (in_text (node_set text.now draft.old.cluster draft.old.sets)) }
+    ensures same { so_far draft.new ≡ with_sets (so_far draft.old) draft.new.sets }
+    ensures sound { IsSoundDraft draft.new }
+    ensures more { length draft.old.sets ≤ length draft.new.sets }
+    ensures known { IfOk result (λ n. n < length draft.new.sets) }
+{
+    match read_set(alloc, text.as_bytes(), &draft.cluster, &mut draft.sets) {
+        Ok(set) => {
+            let _ = draft.sets.len();
+            Ok(set)
+        }
+        Err(ParseFault::At { offset, fault }) => {
+            Err(Stop::Because(TraceWhy::BadStrl { offset, fault }))
+        }
+        Err(ParseFault::NoMemory) => Err(Stop::NoMemory),
+    }
+}
+
+// The place that an ask prefers.
+fn with_prefer(
+    alloc: Global,
+    draft: &mut Draft,
+    prefer: Option<PreferText>,
+) -> Result<Option<Prefer>, Stop>
+    requires sound { IsSoundDraft draft.old }
+    requires limits { IsSoundPreference (option_map prefer_text prefer) }
+    ensures value { Gives (λ p. (p, draft.new.sets)) result (prefer_of draft.old.cluster (option_map prefer_text prefer.entry) draft.old.sets) }
+    ensures same { so_far draft.new ≡ with_sets (so_far draft.old) draft.new.sets }
+    ensures sound { IsSoundDraft draft.new }
+    ensures more { length draft.old.sets ≤ length draft.new.sets }
+    ensures known { IfOk result (λ o. IfSome o (λ p. p.set < length draft.new.sets)) }
+    ensures limits { IfOk result (λ o. IfSome o IsSoundPrefer) }
+{
+    match prefer {
+        Some(prefer) => {
+            let set = with_set(alloc, draft, prefer.set)?;
+            Ok(Some(Prefer {
+                set,
+                dur: prefer.dur,
+            }))
+        }
+        None => Ok(None),
+    }
+}
+
+// An ask, whose sets come to the trace.
+#[tactic(auto, unfolding(crate::specs::Lines::ask_of))]
+fn with_ask(alloc: Global, draft: &mut Draft, ask: AskText) -> Result<Ask, Stop>
+    requires sound { IsSoundDraft draft.old }
+    requires limits { IsSoundAskText (ask_text ask) }
+    ensures value { Gives (λ a. (a, draft.new.sets)) result (ask_of draft.old.cluster (ask_text ask.entry) draft.old.sets) }
+    ensures same { so_far draft.new ≡ with_sets (so_far draft.old) draft.new.sets }
+    ensures sound { IsSoundDraft draft.new }
+    ensures good { IfOk result (λ a. IsAskOver (length draft.new.sets) a) }
+{
+    let set = with_set(alloc, draft, ask.set)?;
+    let prefer = with_prefer(alloc, draft, ask.prefer)?;
+    Ok(Ask {
+        k: ask.k,
+        set,
+        dur: ask.dur,
+        value: ask.value,
+        deadline: ask.deadline,
+        prefer,
+        class: ask.class,
+        elastic: ask.elastic,
+    })
+}
+
+// What a job that arrives at this slot asks for.
+fn with_work(alloc: Global, draft: &mut Draft, at: u32, work: WorkText) -> Result<Work, Stop>
+    requires sound { IsSoundDraft draft.old }
+    requires slot { at < draft.old.header.until }
+    requires good { IsGoodDemand (demand_text work) }
+    ensures value { Gives (λ w. (demand_of w, draft.new.sets)) result (demand_at (so_far draft.old) at (demand_text work.entry)) }
+    ensures same { so_far draft.new ≡ with_sets (so_far draft.old) draft.new.sets }
+    ensures sound { OnOk result (IsSoundDraft draft.new) }
+    ensures good { IfOk result (λ w. IsSoundDemand (length draft.new.sets) at (demand_of w)) }
+{
+    match work {
+        WorkText::Strl(text) => {
+            let expr = with_text(alloc, draft, at, text)?;
+            Ok(Work::Strl(expr))
+        }
+        WorkText::Asked(ask) => {
+            let ask = with_ask(alloc, draft, ask)?;
+            Ok(Work::Asked(ask))
+        }
+    }
+}
+
+// A job arrives.
 #[tactic(auto, unfolding(crate::specs::Lines::arrived))]
 fn arrived(
     alloc: Global,
@@ -124,21 +222,21 @@ fn arrived(
     at: u32,
     name: &str,
     late: i32,
-    text: &str,
+    work: WorkText,
 ) -> Result<(), Stop>
     requires sound { IsSoundDraft draft.old }
     requires next { IsNextSlot (so_far draft.old) at }
     requires named { is_name name.now ≡ true }
     requires late { (negsuc 9999 ≤ℤ late) × (late ≤ℤ pos 10000) }
-    ensures gives { Gives (λ _. so_far draft.new) result (arrived (so_far draft.old) at name.now late text.now) }
+    requires good { IsGoodDemand (demand_text work) }
+    ensures gives { Gives (λ _. so_far draft.new) result (arrived (so_far draft.old) at name.now late (demand_text work.entry)) }
     ensures sound { OnOk result (IsSoundDraft draft.new) }
 {
     if draft.jobs.find(name.as_bytes()).is_some() {
         return Err(Stop::Because(TraceWhy::NameTaken));
     }
     let name = read_name(alloc, name)?;
-    let expr = with_text(alloc, draft, at, text)?;
-    let work = Work::Strl(expr);
+    let work = with_work(alloc, draft, at, work)?;
     with_job(
         draft,
         Job {
@@ -180,7 +278,7 @@ pub(crate) fn happened(alloc: Global, draft: &mut Draft, at: u32, said: Notice) 
     ensures sound { OnOk result (IsSoundDraft draft.new) }
 {
     match said {
-        Notice::Arrive { name, late, text } => arrived(alloc, draft, at, name, late, text),
+        Notice::Arrive { name, late, work } => arrived(alloc, draft, at, name, late, work),
         Notice::Cancel(name) => {
             let job = job_named(draft, name)?;
             with_event(draft, at, Happening::Cancel(job))

@@ -1,6 +1,7 @@
 //! Reads a trace: one JSON object a line, the header first and then the events.
 #![tactic(auto)]
 
+mod asks;
 mod closures;
 mod draft;
 mod event;

@@ -38,7 +38,7 @@ fn add_event(alloc: Global, draft: &mut Draft, object: &Value) -> Result<(), Sto
     ensures gives { Gives (λ _. so_far draft.new) result (add_event (so_far draft.old) (view object.now)) }
     ensures sound { OnOk result (IsSoundDraft draft.new) }
 {
-    let (at, notice) = event_in(object)?;
+    let (at, notice) = event_in(draft.header.unit, object)?;
     let at = next_slot(draft, at)?;
     happened(alloc, draft, at, notice)
 }

@@ -1,7 +1,11 @@
 // What a trace says.
+ghost use Rattle.std.specs.Prelude.{◌≡◌, ◌<◌, length};
+ghost use Rattle.tetri_trace.specs.Scenario.{scenario, submission, submission_of};
+
 use crate::jobs::Jobs;
 use std::rc::Rc;
 use tetri_cluster::{Cluster, Name, Sets};
+use tetri_request::Ask;
 use tetri_space::Closures;
 use tetri_strl::Expr;
 
@@ -20,6 +24,8 @@ pub struct Header {
 pub enum Work {
     /// An expression, with absolute starts.
     Strl(Expr),
+    /// An ask, whose requests are made anew in each cycle.
+    Asked(Ask),
 }
 
 /// A job. It arrives at the slot `arrival`, and a launched piece of it runs `late` slots longer than it
@@ -59,4 +65,14 @@ pub struct Trace {
     pub closures: Rc<Closures>,
     pub jobs: Jobs,
     pub events: Vec<Event>,
+}
+
+impl Trace {
+    /// The job with this number. To look at what it asks for takes no copy.
+    pub fn job(&self, number: u32) -> &Job
+        requires { number < length (scenario self.now).submissions }
+        ensures { submission result.now ≡ submission_of (scenario self.now) number }
+    {
+        &self.jobs.as_slice()[number as usize]
+    }
 }

@@ -1,9 +1,9 @@
-use Rattle.std.proofs.Common.{◌≡◌, ◌<◌, ◌∙◌, ◌&&◌, All, None, filter, get_or, length, not, refl, sym, ap, subst}
+use Rattle.std.proofs.Common.{◌≡◌, ◌+◌, ◌∙◌, ◌&&◌, All, None, filter, get_or, length, not, refl, sym, ap, subst}
 use Rattle.std.specs.List.Sorted.{IsNonDecreasingBy}
 use Rattle.tetri_trace.specs.Scenario.{Scenario, scenario}
 use Rattle.tetri_state.specs.declared.pieces.Piece.{Piece}
 use Rattle.tetri_state.specs.Begin.{Turn, finished, has_ended, has_expired, is_over, runs, running_on, standing, staying, told, turn}
-use Rattle.tetri_state.specs.Snapshot.{Snapshot}
+use Rattle.tetri_state.specs.Snapshot.{ArrivedBefore, Snapshot}
 use Rattle.tetri_state.proofs.SoundLemmas.{nodes_known}
 use Rattle.tetri_state.proofs.BeginLemmas.{events_are, filter_both, holders_known, same_occurrences, turn_is}
 use Rattle.tetri_state.proofs.beginning.begin_slot.Goals as goal
@@ -23,8 +23,8 @@ take_all-requires-clause-known c =
     let es = events_are t s _ _ _ c.events_at-events.ensures c.deref-3.ensures.value refl in
     rw (es, c.requires.drained) (nodes_known t c.args.now c.requires.sound)
 
-pub part-requires-clause-there : goal.part-requires-clause-there
-part-requires-clause-there c =
+pub part-requires-clause-arrived : goal.part-requires-clause-arrived
+part-requires-clause-arrived c =
     let t : Scenario = scenario c.args.trace.now in
     let s : Snapshot = standing c.args.now c.args.drained.now c.args.pending.now c.args.pieces.now in
     let known = holders_known t s c.requires.nodes _ _ _ _ c.in_ok-holders.ensures refl c.count.ensures.value refl in
@@ -32,7 +32,7 @@ part-requires-clause-there c =
     c.in_ok-turn.ensures.turn
     ∙ turn_is t s (λ n. get_or c.deref-5.result.now n None) _ _ _ _ (λ n. ap (λ r. get_or r n None) c.deref-5.ensures.value ∙ known.1 n)
     (events_are t s _ _ _ c.events_at-events.ensures c.deref-3.ensures.value refl) refl refl (c.deref-4.ensures.value ∙ c.in_ok-running.ensures.told) in
-    subst (All (λ j. j < length t.submissions)) (sym (c.deref-7.ensures.value ∙ ap (λ (v : Turn). v.pending) (c.turn.view_is ∙ turned))) c.requires.known
+    subst (All (ArrivedBefore t (c.args.now + 1))) (sym (c.deref-7.ensures.value ∙ ap (λ (v : Turn). v.pending) (c.turn.view_is ∙ turned))) c.requires.arrived
 
 module _ (c : After-drop-running-2) where
   abbrev t : Scenario

@@ -1,7 +1,7 @@
 use Rattle.std.proofs.Common.{length, ap, arith}
 use Rattle.std.proofs.lemmas.List.{length-take}
 use Rattle.tetri_trace.specs.Draft.{so_far}
-use Rattle.tetri_trace.proofs.Longer.{with_sets_sound}
+use Rattle.tetri_trace.proofs.SoundLaws.{with_sets_sound}
 use Rattle.tetri_trace.proofs.happen.with_text.Goals as goal
 
 pub returns-in-Ok-clause-sound : goal.returns-in-Ok-clause-sound

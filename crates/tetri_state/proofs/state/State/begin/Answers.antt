@@ -1,11 +1,11 @@
-use Rattle.std.proofs.Common.{◌≡◌, ◌∙◌, ◌<◌, ◌&&◌, All, length, filter, map, not, ap, subst, sym, arith}
+use Rattle.std.proofs.Common.{◌≡◌, ◌∙◌, ◌+◌, ◌<◌, ◌&&◌, All, length, filter, map, not, ap, subst, sym, arith}
 use Rattle.std.specs.List.Sorted.{IsStrictlyIncreasing}
 use Rattle.std.proofs.lemmas.List.{length-map, with_items_is}
 use Rattle.std.specs.Vec.{with_items}
 use Rattle.tetri_trace.specs.Scenario.{Scenario, scenario}
 use Rattle.tetri_state.specs.declared.pieces.Piece.{Piece}
 use Rattle.tetri_state.specs.Begin.{Occurrences, begin, ending, finished, has_ended, occurring, prolonged, running_on, runs, staying, told, turn}
-use Rattle.tetri_state.specs.Snapshot.{Snapshot}
+use Rattle.tetri_state.specs.Snapshot.{ArrivedBefore, Snapshot}
 use Rattle.tetri_state.proofs.BeginLemmas.{appended, filter_both, same_standing, same_state}
 use Rattle.tetri_state.proofs.state.State.begin.Goals as goal
 
@@ -15,12 +15,12 @@ begin_slot-requires-clause-drained c = ap length (c.deref.ensures.value ∙ ap (
 pub begin_slot-requires-clause-pending : goal.begin_slot-requires-clause-pending
 begin_slot-requires-clause-pending c = subst IsStrictlyIncreasing (sym (c.deref-2.ensures.value ∙ ap (λ (r : Snapshot). r.pending) c.self.view_is)) c.requires.pending
 
-pub begin_slot-requires-clause-known : goal.begin_slot-requires-clause-known
-begin_slot-requires-clause-known c =
+pub begin_slot-requires-clause-arrived : goal.begin_slot-requires-clause-arrived
+begin_slot-requires-clause-arrived c =
     let t : Scenario = scenario c.args.trace.now in
     let same = same_standing (ap (λ (r : Snapshot). r.now) c.self.view_is) (c.deref.ensures.value ∙ ap (λ (r : Snapshot). r.drained) c.self.view_is)
     (c.deref-2.ensures.value ∙ ap (λ (r : Snapshot). r.pending) c.self.view_is) (c.deref-3.ensures.value ∙ ap (λ (r : Snapshot). r.pieces) c.self.view_is) in
-    subst (λ r. All (λ j. j < length t.submissions) (turn t r).pending) (sym same) c.requires.known
+    subst (λ r. All (ArrivedBefore t (r.now + 1)) (turn t r).pending) (sym same) c.requires.arrived
 
 pub begin_slot-requires-clause-nodes : goal.begin_slot-requires-clause-nodes
 begin_slot-requires-clause-nodes c =

@@ -6,11 +6,11 @@ use Rattle.tetri_trace.specs.Scenario.{scenario}
 use Rattle.tetri_state.specs.declared.happened.Happened.{Happened}
 use Rattle.tetri_state.specs.Begin.{Occurrences, occurrences, occurring, turn}
 use Rattle.tetri_state.specs.Reached.{IsReached, begun}
-use Rattle.tetri_state.proofs.ArrivalLemmas.{ArrivedBefore}
 use Rattle.tetri_state.proofs.Ascending.{ascend_to}
 use Rattle.tetri_state.proofs.ReachedLemmas.{begin_reached, if_ok, stands_between}
 use Rattle.tetri_state.proofs.StandLemmas.{IsWithin, expired_ascends, turn_arrived}
 use Rattle.tetri_state.proofs.state.State.begin_cycle.Goals as goal
+use Rattle.tetri_state.specs.Snapshot.{ArrivedBefore}
 
 pub begin-requires-clause-drained : goal.begin-requires-clause-drained
 begin-requires-clause-drained c = (stands_between (scenario c.args.trace.now) c.args.self.now c.requires.sound c.requires.reached).drained
@@ -19,12 +19,12 @@ pub begin-requires-clause-pending : goal.begin-requires-clause-pending
 begin-requires-clause-pending c =
     ascend_to c.args.self.now.pending (stands_between (scenario c.args.trace.now) c.args.self.now c.requires.sound c.requires.reached).ascending
 
-pub begin-requires-clause-known : goal.begin-requires-clause-known
-begin-requires-clause-known c =
+pub begin-requires-clause-arrived : goal.begin-requires-clause-arrived
+begin-requires-clause-arrived c =
     let t = scenario c.args.trace.now in
     let s = c.args.self.now in
     let all = turn_arrived t s c.requires.sound (stands_between t s c.requires.sound c.requires.reached) in
-    λ k d lt. (Each-get (ArrivedBefore t (s.now + 1)) (turn t s).pending k d all lt).0
+    λ k d lt. Each-get (ArrivedBefore t (s.now + 1)) (turn t s).pending k d all lt
 
 pub begin-requires-clause-nodes : goal.begin-requires-clause-nodes
 begin-requires-clause-nodes c =
