@@ -85,7 +85,7 @@ whole_by costs met b worth cells =
     are_of_columns (length costs) cells && ((are_between b.lower point b.upper && met point) && is_same worth (dot ℤ_ring costs point))
 
 module _ (p r : Program) (same : SaysSame p r) where
-  weigh_same : (b : Bounds) (q : ℤ) (ws : List Weight) → weigh_answer p b q ws ≡ weigh_answer r b q ws
+  pub weigh_same : (b : Bounds) (q : ℤ) (ws : List Weight) → weigh_answer p b q ws ≡ weigh_answer r b q ws
   weigh_same b q ws =
       ap (λ (o : Option ℤ). unless_negative (first_negative ws) (or_past 0 o (λ sum. form_columns p.rows.items b q ws 0 p.costs.items sum))) (right_same p.rows.items r.rows.items same.rows ws (pos 0))
       ∙ ap (λ f. unless_negative (first_negative ws) (or_past 0 (form_right r.rows.items ws (pos 0)) f)) (fun_ext (λ sum. columns_same p.rows.items r.rows.items same.rows b q ws 0 p.costs.items sum))
@@ -122,7 +122,7 @@ module _ (p r : Program) (same : SaysSame p r) where
       ap (λ (o : Result ℕ TreeFault). o >>= λ n. tree_from p (sides_before b m bs) (node + 1) (max most n) ms) (node_same b node m)
       ∙ ap (λ (f : ℕ → Result ℕ TreeFault). node_bound r b node m >>= f) (fun_ext (λ n. from_same (sides_before b m bs) (node + 1) (max most n) ms))
 
-  box_same : box_of p ≡ box_of r
+  pub box_same : box_of p ≡ box_of r
   box_same =
       ap (λ (ls : List ℤ). record { lower = ls; upper = p.upper.items }) same.lower
       ∙ ap (λ (us : List ℤ). record { lower = r.lower.items; upper = us }) same.upper

@@ -1,6 +1,7 @@
 // The walk over a tree.
 
 ghost use Rattle.std.specs.Prelude.{◌≡◌, ℕ, ◌<◌, ◌≤◌, ◌+◌, ◌-◌, ◌^◌, List, [], ◌∷◌, OnOk, OnErr, IfOk, map, not};
+ghost use Rattle.tetri_ip.specs.ColumnIndex.{IsIndexOf};
 ghost use Rattle.tetri_ip.specs.Points.{IsFit, bounds_of};
 ghost use Rattle.tetri_cert.specs.declared.marks.Mark.{Mark};
 ghost use Rattle.tetri_cert.specs.Trees.{Gives, nodes_in, places_behind, tree_bound};
@@ -61,6 +62,18 @@ impl Walk {
         ensures tells { IfOk result (λ w. (marks : List Mark) → tells w p.now marks ≡ tree_bound p.now marks) }
     {
         let index = ColumnIndex::new(alloc, p)?;
+        Walk::with_index(alloc, p, index)
+    }
+
+    /// The walk before the first mark, with an index of the program that was made before. Its only error is want of memory.
+    #[tactic(auto, using(crate::proofs::Signed::signed), unfolding(crate::specs::Walks::tells, crate::specs::Walks::tells_nodes, crate::specs::Trees::tree_bound))]
+    pub fn with_index(alloc: Global, p: &Program, index: ColumnIndex) -> Result<Walk, AllocError>
+        requires fit { IsFit p.now }
+        requires index { IsIndexOf p.now index }
+        ensures over { IfOk result (λ w. IsOver p.now w) }
+        ensures none { IfOk result (λ w. (w.node ≡ 0) × (w.counted ≡ 0)) }
+        ensures tells { IfOk result (λ w. (marks : List Mark) → tells w p.now marks ≡ tree_bound p.now marks) }
+    {
         let region = Region::whole(alloc, p)?;
         Ok(Walk {
             index,
@@ -185,7 +198,24 @@ pub fn bound(alloc: Global, p: &Program, marks: &[Mark]) -> Result<u64, TreeFaul
     requires fit { IsFit p.now }
     ensures { Gives result (tree_bound p.now (marks.now)) }
 {
-    let Ok(mut walk) = Walk::new(alloc, p) else {
+    let Ok(index) = ColumnIndex::new(alloc, p) else {
+        return Err(TreeFault::NoMemory);
+    };
+    bound_with_index(alloc, p, index, marks)
+}
+
+/// The bound of a tree over a program, as `bound` gives it, with an index of the program that was made before.
+pub fn bound_with_index(
+    alloc: Global,
+    p: &Program,
+    index: ColumnIndex,
+    marks: &[Mark],
+) -> Result<u64, TreeFault>
+    requires fit { IsFit p.now }
+    requires index { IsIndexOf p.now index }
+    ensures { Gives result (tree_bound p.now (marks.now)) }
+{
+    let Ok(mut walk) = Walk::with_index(alloc, p, index) else {
         return Err(TreeFault::NoMemory);
     };
     for mark in marks {

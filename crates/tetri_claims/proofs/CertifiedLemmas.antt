@@ -80,7 +80,7 @@ same_rows rs ss e = record {
   rights = λ k. rights_are rs k ∙ ap (λ (fs : List FlatRow). flat_right fs k) e ∙ sym (rights_are ss k);
 }
 
-says_same : (p q : Program) → plain p ≡ plain q → SaysSame p q
+pub says_same : (p q : Program) → plain p ≡ plain q → SaysSame p q
 says_same p q e = record {
   costs = ap (λ (f : FlatProgram). f.costs) e;
   lower = ap (λ (f : FlatProgram). f.lower) e;
@@ -90,3 +90,8 @@ says_same p q e = record {
 
 pub one_answer : TreesHaveOneAnswer
 one_answer s marks answer other (p, is, e) (q, are, f) = sym e ∙ same_programs p q marks (says_same p q (is ∙ sym are)) ∙ f
+
+-- a certificate gives one bound
+pub one_bound : (s : Space) (c : Certificate) (bound other : ℕ) → IsBoundOf s c bound → IsBoundOf s c other → bound ≡ other
+one_bound s (Tops columns rows) bound other h k = h ∙ sym k
+one_bound s (Tree marks) bound other h k = let e = one_answer s marks (Ok bound) (Ok other) h k in cc

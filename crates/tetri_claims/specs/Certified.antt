@@ -19,9 +19,10 @@ pub record MayHaveTree (s : Space) : Type 0 where
   pub columns : column_count s ≤ 2000
   pub rows : row_count s ≤ 2000
 
--- the certificate is of a kind that the instance allows: `tops` with 0 and 0, or a tree where one may stand
+-- the certificate is of the kind of the instance: a tree where one may stand, else `tops` with the numbers of columns and rows of the
+-- instance's program
 abbrev pub IsOfKind : Space → Certificate → Type 0
-IsOfKind s (Tops columns rows) = (columns ≡ 0) × (rows ≡ 0)
+IsOfKind s (Tops columns rows) = (MayHaveTree s → ⊥) × (columns ≡ column_count s) × (rows ≡ row_count s)
 IsOfKind s (Tree marks) = MayHaveTree s
 
 -- what marks have over the integer program of the instance: a bound where they are a proper tree, else the first fault
@@ -43,7 +44,7 @@ abbrev pub IsCutShort : ℕ → Certificate → Planned → Type 0
 IsCutShort budget (Tops columns rows) p = p.mark ≡ Wide
 IsCutShort budget (Tree marks) p = (p.mark ≡ Spent) × (p.nodes ≡ budget)
 
--- The certificate is of a kind that the instance allows, the bound is the one that it gives, its nodes are counted, and the mark
+-- The certificate is of the kind of the instance, the bound is the one that it gives, its nodes are counted, and the mark
 -- goes with it.
 pub record IsCertified (s : Space) (budget : ℕ) (p : Planned) : Type 0 where
   pub kind : IsOfKind s p.certificate

@@ -2,8 +2,10 @@
 //! says of every allotment.
 #![tactic(auto)]
 
+mod kinds;
 mod laws;
 
+pub use kinds::may_have_tree;
 pub use laws::{
     bounds_are_of_proper_trees, certificates_bound, programs_earn_little, trees_have_one_answer,
 };

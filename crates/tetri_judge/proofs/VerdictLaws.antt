@@ -12,7 +12,7 @@ use Rattle.tetri_cert.specs.Trees.{Gives, tree_bound}
 use Rattle.tetri_claims.specs.Certified.{IsBoundOf, IsCertified, MayHaveTree, TreeAnswers}
 use Rattle.tetri_claims.specs.Good.{IsGood, IsHonest}
 use Rattle.tetri_claims.specs.Planned.{Planned}
-use Rattle.tetri_claims.proofs.CertifiedLemmas.{certificates_bound, one_answer}
+use Rattle.tetri_claims.proofs.CertifiedLemmas.{certificates_bound, one_answer, one_bound}
 use Rattle.tetri_compile.specs.Flat.{plain, program_of}
 use Rattle.tetri_ip.specs.declared.programs.Program.{Program}
 use Rattle.tetri_judge.specs.Answers.{AnswersBound, verdict_of}
@@ -25,11 +25,6 @@ use Rattle.tetri_space.specs.Space.{Space}
 use Rattle.tetri_space.proofs.RuleLemmas.{broken_first, first_broken_same, lawful_keeps}
 
 module _ (s : Space) where
-  -- a certificate gives one bound
-  one_bound : (c : Certificate) (a b : ℕ) → IsBoundOf s c a → IsBoundOf s c b → a ≡ b
-  one_bound (Tops columns rows) a b h k = h ∙ sym k
-  one_bound (Tree marks) a b h k = let e = one_answer s marks (Ok a) (Ok b) h k in cc
-
   -- a tree with a fault has no bound
   no_bound : (marks : List Mark) (f : TreeFault) (bound : ℕ) → TreeAnswers s marks (Err f) → IsBoundOf s (Tree marks) bound → ⊥
   no_bound marks f bound h k = let e = one_answer s marks (Err f) (Ok bound) h k in absurd cc

@@ -1,13 +1,10 @@
 -- What the parts of the judge answer.
-use Rattle.std.specs.Prelude.{◌≡◌, ℕ, Option, Some, None, Result, Ok, Err}
+use Rattle.std.specs.Prelude.{ℕ, Result, Ok, Err}
 use Rattle.tetri_cert.specs.declared.certificate.Certificate.{Certificate}
 use Rattle.tetri_cert.specs.declared.faults.TreeFault.{TreeFault}
 use Rattle.tetri_cert.specs.declared.faults.TreeFault.TheVariants as faults
-use Rattle.tetri_claims.specs.Certified.{IsBoundOf, IsOfKind, MayHaveTree}
+use Rattle.tetri_claims.specs.Certified.{IsBoundOf, IsOfKind}
 use Rattle.tetri_claims.specs.Planned.{Planned}
-use Rattle.tetri_compile.specs.declared.compiling.Compiled.{Compiled}
-use Rattle.tetri_compile.specs.Flat.{plain, program_of}
-use Rattle.tetri_ip.specs.Points.{IsFit}
 use Rattle.tetri_space.specs.Space.{Space}
 use Rattle.tetri_judge.specs.declared.verdict.Verdict.{Verdict}
 use Rattle.tetri_judge.specs.declared.verdict.Verdict.TheVariants.{Unlawful, WrongValue, WasteGrant, BelowCarry, BadTree, Past, WrongBound, WrongMark, NoMemory}
@@ -36,8 +33,3 @@ AnswersBound (Err (Past node column)) s c = LeavesRangeAt s c node column
 AnswersBound (Err (WrongBound printed found)) s c = ⊥
 AnswersBound (Err WrongMark) s c = ⊥
 AnswersBound (Err NoMemory) s c = Unit {0}
-
--- The program over which a tree may stand, if one may.
-abbrev pub IsTreeProgram : Space → Option Compiled → Type 0
-IsTreeProgram s None = MayHaveTree s → ⊥
-IsTreeProgram s (Some c) = MayHaveTree s × (plain c.program ≡ program_of s) × IsFit c.program

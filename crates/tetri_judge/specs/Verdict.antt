@@ -34,13 +34,13 @@ pub record IsRightlyMarked (budget : ℕ) (p : Planned) : Type 0 where
   pub either : (p.mark ≡ Optimal) ⊎ IsCutShort budget p.certificate p
   pub nodes : p.nodes ≡ counted_nodes p.certificate
 
--- the certificate is of a kind that the instance allows, and gives a bound: a tree is proper
+-- the certificate is of the kind of the instance, and gives a bound: a tree is proper
 pub record Stands (s : Space) (c : Certificate) : Type 0 where
   pub kind : IsOfKind s c
   pub bound : ℕ
   pub gives : IsBoundOf s c bound
 
--- The certificate fails its tests at this node for this cause: it is not of a kind that the instance allows, or its tree has this
+-- The certificate fails its tests at this node for this cause: it is not of the kind of the instance, or its tree has this
 -- first fault.
 abbrev pub FailsAt : Space → Certificate → ℕ → TreeWhy → Type 0
 FailsAt s (Tops columns rows) node why = (node ≡ 0) × (why ≡ Kind) × (IsOfKind s (Tops columns rows) → ⊥)

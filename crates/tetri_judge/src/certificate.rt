@@ -1,40 +1,22 @@
 // The tests of a certificate.
-ghost use Rattle.std.specs.Prelude.{◌≡◌, ◌↔◌, IfOk, IsTrue};
+ghost use Rattle.std.specs.Prelude.{◌≡◌, ◌↔◌, IsTrue};
 ghost use Rattle.tetri_cert.specs.declared.certificate.Certificate.TheVariants as certificates;
-ghost use Rattle.tetri_claims.specs.Certified.{IsCutShort, counted_nodes};
-ghost use Rattle.tetri_judge.specs.Answers.{AnswersBound, IsTreeProgram, verdict_of};
+ghost use Rattle.tetri_claims.specs.Certified.{IsCutShort, MayHaveTree, counted_nodes};
+ghost use Rattle.tetri_judge.specs.Answers.{AnswersBound, verdict_of};
 ghost use Rattle.tetri_judge.specs.Verdict.{IsRightlyMarked};
 ghost use Rattle.tetri_report.specs.Block.{block};
 ghost use Rattle.tetri_judge.specs.PlanOf.{planned};
+ghost use Rattle.tetri_space.specs.Partitions.{ArePartitionsOf, parts_of};
 ghost use Rattle.tetri_space.specs.Sound.{IsSound};
 ghost use Rattle.tetri_space.specs.Space.{space};
 
 use crate::verdict::Verdict;
-use std::alloc::{AllocError, Global};
+use std::alloc::Global;
 use tetri_cert::{Certificate, Mark, PlanMark, TreeFault, TreeWhy, bound, count_nodes};
-use tetri_compile::{Compiled, compile, size};
+use tetri_claims::may_have_tree;
+use tetri_compile::{compile, size};
 use tetri_report::Cycle;
-use tetri_space::{Instance, find_partitions, tops};
-
-// The most columns, and the most rows, of a program over which a tree may stand.
-const MOST: u64 = 2000;
-
-// The program of an instance, if a tree may stand over it.
-fn tree_program(alloc: Global, inst: &Instance) -> Result<Option<Compiled>, AllocError>
-    requires { IsSound (space inst.now) }
-    ensures { IfOk result (IsTreeProgram (space inst.entry.now)) }
-{
-    if inst.jobs.is_empty() {
-        return Ok(None);
-    }
-    let parts = find_partitions(alloc, inst)?;
-    let (columns, rows) = size(inst, &parts);
-    if columns > MOST || rows > MOST {
-        return Ok(None);
-    }
-    let compiled = compile(alloc, inst, &parts)?;
-    Ok(Some(compiled))
-}
+use tetri_space::{Instance, Partitions, find_partitions, tops};
 
 // What is wrong with a tree.
 fn verdict_of(fault: TreeFault) -> Verdict
@@ -52,17 +34,24 @@ const BAD_KIND: Verdict = Verdict::BadTree {
     why: TreeWhy::Kind,
 };
 
-fn bound_of_tree(alloc: Global, inst: &Instance, marks: &[Mark]) -> Result<u64, Verdict>
-    requires { IsSound (space inst.now) }
+// The bound of a tree, where one stands, or how it fails its tests.
+fn bound_of_tree(
+    alloc: Global,
+    inst: &Instance,
+    parts: &Partitions,
+    marks: &[Mark],
+) -> Result<u64, Verdict>
+    requires sound { IsSound (space inst.now) }
+    requires partitions { ArePartitionsOf (space inst.now) (parts_of parts.now) }
+    requires tree { MayHaveTree (space inst.now) }
     ensures { AnswersBound result (space inst.entry.now) (certificates.Tree marks.now) }
 {
-    match tree_program(alloc, inst) {
-        Ok(Some(compiled)) => match bound(alloc, &compiled.program, marks) {
-            Ok(bound) => Ok(bound),
-            Err(fault) => Err(verdict_of(fault)),
-        },
-        Ok(None) => Err(BAD_KIND),
-        Err(_) => Err(Verdict::NoMemory),
+    let Ok(compiled) = compile(alloc, inst, parts) else {
+        return Err(Verdict::NoMemory);
+    };
+    match bound(alloc, &compiled.program, marks) {
+        Ok(bound) => Ok(bound),
+        Err(fault) => Err(verdict_of(fault)),
     }
 }
 
@@ -75,14 +64,27 @@ pub(crate) fn bound_of(
     requires { IsSound (space inst.now) }
     ensures { AnswersBound result (space inst.entry.now) certificate.now }
 {
+    let Ok(parts) = find_partitions(alloc, inst) else {
+        return Err(Verdict::NoMemory);
+    };
+    let (columns, rows) = size(inst, &parts);
+    let has_tree = may_have_tree(inst, columns, rows);
     match certificate {
-        Certificate::Tops { columns, rows } => {
-            if *columns != 0 || *rows != 0 {
+        Certificate::Tops {
+            columns: told_columns,
+            rows: told_rows,
+        } => {
+            if has_tree || *told_columns != columns || *told_rows != rows {
                 return Err(BAD_KIND);
             }
             Ok(tops(inst))
         }
-        Certificate::Tree(marks) => bound_of_tree(alloc, inst, marks.as_slice()),
+        Certificate::Tree(marks) => {
+            if !has_tree {
+                return Err(BAD_KIND);
+            }
+            bound_of_tree(alloc, inst, &parts, marks.as_slice())
+        }
     }
 }
 

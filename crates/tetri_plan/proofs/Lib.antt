@@ -1,3 +1,4 @@
 pub mod KeptLemmas
 pub mod SearchedLemmas
 pub mod PlanLemmas
+pub mod ChoiceLaws

@@ -65,7 +65,7 @@ spent_not_optimal e = cc
 wide_not_optimal : Wide ≡ Optimal → ⊥
 wide_not_optimal e = cc
 
-by_eq : {v b : ℕ} → (v == b) ≡ false → v ≡ b → ⊥
+pub by_eq : {v b : ℕ} → (v == b) ≡ false → v ≡ b → ⊥
 by_eq {v} {b} f e = absurd (true≢false (sym (test_from_eq v b e) ∙ f))
 
 -- ---- certificates

@@ -110,16 +110,16 @@ module _ (s : Space) (p : Program) (is : plain p ≡ program_of s) where
         }
 
 -- what is kept, with the tops
-pub bounded_by_tops : (s : Space) (budget bound : ℕ) (c : Candidate) → IsFair s c.grants → c.worth ≡ total_in s c.grants → bound ≡ tops_in s → (MayHaveTree s → ⊥) →
-    IsSearched s c.grants budget (record { best = c; bound = bound; nodes = 0; certificate = Tops 0 0 })
-bounded_by_tops s budget bound c fair worth is_bound not_tree = record {
+pub bounded_by_tops : (s : Space) (budget bound columns rows : ℕ) (c : Candidate) → IsFair s c.grants → c.worth ≡ total_in s c.grants → bound ≡ tops_in s → (MayHaveTree s → ⊥) →
+    columns ≡ column_count s → rows ≡ row_count s → IsSearched s c.grants budget (record { best = c; bound = bound; nodes = 0; certificate = Tops columns rows })
+bounded_by_tops s budget bound columns rows c fair worth is_bound not_tree columns_are rows_are = record {
   grants = refl;
   lawful = fair.lawful;
   thrifty = fair.thrifty;
   worth = worth;
   at_least = omega (arith, worth);
   tree = (λ has. absurd has, λ may. absurd (not_tree may));
-  kind = (refl, refl);
+  kind = (not_tree, columns_are, rows_are);
   bound = is_bound;
   nodes = refl;
   earned = tt;

@@ -1,3 +1,4 @@
 pub mod Chosen
 pub mod Plans
 pub mod Searched
+pub mod Laws

@@ -2,6 +2,8 @@
 //! certificate of its bound.
 #![tactic(auto)]
 
+mod laws;
 mod planning;
 
+pub use laws::chosen_plans_are_one;
 pub use planning::{Plan, choose, plan_cycle};

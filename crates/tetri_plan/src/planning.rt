@@ -19,15 +19,11 @@ ghost use Rattle.tetri_space.specs.Trimmed.{IsThriftyForAll};
 use std::alloc::{AllocError, Global};
 use tetri_assign::assign;
 use tetri_cert::{Certificate, PlanMark};
+use tetri_claims::may_have_tree;
 use tetri_compile::{Compiled, compile, size};
 use tetri_search::search;
 use tetri_space::{Instance, Partitions, find_partitions, order_grants, tops, total, trim_all};
 use tetri_strl::{Allotment, copy_grants};
-
-// A tree stands with a plan where the program has at most so many columns and rows.
-const MOST_COLUMNS: u64 = 2000;
-
-const MOST_ROWS: u64 = 2000;
 
 /// The plan of a cycle.
 #[derive(Drop)]
@@ -146,16 +142,6 @@ fn better_at(
     }
 }
 
-// Whether a tree may stand with a plan of an instance.
-fn may_have_tree(inst: &Instance, parts: &Partitions) -> bool
-    requires sound { IsSound (space inst.now) }
-    requires partitions { ArePartitionsOf (space inst.now) (parts_of parts.now) }
-    ensures { IsTrue result ↔ MayHaveTree (space inst.entry.now) }
-{
-    let (columns, rows) = size(inst, parts);
-    !inst.jobs.is_empty() && columns <= MOST_COLUMNS && rows <= MOST_ROWS
-}
-
 // The search of an instance that may have a tree, and the better of what was kept and the nodes of its last whole point.
 fn search_on(
     alloc: Global,
@@ -197,17 +183,15 @@ fn bound_on(
     ensures { IfOk result (IsSearched (space inst.entry.now) kept.grants budget) }
 {
     let parts = find_partitions(alloc, inst)?;
-    if may_have_tree(inst, &parts) {
+    let (columns, rows) = size(inst, &parts);
+    if may_have_tree(inst, columns, rows) {
         return search_on(alloc, inst, &parts, kept, budget);
     }
     Ok(Searched {
         best: kept,
         bound: tops(inst),
         nodes: 0,
-        certificate: Certificate::Tops {
-            columns: 0,
-            rows: 0,
-        },
+        certificate: Certificate::Tops { columns, rows },
     })
 }
 
@@ -226,7 +210,6 @@ pub fn choose(
     requires lawful { IsLawful (space inst.now) carry.now }
     requires thrifty { IsThriftyForAll (space inst.now) carry.now }
     requires given { All (IsLawful (space inst.now)) given.now }
-    requires budget { 1 ≤ budget }
     ensures good { IfOk result (λ p. IsGood (space inst.entry.now) (total_in (space inst.entry.now) carry.entry.now) (planned_of p)) }
     ensures chosen { IfOk result (λ p. IsChosen (space inst.entry.now) carry.entry.now given.entry.now budget (planned_of p)) }
     ensures low { IfOk result (λ p. p.low ≡ total_in (space inst.entry.now) (kept (space inst.entry.now) carry.entry.now given.entry.now)) }
@@ -268,7 +251,6 @@ pub fn plan_cycle(
     requires sound { IsSound (space inst.now) }
     requires lawful { IsLawful (space inst.now) carry.now }
     requires thrifty { IsThriftyForAll (space inst.now) carry.now }
-    requires budget { 1 ≤ budget }
     ensures good { IfOk result (λ p. IsGood (space inst.entry.now) (total_in (space inst.entry.now) carry.entry.now) (planned_of p)) }
     ensures chosen { IfOk result (λ p. IsChosen (space inst.entry.now) carry.entry.now [] budget (planned_of p)) }
     ensures low { IfOk result (λ p. p.low ≡ total_in (space inst.entry.now) carry.entry.now) }

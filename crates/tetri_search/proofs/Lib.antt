@@ -12,4 +12,5 @@ pub mod LastLemmas
 pub mod StepLemmas
 mod Examples
 pub mod RiseLemmas
+pub mod SameLemmas
 pub mod SearchLaws

@@ -1,8 +1,9 @@
 -- What holds of every tree of a search.
-use Rattle.tetri_search.specs.Laws.{EarnedByPlace, EarnedIsProper, EnoughLeavesNoRest, RestsSpendTheBudget, WholesRise}
+use Rattle.tetri_search.specs.Laws.{EarnedByPlace, EarnedIsProper, EarnedTreesAreOne, EnoughLeavesNoRest, RestsSpendTheBudget, WholesRise}
 use Rattle.tetri_search.proofs.CountLemmas as counting
 use Rattle.tetri_search.proofs.ProperLemmas as proper
 use Rattle.tetri_search.proofs.RiseLemmas as rising
+use Rattle.tetri_search.proofs.SameLemmas as same
 use Rattle.tetri_search.proofs.SpentLemmas as spending
 
 pub earned_is_proper : EarnedIsProper
@@ -19,3 +20,6 @@ rests_spend_the_budget = spending.rests_spend_the_budget
 
 pub earned_by_place : EarnedByPlace
 earned_by_place = spending.earned_by_place
+
+pub earned_trees_are_one : EarnedTreesAreOne
+earned_trees_are_one = same.earned_trees_are_one

@@ -4,6 +4,7 @@ use Rattle.std.specs.List.{fold, list_any}
 use lib.IntN.{ℤ}
 use Rattle.tetri_ip.specs.declared.programs.Program.{Program}
 use Rattle.tetri_ip.specs.Points.{IsFit, objective}
+use Rattle.tetri_ip.specs.SamePrograms.{SaysSame}
 use Rattle.tetri_cert.specs.declared.marks.Cell.{Cell}
 use Rattle.tetri_cert.specs.declared.marks.Mark.{Mark}
 use Rattle.tetri_cert.specs.declared.marks.Mark.TheVariants.{Split, Close, Whole, Rest}
@@ -64,3 +65,7 @@ pub record IsOfNode (p : Program) (low budget : ℕ) (ms : List Mark) (k : ℕ) 
 
 abbrev pub EarnedByPlace : Type 0
 EarnedByPlace = (p : Program) (low budget : ℕ) (ms : List Mark) → IsEarned p low budget ms → (k : ℕ) → k < length ms → IsOfNode p low budget ms k
+
+-- programs that say the same have one tree for a best objective known at first and a budget
+abbrev pub EarnedTreesAreOne : Type 0
+EarnedTreesAreOne = (p other : Program) (low budget : ℕ) (ms others : List Mark) → SaysSame p other → IsEarned p low budget ms → IsEarned other low budget others → ms ≡ others

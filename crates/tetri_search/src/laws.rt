@@ -1,6 +1,6 @@
 //! What holds of every tree of a search.
 
-ghost use Rattle.tetri_search.specs.Laws.{EarnedByPlace, EarnedIsProper, EnoughLeavesNoRest, RestsSpendTheBudget, WholesRise};
+ghost use Rattle.tetri_search.specs.Laws.{EarnedByPlace, EarnedIsProper, EarnedTreesAreOne, EnoughLeavesNoRest, RestsSpendTheBudget, WholesRise};
 
 /// The tree of a search is a proper one, and where it has no rest its bound is at most the greater of
 /// the best objective known at first and those of its whole points.
@@ -28,4 +28,9 @@ pub fn rests_spend_the_budget()
 /// Each mark of a tree is that of the first node that is open behind the marks before it.
 pub fn earned_by_place()
     ensures { EarnedByPlace }
+{}
+
+/// A search has one tree: programs that say the same have the same marks, for one best objective known at first and one budget.
+pub fn earned_trees_are_one()
+    ensures { EarnedTreesAreOne }
 {}

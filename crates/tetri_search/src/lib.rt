@@ -9,7 +9,7 @@ mod marks;
 mod searching;
 
 pub use laws::{
-    earned_by_place, earned_trees_are_proper, enough_leaves_no_rest, rests_spend_the_budget,
-    whole_points_rise,
+    earned_by_place, earned_trees_are_one, earned_trees_are_proper, enough_leaves_no_rest,
+    rests_spend_the_budget, whole_points_rise,
 };
 pub use searching::{Found, search};

@@ -1,7 +1,7 @@
 use Rattle.std.proofs.Common.{◌≡◌, drop}
 use Rattle.tetri_cert.specs.Trees.{tree_bound}
 use Rattle.tetri_cert.specs.Walks.{IsOver, tells}
-use Rattle.tetri_cert.proofs.walk.bound.Given as goal
+use Rattle.tetri_cert.proofs.walk.bound_with_index.Given as goal
 
 abbrev pub invariant-loop-mark : goal.invariant-loop-mark
 invariant-loop-mark l = record {
