@@ -7,6 +7,7 @@ pub mod Choosing
 pub mod FullTables
 pub mod Weighting
 pub mod EndForms
+pub mod FirstPlaces
 pub mod Starting
 pub mod FirstTable
 pub mod Running
@@ -36,6 +37,15 @@ pub mod EndFacts
 pub mod SparseRows
 pub mod SparseWalks
 pub mod SparsePivots
+pub mod ShortWays
+pub mod MergeWalks
 pub mod SparseChoices
 pub mod SparseStart
 pub mod SparseTables
+pub mod SmallSteps
+pub mod MixedRows
+pub mod MixedPivots
+pub mod MixedChoices
+pub mod WholeTables
+pub mod WholeStart
+pub mod WholeEntering

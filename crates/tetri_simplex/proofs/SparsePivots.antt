@@ -50,7 +50,7 @@ number_representable (e ∷ es) j = by_test (eqb e.place j) (number_representabl
     by_test true h = value_representable e.number
     by_test false h = h
 
-plus_nothing : (n i k : ℕ) (a x : ℚ) → IsRepresentable a → IsRepresentable x → replaced_entry n i a k x zero_ℚ ≡ Ok x
+pub plus_nothing : (n i k : ℕ) (a x : ℚ) → IsRepresentable a → IsRepresentable x → replaced_entry n i a k x zero_ℚ ≡ Ok x
 plus_nothing n i k a x ra rx =
     ap (λ o. then_ok (or_place o Kind.Entry i (column_of n k)) (λ z. or_place (checked_sum x z) Kind.Entry i (column_of n k))) (checked_product-zero_right a ra)
     ∙ ap (λ o. or_place o Kind.Entry i (column_of n k)) (checked_sum-zero_right x rx)
@@ -65,7 +65,7 @@ nothing_solved n i k a ra =
     ap (λ z. or_place (checked_quotient z a) Kind.Row i (column_of n k)) (ring ℚ_ring [] (minus nil) nil refl)
     ∙ ap (λ o. or_place o Kind.Row i (column_of n k)) (checked_quotient-zero a ra)
 
-column_is : (n q : ℕ) → column_of n (q + 1) ≡ q
+pub column_is : (n q : ℕ) → column_of n (q + 1) ≡ q
 column_is n q = let e : q + 1 ≡ suc q = omega arith in ap (column_of n) e
 
 get_past : {A : Type 0} → (xs : List A) (k : ℕ) (d : A) → length xs ≤ k → get_or xs k d ≡ d

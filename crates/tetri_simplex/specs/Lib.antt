@@ -4,6 +4,7 @@ pub mod Start
 pub mod Pivots
 pub mod Choices
 pub mod Ends
+pub mod FirstPlaces
 pub mod Machine
 pub mod Fractions
 pub mod Outcomes
@@ -14,3 +15,6 @@ pub mod Turns
 pub mod Certificates
 pub mod Relaxation
 pub mod Sparse
+pub mod Mixed
+pub mod Whole
+pub mod WholeRatios

@@ -69,6 +69,7 @@ pub(crate) fn has_positive(row: &[Frac]) -> bool
 
 // The candidate with the lesser ratio, at a tie with the lesser variable, of the best so far and
 // one more.
+#[inline]
 pub(crate) fn lesser_ratio(
     variables: &[usize],
     best: Option<Candidate>,

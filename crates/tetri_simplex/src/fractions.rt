@@ -26,6 +26,7 @@ pub(crate) fn is_zero(x: Frac) -> bool
     x.num == 0
 }
 
+#[inline]
 pub(crate) fn is_less(x: Frac, y: Frac) -> bool
     ensures { result ≡ is_less (value x) (value y) }
 {

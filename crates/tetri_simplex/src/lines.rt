@@ -16,6 +16,7 @@ ghost use Rattle.tetri_simplex.specs.Tables.{is_positive};
 use crate::choices::{Candidate, lesser_place, lesser_ratio};
 use crate::fault::PivotFault;
 use crate::fractions::{is_negative, is_positive, is_zero, negated};
+use crate::merging::merge;
 use crate::rows::replaced_entry;
 use std::alloc::Global;
 use std::mem;
@@ -99,7 +100,7 @@ fn solved_entries(
     ensures sound { IfOk result (λ v. AreEntries columns v.items) }
 {
     let minus_one = Frac::whole(-1);
-    let mut solved = Vec::new(alloc);
+    let mut solved = Vec::with_capacity(alloc, entries.len())?;
     for k in 0..entries.len() {
         let entry = entries[k];
         let Ok(number) = negated(number_with(entry, j, minus_one)).div(pivot) else {
@@ -140,93 +141,6 @@ fn solved_line(alloc: Global, columns: u32, line: &Line, i: u32, j: u32) -> Resu
         Ok(entries) => Ok(Line { constant, entries }),
         Err(fault) => Err(fault),
     }
-}
-
-// The least place that entries from x and from y on tell.
-#[inline(always)]
-fn next_place(xs: &[Entry], x: usize, ys: &[Entry], y: usize) -> Option<u32>
-    ensures none { IfNone result ((length xs.now ≤ x) × (length ys.now ≤ y)) }
-    ensures left { IfSome result (λ p. x < length xs.now → p ≤ place_at xs.now x) }
-    ensures right { IfSome result (λ p. y < length ys.now → p ≤ place_at ys.now y) }
-    ensures one { IfSome result (λ p. ((x < length xs.now) × (place_at xs.now x ≡ p)) ⊎ ((y < length ys.now) × (place_at ys.now y ≡ p))) }
-{
-    if x < xs.len() {
-        let left = xs[x].place;
-        if y < ys.len() {
-            let right = ys[y].place;
-            if right < left {
-                Some(right)
-            } else {
-                Some(left)
-            }
-        } else {
-            Some(left)
-        }
-    } else if y < ys.len() {
-        Some(ys[y].place)
-    } else {
-        None
-    }
-}
-
-// The coefficient of a place at which no entry from `from` on lies before it, and the first entry
-// behind the place.
-#[inline(always)]
-fn take(entries: &[Entry], from: usize, place: u32) -> (Frac, usize)
-    requires ascending { AreAscending entries.now }
-    requires inside { from ≤ length entries.now }
-    requires before { (k : ℕ) → k < from → place_at entries.now k < place }
-    requires after { from < length entries.now → place ≤ place_at entries.now from }
-    ensures number { value result.0 ≡ number_of entries.now place }
-    ensures onward { from ≤ result.1 }
-    ensures inside { result.1 ≤ length entries.now }
-    ensures before { (k : ℕ) → k < result.1 → place_at entries.now k ≤ place }
-    ensures after { (k : ℕ) → result.1 ≤ k → k < length entries.now → place < place_at entries.now k }
-    ensures moved { from < length entries.now → place_at entries.now from ≡ place → from < result.1 }
-{
-    if from == entries.len() {
-        return (Frac::whole(0), from);
-    }
-    let entry = entries[from];
-    if entry.place == place {
-        (entry.number, from + 1)
-    } else {
-        (Frac::whole(0), from)
-    }
-}
-
-// Forms x + a * y for each place of two rows' entries, which replace what `merged` holds.
-fn merge(
-    columns: u32,
-    i: u32,
-    a: Frac,
-    xs: &[Entry],
-    ys: &[Entry],
-    merged: &mut Vec<Entry>,
-) -> Result<(), PivotFault>
-    requires left { AreEntries columns xs.now }
-    requires right { AreEntries columns ys.now }
-    ensures formed { let sum = each_pair (replaced_entry columns i (value a)) 1 (numbers_from 0 columns xs.now) (numbers_from 0 columns ys.now) in
-        MatchResult result (λ _. sum ≡ Ok (numbers_from 0 columns merged.new.items)) (λ e. IsFault e sum) }
-    ensures sound { IfOk result (λ _. AreEntries columns merged.new.items) }
-{
-    merged.clear();
-    let mut x = 0;
-    let mut y = 0;
-    while let Some(place) = next_place(xs, x, ys, y) {
-        let left = take(xs, x, place);
-        let right = take(ys, y, place);
-        let number = match replaced_entry(columns, i, a, place as usize + 1, left.0, right.0) {
-            Ok(number) => number,
-            Err(fault) => return Err(PivotFault::Past(fault)),
-        };
-        x = left.1;
-        y = right.1;
-        if !is_zero(number) {
-            merged.push(Entry { place, number })?;
-        }
-    }
-    Ok(())
 }
 
 // Puts the solved row in for the variable at place j in the row at place i. A row without the

@@ -1,6 +1,6 @@
 //! The point of a dictionary: each column's value where the nonbasic variables are 0.
 
-ghost use Rattle.std.specs.Prelude.{◌≡◌, ◌<◌, ◌^◌, length, cond, pos, Ok, None, Some, MatchOption, MatchResult};
+ghost use Rattle.std.specs.Prelude.{◌≡◌, ◌<◌, length, get_or, cond, pos, Ok, None, Some, MatchOption, MatchResult};
 ghost use lib.Signed.{lt_z};
 ghost use Rattle.tetri_algebra.specs.Rational.{whole_ℚ};
 ghost use Rattle.tetri_num.specs.Checked.{checked_sum, checked_difference};
@@ -9,27 +9,29 @@ ghost use Rattle.tetri_num.specs.Range.{IsWithin};
 ghost use Rattle.tetri_ip.specs.Points.{IsFit, IsInBox, bounds_of};
 ghost use Rattle.tetri_simplex.specs.Ends.{value_at, point_from};
 ghost use Rattle.tetri_simplex.specs.Faults.{IsFault};
+ghost use Rattle.tetri_simplex.specs.FirstPlaces.{IsFirstPlace};
 ghost use Rattle.tetri_simplex.specs.Fractions.{values};
 ghost use Rattle.tetri_simplex.specs.Turns.{HasPlaces};
 
 use crate::dictionary::Dictionary;
 use crate::fault::PivotFault;
+use crate::first_places::first_places;
 use std::alloc::Global;
 use tetri_ip::{Program, Region};
 use tetri_num::{Frac, Kind, Place};
 
-// The value of a variable: the constant of its row, and 0 where it is nonbasic.
-fn value_at<D: Dictionary>(d: &D, columns: u32, variable: usize) -> Frac
+// The value of the variable of column j: the constant of its row, and 0 where it is nonbasic. Its
+// basic place is that at place j of the list.
+fn value_at<D: Dictionary>(d: &D, columns: u32, places: &[u32], j: usize) -> Frac
     requires sound { D.is_sound d.now }
     requires columns { columns ≡ length (D.table d.now).nonbasic }
-    requires few { length (D.table d.now).basic < 2 ^ 32 }
-    ensures { value result ≡ value_at (D.table d.now).basic (D.table d.now).rows variable }
+    requires column { j < length places.now }
+    requires place { IsFirstPlace (D.table d.now).basic j (get_or places.now j 0) }
+    ensures { value result ≡ value_at (D.table d.now).basic (D.table d.now).rows j }
 {
-    let basic = d.basic();
-    for k in 0..basic.len() {
-        if basic[k] == variable {
-            return d.at(k as u32, columns);
-        }
+    let place = places[j];
+    if (place as usize) < d.basic().len() {
+        return d.at(place, columns);
     }
     Frac::whole(0)
 }
@@ -69,9 +71,10 @@ pub(crate) fn point_of<D: Dictionary>(
         MatchResult result (λ v. point ≡ Ok (values v.items)) (λ e. IsFault e point) }
 {
     let columns = p.costs.len() as u32;
+    let places = first_places(alloc, d.basic(), 0, p.costs.len())?;
     let mut point = Vec::new(alloc);
     for j in 0..p.costs.len() {
-        let moved = value_at(d, columns, j);
+        let moved = value_at(d, columns, &places, j);
         let Some(x) = coordinate(p.costs[j], r.lower[j], r.upper[j], moved) else {
             return Err(PivotFault::Past(Place {
                 kind: Kind::Point,

@@ -32,7 +32,7 @@ fn entry_with(row: &[Frac], j: u32, other: Frac, k: usize) -> Frac
 }
 
 // The row at place i, solved for its variable at place j.
-fn solved_row(
+pub(crate) fn solved_row(
     alloc: Global,
     columns: u32,
     row: &[Frac],
@@ -97,7 +97,13 @@ pub(crate) fn replaced_entry(
 }
 
 // Puts the solved row in for the variable at place j in the row at place i.
-fn replace_row(columns: u32, row: &mut [Frac], solved: &[Frac], i: u32, j: u32) -> Result<(), Place>
+pub(crate) fn replace_row(
+    columns: u32,
+    row: &mut [Frac],
+    solved: &[Frac],
+    i: u32,
+    j: u32,
+) -> Result<(), Place>
     requires wide { length row.old ≡ columns + 1 }
     requires solved { length solved.now ≡ columns + 1 }
     requires place { j < columns }

@@ -32,7 +32,7 @@ fn slack_entries(alloc: Global, p: &Program, row: &Row) -> Result<Vec<Entry>, Al
     ensures numbers { IfOk result (λ v. numbers_from 0 (length p.now.costs.items) v.items ≡ map whole_ℚ (slack_from row.now.terms.items 0 p.now.costs.items)) }
     ensures sound { IfOk result (λ v. AreEntries (length p.now.costs.items) v.items) }
 {
-    let mut entries = Vec::new(alloc);
+    let mut entries = Vec::with_capacity(alloc, row.terms.len())?;
     for k in 0..row.terms.len() {
         let term = row.terms[k];
         let number = slack_number(p, term.by, term.column as usize);
@@ -81,7 +81,7 @@ fn bound_line(alloc: Global, p: &Program, j: usize, width: i128) -> Result<Line,
     ensures numbers { IfOk result (λ l. line_of (length p.now.costs.items) l ≡ whole_ℚ width ∷ map whole_ℚ (minus_one_at j 0 p.now.costs.items)) }
     ensures sound { IfOk result (λ l. AreEntries (length p.now.costs.items) l.entries.items) }
 {
-    let mut entries = Vec::new(alloc);
+    let mut entries = Vec::with_capacity(alloc, 1)?;
     entries.push(Entry {
         place: j as u32,
         number: Frac::whole(-1),

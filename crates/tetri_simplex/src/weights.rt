@@ -1,12 +1,13 @@
 //! The weights that a row of a table gives the program's rows: the simplex multipliers.
 
-ghost use Rattle.std.specs.Prelude.{◌≡◌, ℕ, ◌+◌, ◌<◌, ◌≤◌, ◌^◌, length, pos, ◌<ℤ◌, ◌*ℤ◌, Ok, Err, IfOk, IfSome, MatchResult, All, unsigned_abs, cond, ◌==◌};
+ghost use Rattle.std.specs.Prelude.{◌≡◌, ℕ, ◌+◌, ◌<◌, ◌≤◌, ◌^◌, length, get_or, pos, ◌<ℤ◌, ◌*ℤ◌, Ok, Err, IfOk, IfSome, MatchResult, All, unsigned_abs, cond, ◌==◌};
 ghost use Rattle.tetri_algebra.specs.Rational.{whole_ℚ};
 ghost use Rattle.tetri_algebra.specs.RationalRing.{neg_ℚ};
 ghost use Rattle.tetri_num.specs.Frac.{value};
 ghost use Rattle.tetri_num.specs.Range.{IsWithin};
 ghost use Rattle.tetri_ip.specs.ColumnIndex.{WeightsAscend};
 ghost use Rattle.tetri_ip.specs.Forming.{within};
+ghost use Rattle.tetri_simplex.specs.FirstPlaces.{IsFirstPlace};
 ghost use Rattle.tetri_simplex.specs.Fractions.{values};
 ghost use Rattle.tetri_simplex.specs.Faults.{IsFault};
 ghost use Rattle.tetri_simplex.specs.Tables.{coefficients_of, row_at};
@@ -14,39 +15,49 @@ ghost use Rattle.tetri_simplex.specs.Ends.{coefficient_of, weights_of, common_de
 
 use crate::dictionary::Dictionary;
 use crate::fault::PivotFault;
+use crate::first_places::first_places;
 use crate::fractions::negated;
 use std::alloc::{AllocError, Global};
 use tetri_ip::{Row, Weight};
 use tetri_num::{Frac, Kind, Place, lcm};
 
-// The coefficient of a variable in a row: 0 where it is basic.
-fn coefficient_of<D: Dictionary>(d: &D, row: u32, variable: usize) -> Frac
+// The coefficient in a row of the variable whose nonbasic place is that at place i of the list: 0
+// where the variable is basic.
+fn coefficient_of<D: Dictionary>(d: &D, row: u32, places: &[u32], i: usize) -> Frac
     requires sound { D.is_sound d.now }
     requires row { row ≤ length (D.table d.now).basic }
-    requires few { length (D.table d.now).nonbasic < 2 ^ 31 }
-    ensures { value result ≡ coefficient_of (D.table d.now).nonbasic (coefficients_of (row_at (D.table d.now) row)) variable }
+    requires slack { i < length places.now }
+    ensures { (v : ℕ) → IsFirstPlace (D.table d.now).nonbasic v (get_or places.now i 0) →
+        value result ≡ coefficient_of (D.table d.now).nonbasic (coefficients_of (row_at (D.table d.now) row)) v }
 {
-    let nonbasic = d.nonbasic();
-    for j in 0..nonbasic.len() {
-        if nonbasic[j] == variable {
-            return d.at(row, j as u32);
-        }
+    let place = places[i];
+    if (place as usize) < d.nonbasic().len() {
+        return d.at(row, place);
     }
     Frac::whole(0)
 }
 
-// The weight of a variable in a row whose own variable has the weight 1.
-fn weight_of<D: Dictionary>(d: &D, row: u32, own: usize, variable: usize) -> Frac
+// The weight of the variable whose nonbasic place is that at place i of the list, in a row whose
+// own variable has the weight 1.
+fn weight_of<D: Dictionary>(
+    d: &D,
+    row: u32,
+    own: usize,
+    variable: usize,
+    places: &[u32],
+    i: usize,
+) -> Frac
     requires sound { D.is_sound d.now }
     requires row { row ≤ length (D.table d.now).basic }
-    requires few { length (D.table d.now).nonbasic < 2 ^ 31 }
+    requires slack { i < length places.now }
+    requires place { IsFirstPlace (D.table d.now).nonbasic variable (get_or places.now i 0) }
     ensures { let coefficient = coefficient_of (D.table d.now).nonbasic (coefficients_of (row_at (D.table d.now) row)) variable in
         value result ≡ cond (own == variable) (whole_ℚ (pos 1)) (neg_ℚ coefficient) }
 {
     if own == variable {
         return Frac::whole(1);
     }
-    negated(coefficient_of(d, row, variable))
+    negated(coefficient_of(d, row, places, i))
 }
 
 /// The weights of the slacks of the program's rows, which are counted from `first` on, in a row
@@ -67,9 +78,10 @@ pub(crate) fn row_weights<D: Dictionary>(
         weights_of (D.table d.now).nonbasic (coefficients_of (row_at (D.table d.now) row)) own first rows.now) }
     ensures count { IfOk result (λ v. length v.items ≡ length rows.now) }
 {
+    let places = first_places(alloc, d.nonbasic(), first, rows.len())?;
     let mut weights = Vec::new(alloc);
     for i in 0..rows.len() {
-        let weight = weight_of(d, row, own, first + i);
+        let weight = weight_of(d, row, own, first + i, &places, i);
         weights.push(weight)?;
     }
     Ok(weights)

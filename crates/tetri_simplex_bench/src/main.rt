@@ -1,11 +1,11 @@
 //! Times the dual run.
 //!
-//! `tetri_simplex_bench full|sparse SIDE KINDS` runs the program of a square of columns, with limits
-//! for each row and each column of the square, over full tables or over rows of entries.
-//! `tetri_simplex_bench full|sparse FILE` runs the program of a file of numbers (`read::program`). It
-//! writes the multiplier and the sum of the weights of the best point to standard output, and the
-//! nanoseconds of the run to standard error. Without arguments it runs a small program both ways,
-//! and no time is written.
+//! `tetri_simplex_bench full|sparse|whole SIDE KINDS` runs the program of a square of columns, with
+//! limits for each row and each column of the square, over full tables, over rows of entries or over
+//! rows of whole numbers. `tetri_simplex_bench full|sparse|whole FILE` runs the program of a file of
+//! numbers (`read::program`). It writes the multiplier and the sum of the weights of the best point to
+//! standard output, and the nanoseconds of the run to standard error. Without arguments it runs a
+//! small program in each way, and no time is written.
 #![tactic(auto)]
 
 ghost use Rattle.std.specs.Prelude.{◌≤◌};
@@ -20,17 +20,33 @@ use std::alloc::Global;
 use std::time::CpuClock;
 use std::{env, fs, io};
 use tetri_ip::{Program, Region, Weight};
-use tetri_simplex::{Full, Outcome, Sparse, run_on};
+use tetri_simplex::{Full, Outcome, Sparse, Whole, run_on};
+
+// The dictionaries of a run.
+#[derive(Clone, Copy)]
+enum Kind {
+    Full,
+    Sparse,
+    Whole,
+}
+
+fn kind_of(word: &str) -> Kind {
+    match word {
+        "sparse" => Kind::Sparse,
+        "whole" => Kind::Whole,
+        _ => Kind::Full,
+    }
+}
 
 fn main(rt: HostRuntime) -> io::Result<()> {
     let alloc = rt.alloc();
-    let mut sparse = false;
+    let mut kind = Kind::Full;
     let mut sizes: [u32; 2] = [3, 3];
     let mut path = None;
     let mut given: usize = 0;
     for argument in env::args(&rt)?.skip(1) {
         if given == 0 {
-            sparse = argument.as_str() == "sparse";
+            kind = kind_of(argument.as_str());
         } else {
             match argument.as_str().parse::<u32>() {
                 Ok(size) if given <= 2 => sizes[given - 1] = size,
@@ -43,19 +59,22 @@ fn main(rt: HostRuntime) -> io::Result<()> {
         let text = fs::read_to_string(&rt, path.as_str())?;
         let mut numbers = Numbers::of(alloc, text.as_str())?;
         let p = program(alloc, &mut numbers)?;
-        return measure(&rt, alloc, &p, sparse, true);
+        return measure(&rt, alloc, &p, kind, true);
     }
     let [side, kinds] = sizes;
     if 1 <= side && side <= 64 && 1 <= kinds && kinds <= 100 {
         let p = square(alloc, side, kinds)?;
         if given == 0 {
-            measure(&rt, alloc, &p, false, false)?;
-            measure(&rt, alloc, &p, true, false)
+            measure(&rt, alloc, &p, Kind::Full, false)?;
+            measure(&rt, alloc, &p, Kind::Sparse, false)?;
+            measure(&rt, alloc, &p, Kind::Whole, false)
         } else {
-            measure(&rt, alloc, &p, sparse, true)
+            measure(&rt, alloc, &p, kind, true)
         }
     } else {
-        eprintln!(rt; "usage: tetri_simplex_bench full|sparse SIDE KINDS, or full|sparse FILE")
+        eprintln!(rt;
+            "usage: tetri_simplex_bench full|sparse|whole SIDE KINDS, or full|sparse|whole FILE"
+        )
     }
 }
 
@@ -85,17 +104,17 @@ fn measure(
     rt: &(impl CpuClock + Print + Eprint),
     alloc: Global,
     p: &Program,
-    sparse: bool,
+    kind: Kind,
     timed: bool,
 ) -> io::Result<()>
     requires { IsFit p.now }
 {
     let whole = Region::whole(alloc, p)?;
     let start = rt.thread_cpu_time()?;
-    let outcome = if sparse {
-        run_on::<Sparse>(alloc, p, &whole, 0)?
-    } else {
-        run_on::<Full>(alloc, p, &whole, 0)?
+    let outcome = match kind {
+        Kind::Full => run_on::<Full>(alloc, p, &whole, 0)?,
+        Kind::Sparse => run_on::<Sparse>(alloc, p, &whole, 0)?,
+        Kind::Whole => run_on::<Whole>(alloc, p, &whole, 0)?,
     };
     let end = rt.thread_cpu_time()?;
     tell(rt, outcome)?;

@@ -1,14 +1,14 @@
 //! The program tetri_simplex_bench in plain Rust: the same programs, rules and output.
 //!
-//! `plain full|sparse SIDE KINDS` runs a square of columns, `plain full|sparse FILE` the program of a
-//! file by bench/dual/cycle.
+//! `plain full|sparse|general SIDE KINDS` runs a square of columns, `plain full|sparse|general FILE` the
+//! program of a file by bench/dual/cycle. `general` is sparse rows without the short ways for 1 and -1.
 
 mod frac;
 mod full;
 mod sparse;
 
 use std::cmp::Ordering;
-use std::time::Instant;
+use std::time::Duration;
 
 use frac::{Frac, gcd};
 use full::Full;
@@ -187,19 +187,39 @@ fn dual_run<D: Dictionary>(p: &Program) -> (End, u32) {
     (End::Long, 0)
 }
 
+#[repr(C)]
+struct Timespec {
+    seconds: i64,
+    nanoseconds: i64,
+}
+
+unsafe extern "C" {
+    fn clock_gettime(clock: i32, time: *mut Timespec) -> i32;
+}
+
+// The processor's time of this thread, as the proved program tells it.
+fn thread_time() -> Duration {
+    const THREAD: i32 = 3;
+    let mut time = Timespec { seconds: 0, nanoseconds: 0 };
+    let told = unsafe { clock_gettime(THREAD, &mut time) };
+    assert_eq!(told, 0, "a clock of the thread");
+    Duration::new(time.seconds as u64, time.nanoseconds as u32)
+}
+
 fn main() {
     let words: Vec<String> = std::env::args().skip(1).collect();
     let p = match &words[1..] {
         [side, kinds] => square(side.parse().expect("a side"), kinds.parse().expect("kinds")),
         [path] => read(path),
-        _ => panic!("usage: plain full|sparse SIDE KINDS, or plain full|sparse FILE"),
+        _ => panic!("usage: plain full|sparse|general SIDE KINDS, or plain full|sparse|general FILE"),
     };
-    let start = Instant::now();
+    let start = thread_time();
     let (end, pivots) = match words[0].as_str() {
         "full" => dual_run::<Full>(&p),
-        _ => dual_run::<Sparse>(&p),
+        "general" => dual_run::<Sparse<false>>(&p),
+        _ => dual_run::<Sparse<true>>(&p),
     };
-    let time = start.elapsed();
+    let time = thread_time() - start;
     match end {
         End::Cut => println!("cut"),
         End::Best { q, sum } => println!("best {q} {sum}"),

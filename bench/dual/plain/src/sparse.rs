@@ -1,4 +1,5 @@
-//! Rows by their entries in plain Rust.
+//! Rows by their entries in plain Rust. `SHORT` says whether products with 1 and -1 and sums of a number
+//! and its negative take the short ways of the proved program.
 
 use crate::frac::Frac;
 use crate::{Dictionary, Program, entering, negated, quotient};
@@ -14,7 +15,7 @@ struct Line {
     entries: Vec<Entry>,
 }
 
-pub struct Sparse {
+pub struct Sparse<const SHORT: bool> {
     nonbasic: Vec<usize>,
     basic: Vec<usize>,
     lines: Vec<Line>,
@@ -32,9 +33,41 @@ fn entry(place: usize, number: i128) -> Entry {
     Entry { place: place as u32, number: Frac::whole(number) }
 }
 
+fn is_whole(x: Frac, n: i128) -> bool {
+    x.num == n && x.den == 1
+}
+
+#[inline(always)]
+fn product<const SHORT: bool>(x: Frac, y: Frac) -> Option<Frac> {
+    if SHORT {
+        if is_whole(x, 1) {
+            return Some(y);
+        }
+        if is_whole(x, -1) {
+            return Some(negated(y));
+        }
+        if is_whole(y, 1) {
+            return Some(x);
+        }
+        if is_whole(y, -1) {
+            return Some(negated(x));
+        }
+    }
+    x.mul(y).ok()
+}
+
+#[inline(always)]
+fn sum<const SHORT: bool>(x: Frac, y: Frac) -> Option<Frac> {
+    if SHORT && y.num == -x.num && y.den == x.den {
+        return Some(Frac::whole(0));
+    }
+    x.add(y).ok()
+}
+
 // x + a * y for each place, into `merged`.
-fn merge(a: Frac, xs: &[Entry], ys: &[Entry], merged: &mut Vec<Entry>) -> Option<()> {
+fn merge<const SHORT: bool>(a: Frac, xs: &[Entry], ys: &[Entry], merged: &mut Vec<Entry>) -> Option<()> {
     merged.clear();
+    merged.reserve(xs.len() + ys.len());
     let (mut x, mut y) = (0, 0);
     while x < xs.len() && y < ys.len() {
         let (left, right) = (xs[x], ys[y]);
@@ -43,27 +76,27 @@ fn merge(a: Frac, xs: &[Entry], ys: &[Entry], merged: &mut Vec<Entry>) -> Option
             x += 1;
             continue;
         }
-        let part = a.mul(right.number).ok()?;
-        let number = if left.place == right.place {
-            x += 1;
-            left.number.add(part).ok()?
-        } else {
-            part
-        };
+        let part = product::<SHORT>(a, right.number)?;
         y += 1;
+        if right.place < left.place {
+            merged.push(Entry { place: right.place, number: part });
+            continue;
+        }
+        x += 1;
+        let number = sum::<SHORT>(left.number, part)?;
         if number.num != 0 {
             merged.push(Entry { place: right.place, number });
         }
     }
     merged.extend_from_slice(&xs[x..]);
     for right in &ys[y..] {
-        merged.push(Entry { place: right.place, number: a.mul(right.number).ok()? });
+        merged.push(Entry { place: right.place, number: product::<SHORT>(a, right.number)? });
     }
     Some(())
 }
 
-impl Dictionary for Sparse {
-    fn start(p: &Program) -> Sparse {
+impl<const SHORT: bool> Dictionary for Sparse<SHORT> {
+    fn start(p: &Program) -> Self {
         let columns = p.costs.len();
         let mut lines = Vec::new();
         for row in &p.rows {
@@ -125,7 +158,7 @@ impl Dictionary for Sparse {
             let factor = line.entries[place].number;
             line.constant = line.constant.add(factor.mul(solved.constant).ok()?).ok()?;
             line.entries[place].number = Frac::whole(0);
-            merge(factor, &line.entries, &solved.entries, &mut self.scratch)?;
+            merge::<SHORT>(factor, &line.entries, &solved.entries, &mut self.scratch)?;
             std::mem::swap(&mut line.entries, &mut self.scratch);
         }
         self.lines[i] = solved;

@@ -1,0 +1,12 @@
+pub mod Signed
+pub mod Bounds
+pub mod Words
+pub mod Meanings
+pub mod Pairs
+pub mod Solved
+pub mod TermRows
+pub mod RowSigns
+pub mod Ratios
+pub mod RowLaws
+pub mod TermLists
+pub mod FractionLists

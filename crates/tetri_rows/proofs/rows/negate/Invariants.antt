@@ -1,0 +1,12 @@
+use Rattle.std.proofs.Common.{◌≡◌, ℕ, ◌<◌, ◌≤◌, length, get_or}
+use Rattle.std.specs.Prelude.{pos, All}
+use lib.IntN.{neg_ℤ}
+use Rattle.tetri_rows.specs.Small.{IsShort}
+use Rattle.tetri_rows.proofs.rows.negate.Given as goal
+
+abbrev pub invariant-loop-k : goal.invariant-loop-k
+invariant-loop-k l = record {
+  front : (q : ℕ) → q < l.k → get_or l.row q (pos 0) ≡ neg_ℤ (get_or l.fn.row q (pos 0));
+  rest : (q : ℕ) → l.k ≤ q → q < length l.row → get_or l.row q (pos 0) ≡ get_or l.fn.row q (pos 0);
+  short : All IsShort l.row;
+}

@@ -1,0 +1,14 @@
+use Rattle.std.proofs.Common.{get_or}
+use Rattle.tetri_simplex.proofs.MixedPivots.{own_read, mixed_fault, mixed_pivoted, mixed_unsolved}
+use Rattle.tetri_simplex.proofs.mixed.pivot_mixed.Goals as goal
+
+pub returns-in-Err-clause-formed : goal.returns-in-Err-clause-formed
+returns-in-Err-clause-formed c = mixed_unsolved c.args.columns c.args.i c.args.j c.args.rows.now (get_or c.args.rows.now c.args.i c.index-rows-i.result) c.in-Err.fault c.requires.row (own_read c.args.rows.now c.args.i c.index-rows-i.result c.requires.row) c.in-Err.ensures.formed
+
+pub returns-in-Ok-replace_mixed-clause-formed : goal.returns-in-Ok-replace_mixed-clause-formed
+returns-in-Ok-replace_mixed-clause-formed c =
+    mixed_pivoted c.args.columns c.args.i c.args.j c.args.rows.now c.replace_mixed.new.rows (get_or c.args.rows.now c.args.i c.index-rows-i.result) c.in-Ok.solved c.requires.row (own_read c.args.rows.now c.args.i c.index-rows-i.result c.requires.row) c.in-Ok.ensures.formed c.in-Ok-replace_mixed.ensures.formed
+
+pub returns-in-Err-replace_mixed-clause-formed : goal.returns-in-Err-replace_mixed-clause-formed
+returns-in-Err-replace_mixed-clause-formed c =
+    mixed_fault c.args.columns c.args.i c.args.j c.args.rows.now (get_or c.args.rows.now c.args.i c.index-rows-i.result) c.in-Ok.solved c.in-Err-replace_mixed.fault c.requires.row (own_read c.args.rows.now c.args.i c.index-rows-i.result c.requires.row) c.in-Ok.ensures.formed c.in-Err-replace_mixed.ensures.formed
