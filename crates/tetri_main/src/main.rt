@@ -1,5 +1,5 @@
 //! `tetri plan TRACE` plans the trace in a file and writes its report to standard output. `tetri check TRACE REPORT` checks a report
-//! in a file against its trace.
+//! in a file against its trace. `tetri load N` writes the summary of the run of a trace that is made from the number N.
 #![tactic(auto)]
 
 use std::process::ExitCode;

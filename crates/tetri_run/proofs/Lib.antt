@@ -7,3 +7,4 @@ pub mod CycleLemmas
 pub mod TopLemmas
 pub mod RefusalLemmas
 pub mod EndedLemmas
+pub mod OneRun

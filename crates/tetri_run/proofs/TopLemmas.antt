@@ -5,8 +5,8 @@ use Rattle.tetri_trace.specs.Lines.{scenario_in}
 use Rattle.tetri_trace.specs.Scenario.{Scenario}
 use Rattle.tetri_trace.specs.declared.fault.TraceWhy.{TraceWhy}
 use Rattle.tetri_run.specs.Check.{IsAccepted}
-use Rattle.tetri_run.specs.Status.{IsCheckAnswer, IsCheckPromised, IsRefusal}
-use Rattle.tetri_run.specs.Words.{Asked, to_check}
+use Rattle.tetri_run.specs.Status.{IsCheckAnswer, IsCheckPromised, IsLoadAnswer, IsRefusal, IsSilent}
+use Rattle.tetri_run.specs.Words.{Asked, to_check, to_load}
 use Rattle.tetri_run.specs.declared.status.Status.{Status}
 use Rattle.tetri_run.specs.declared.status.Status.TheVariants.{Done, Refused, Usage, ReadFault, WriteFault, BadTrace, NoMemory}
 
@@ -47,3 +47,31 @@ same_names a b trace report o e f = (first (e ∙ f), second (e ∙ f))
 
     second : Some (to_check a b) ≡ Some (to_check trace report) → b ≡ report
     second e = cc
+
+-- ---- a load
+module _ (t : Scenario) (before after : Option (List ℕ)) where
+  -- it is done, unless a write failed or memory ran out
+  pub load_ends : (status : Status) → IsLoadAnswer status t before after → (status ≡ WriteFault → ⊥) → (status ≡ Done) ⊎ (status ≡ NoMemory)
+  load_ends Done answer quiet = inl refl
+  load_ends (Refused line why) answer quiet = absurd answer
+  load_ends Usage answer quiet = absurd answer
+  load_ends ReadFault answer quiet = absurd answer
+  load_ends WriteFault answer quiet = absurd (quiet refl)
+  load_ends (BadTrace line why) answer quiet = absurd answer
+  load_ends NoMemory answer quiet = inr refl
+
+  pub load_silent : (status : Status) → IsLoadAnswer status t before after → IsSilent status before after
+  load_silent Done answer = tt
+  load_silent (Refused line why) answer = absurd answer
+  load_silent Usage answer = absurd answer
+  load_silent ReadFault answer = absurd answer
+  load_silent WriteFault answer = tt
+  load_silent (BadTrace line why) answer = absurd answer
+  load_silent NoMemory answer = tt
+
+-- the words name one number
+pub same_number : (m n : ℕ) (o : Option Asked) → Some (to_load m) ≡ o → o ≡ Some (to_load n) → m ≡ n
+same_number m n o e f = number_is (e ∙ f)
+  where
+    number_is : Some (to_load m) ≡ Some (to_load n) → m ≡ n
+    number_is e = cc

@@ -4,7 +4,7 @@ use Rattle.std.specs.Io.KnownBytes.{append_known}
 use Rattle.tetri_io.specs.Sink.{AppendsPart}
 use Rattle.tetri_report.specs.Block.{Block}
 use Rattle.tetri_report.specs.Reading.{report_in}
-use Rattle.tetri_report.specs.Text.{cycle_text}
+use Rattle.tetri_report.specs.Text.{cycle_text, summary_text}
 use Rattle.tetri_report.specs.declared.cycle.Summary.{Summary}
 use Rattle.tetri_state.specs.After.{after}
 use Rattle.tetri_state.specs.Readied.{Fits, IsLaunchOf}
@@ -78,6 +78,26 @@ pub record WroteReport (t : Scenario) (before now : Option (List ℕ)) : Type 0 
   pub written : now ≡ append_known before (report_text t past)
   pub reads : report_in t (report_text t past) ≡ Ok (in_order past, summary_of t past)
   pub accepted : IsAccepted t (report_text t past)
+
+-- The summary is that of a whole planned run, which is the only one that the trace has.
+pub record IsSummaryOfRun (t : Scenario) (summary : Summary) : Type 0 where
+  pub past : List Block
+  pub run : IsPlannedRun t past
+  pub whole : length past ≡ t.header.until
+  pub only : (other : List Block) → IsPlannedRun t other → length other ≡ t.header.until → other ≡ past
+  pub counted : summary ≡ summary_of t past
+
+-- The summary of a whole planned run was written.
+pub record WroteSummary (t : Scenario) (before now : Option (List ℕ)) : Type 0 where
+  pub summary : Summary
+  pub of_run : IsSummaryOfRun t summary
+  pub written : now ≡ append_known before (summary_text summary)
+
+-- A write failed in the summary of a whole planned run.
+pub record StoppedInSummary (t : Scenario) (before now : Option (List ℕ)) : Type 0 where
+  pub summary : Summary
+  pub of_run : IsSummaryOfRun t summary
+  pub written : AppendsPart before now (summary_text summary)
 
 -- All slots were run, and the summary is theirs.
 pub record RanAll (t : Scenario) (summary : Summary) (before now : Option (List ℕ)) : Type 0 where

@@ -1,5 +1,5 @@
 -- What a status says, of the trace and of the bytes that were written.
-use Rattle.std.specs.Prelude.{◌≡◌, ◌⊎◌, ℕ, List, [], ◌++◌, Option, Result, Ok, Err, codes, decimal}
+use Rattle.std.specs.Prelude.{◌≡◌, ◌⊎◌, ℕ, List, [], ◌++◌, Option, Some, None, Result, Ok, Err, codes, decimal}
 use Rattle.std.specs.Io.KnownBytes.{append_known}
 use Rattle.tetri_trace.specs.Scenario.{Scenario}
 use Rattle.tetri_trace.specs.declared.fault.TraceWhy.{TraceWhy}
@@ -17,8 +17,8 @@ use Rattle.tetri_space.specs.declared.rules.Rule.TheVariants as rules
 use Rattle.tetri_trace.specs.declared.fault.TraceFault.{TraceFault}
 use Rattle.tetri_trace.specs.declared.fault.TraceFault.TheVariants as trace_faults
 use Rattle.tetri_run.specs.Check.{IsAccepted, IsAssured, IsRefusedAt}
-use Rattle.tetri_run.specs.Progress.{StoppedBetween, StoppedInText, WroteReport}
-use Rattle.tetri_run.specs.Words.{Asked, to_check, to_plan}
+use Rattle.tetri_run.specs.Progress.{StoppedBetween, StoppedInSummary, StoppedInText, WroteReport, WroteSummary}
+use Rattle.tetri_run.specs.Words.{Asked, to_check, to_load, to_plan}
 use Rattle.tetri_run.specs.declared.why.Why.{Why}
 use Rattle.tetri_run.specs.declared.why.Why.TheVariants as refusals
 use Rattle.tetri_run.specs.declared.status.Status.{Status}
@@ -82,11 +82,13 @@ status_of trace_faults.NoMemory = NoMemory
 abbrev pub RoseOf : Asked → (List ℕ → ℕ) → (List ℕ → ℕ) → Type 0
 RoseOf (to_plan trace) before after = Rose (before trace) (after trace)
 RoseOf (to_check trace report) before after = Rose (before trace) (after trace) ⊎ Rose (before report) (after report)
+RoseOf (to_load number) before after = ⊥
 
--- the name of the trace
-abbrev pub trace_of : Asked → List ℕ
-trace_of (to_plan trace) = trace
-trace_of (to_check trace report) = trace
+-- the name of the trace that is read, if one is
+abbrev pub trace_of : Asked → Option (List ℕ)
+trace_of (to_plan trace) = Some trace
+trace_of (to_check trace report) = Some trace
+trace_of (to_load number) = None
 
 -- what running the cycles of a trace answers, of the written bytes before and after
 abbrev pub IsRunAnswer : Status → Scenario → Option (List ℕ) → Option (List ℕ) → Type 0
@@ -97,6 +99,16 @@ IsRunAnswer ReadFault t before after = ⊥
 IsRunAnswer WriteFault t before after = StoppedInText t before after
 IsRunAnswer (BadTrace line why) t before after = ⊥
 IsRunAnswer NoMemory t before after = StoppedBetween t before after
+
+-- What running a trace for its summary alone answers, of the written bytes before and after.
+abbrev pub IsLoadAnswer : Status → Scenario → Option (List ℕ) → Option (List ℕ) → Type 0
+IsLoadAnswer Done t before after = WroteSummary t before after
+IsLoadAnswer (Refused line why) t before after = ⊥
+IsLoadAnswer Usage t before after = ⊥
+IsLoadAnswer ReadFault t before after = ⊥
+IsLoadAnswer WriteFault t before after = StoppedInSummary t before after
+IsLoadAnswer (BadTrace line why) t before after = ⊥
+IsLoadAnswer NoMemory t before after = after ≡ before
 
 -- a fault in words
 abbrev pub fault_words : Fault → List ℕ
@@ -150,7 +162,6 @@ why_name whys.NoHeader = codes "no-header"
 why_name (whys.MissingField field) = codes "missing-field"
 why_name (whys.BadField field) = codes "bad-field"
 why_name whys.UnknownEvent = codes "unknown-event"
-why_name whys.NotBuilt = codes "not-built"
 why_name whys.OutOfOrder = codes "out-of-order"
 why_name whys.PastEnd = codes "past-end"
 why_name whys.NameTaken = codes "name-taken"

@@ -1,17 +1,21 @@
 -- What the words of the command line ask for.
-use Rattle.std.specs.Prelude.{ℕ, List, [], ◌∷◌, map, Option, Some, None, if◌then◌else◌, bytes_eq, codes, String, string_bytes}
+use Rattle.std.specs.Prelude.{ℕ, ◌^◌, ◌<◌, List, [], ◌∷◌, map, Option, Some, None, option_map, if◌then◌else◌, bytes_eq, codes, String, string_bytes}
 use Rattle.std.specs.declared.alloc.Global.{Global}
+use Rattle.tetri_io.specs.Numbers.{digits_below}
 use Rattle.tetri_run.specs.declared.top.Request.{Request}
-use Rattle.tetri_run.specs.declared.top.Request.TheVariants.{Plan, Check}
+use Rattle.tetri_run.specs.declared.top.Request.TheVariants.{Plan, Check, Load}
 
--- to plan the trace of this name, or to check a report against a trace
+-- to plan the trace of this name, to check a report against a trace, or to run the trace that is made of this number
 pub data Asked : Type 0 where
   to_plan : (trace : List ℕ) → Asked
   to_check : (trace report : List ℕ) → Asked
+  to_load : (number : ℕ) → Asked
 
--- `plan` and one more word, or `check` and two more
+-- `plan` and one more word; `load` and 1 to 10 digits of a number below 2^31; or `check` and two more words
 abbrev pub asked : List (List ℕ) → Option Asked
-asked (verb ∷ trace ∷ []) = if bytes_eq verb (codes "plan") then Some (to_plan trace) else None
+asked (verb ∷ word ∷ []) =
+    if bytes_eq verb (codes "plan") then Some (to_plan word)
+    else (if bytes_eq verb (codes "load") then option_map to_load (digits_below (2 ^ 31) word) else None)
 asked (verb ∷ trace ∷ report ∷ []) = if bytes_eq verb (codes "check") then Some (to_check trace report) else None
 asked words = None
 
@@ -19,6 +23,13 @@ asked words = None
 abbrev pub asked_of : Request → Asked
 asked_of (Plan trace) = to_plan trace.now
 asked_of (Check trace report) = to_check trace.now report.now
+asked_of (Load number) = to_load number
+
+-- a number that is kept is below 2^31
+abbrev pub IsSmall : Request → Type 0
+IsSmall (Plan trace) = Unit {0}
+IsSmall (Check trace report) = Unit {0}
+IsSmall (Load number) = number < 2 ^ 31
 
 -- the words as bytes
 abbrev pub texts : List (String Global) → List (List ℕ)

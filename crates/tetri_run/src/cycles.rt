@@ -39,7 +39,11 @@ pub(crate) fn summary_at(state: &State, tally: &RunTally) -> Summary
 }
 
 // Runs all slots, from the opening state on.
-fn run_slots<K: Sink>(alloc: Global, trace: &Trace, sink: &mut K) -> Result<Summary, Halt>
+pub(crate) fn run_slots<K: Sink>(
+    alloc: Global,
+    trace: &Trace,
+    sink: &mut K,
+) -> Result<Summary, Halt>
     requires { IsSound (scenario trace.now) }
     ensures ok { IfOk result (λ summary. RanAll (scenario trace.entry.now) summary (K.written sink.old) (K.written sink.new)) }
     ensures small { IfOk result (λ summary. summary.worth < 2 ^ 127) }
@@ -66,7 +70,7 @@ fn number_is_large(number: u64)
 {}
 
 // The numbers of a summary, which have the types of their fields, are within the ranges of its line.
-fn summary_is_in_range(summary: &Summary)
+pub(crate) fn summary_is_in_range(summary: &Summary)
     requires { summary.now.worth < 2 ^ 127 }
     ensures { IsSummaryInRange summary.now }
 {

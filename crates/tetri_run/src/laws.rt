@@ -1,5 +1,5 @@
 // Laws of runs, and of reports that are checked.
-ghost use Rattle.std.specs.Prelude.{◌≡◌, ◌∷◌, AllPairs, Contains, List, ℕ, Some};
+ghost use Rattle.std.specs.Prelude.{◌≡◌, ◌∷◌, AllPairs, Contains, List, ℕ, Some, length};
 ghost use Rattle.tetri_report.specs.Block.{Block};
 ghost use Rattle.tetri_run.specs.Check.{IsRefusedAt};
 ghost use Rattle.tetri_run.specs.Cycle.{instance_at};
@@ -57,4 +57,10 @@ pub fn pieces_of_runs_keep_their_nodes(trace: &Trace)
 pub fn reports_are_refused_once()
     ensures { (t : Scenario) (bytes : List ℕ) (line other : ℕ) (why because : Why) → IsSound t → IsRefusedAt t bytes line why
         → IsRefusedAt t bytes other because → (line ≡ other) × (why ≡ because) }
+{}
+
+/// A trace has one planned run of each length. So a run of it that is planned, to be printed or to be counted, is the only one.
+pub fn planned_runs_are_one()
+    ensures { (t : Scenario) (past others : List Block) → IsPlannedRun t past → IsPlannedRun t others
+        → length past ≡ length others → past ≡ others }
 {}

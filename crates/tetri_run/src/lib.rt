@@ -1,4 +1,4 @@
-//! The top call: plans a trace and writes its report, or checks a report against its trace.
+//! The top call: plans a trace and writes its report, checks a report against its trace, or sums up the run of a made trace.
 #![tactic(auto)]
 
 mod accepted;
@@ -8,6 +8,7 @@ mod cycles;
 mod ended;
 mod halt;
 mod laws;
+mod load;
 mod planner;
 mod slot;
 mod spoken;
@@ -17,8 +18,10 @@ mod why;
 
 pub use ended::{conclude, exit_number, status_of_words};
 pub use laws::{
-    pieces_of_runs_keep_their_nodes, reports_are_refused_once, states_of_runs_are_reached,
+    pieces_of_runs_keep_their_nodes, planned_runs_are_one, reports_are_refused_once,
+    states_of_runs_are_reached,
 };
+pub use load::run_load;
 pub use spoken::{SayFault, say};
 pub use status::Status;
 pub use top::{run, run_check, run_plan};

@@ -13,6 +13,7 @@ ghost use Rattle.tetri_space.specs.Sound.{IsSound};
 ghost use Rattle.tetri_state.specs.Launch.{worth_launched};
 
 use std::alloc::{AllocError, Global};
+use tetri_plan::choose;
 use tetri_report::Cycle;
 use tetri_space::Instance;
 use tetri_state::{Happened, launch_of, starts_of};
@@ -38,7 +39,6 @@ pub(crate) fn plan_cycle(
     requires sound { IsSound (space inst.now) }
     requires lawful { IsLawful (space inst.now) carry.now }
     requires thrifty { IsThriftyForAll (space inst.now) carry.now }
-    requires budget { 1 ≤ budget }
     ensures number { IfOk result (λ t. t.cycle.number ≡ number) }
     ensures happened { IfOk result (λ t. t.cycle.happened ≡ happened) }
     ensures plan { IfOk result (λ t. IsPlanFor (space inst.entry.now) budget carry.entry.now (block t.cycle)) }
@@ -48,7 +48,7 @@ pub(crate) fn plan_cycle(
     ensures printable { IfOk result (λ t. IsPrintableTree t.cycle.certificate) }
     ensures worth { IfOk result (λ t. t.launched_worth ≡ worth_launched (space inst.entry.now) t.cycle.grants) }
 {
-    let plan = tetri_plan::plan_cycle(alloc, inst, carry, budget)?;
+    let plan = choose(alloc, inst, carry, &[], budget)?;
     let starts = starts_of(alloc, inst, plan.grants.as_slice())?;
     let launch = launch_of(alloc, inst, plan.grants.as_slice())?;
     let cycle = Cycle {

@@ -117,7 +117,6 @@ fn why_name(why: TraceWhy) -> &'static str
         TraceWhy::MissingField(_) => "missing-field",
         TraceWhy::BadField(_) => "bad-field",
         TraceWhy::UnknownEvent => "unknown-event",
-        TraceWhy::NotBuilt => "not-built",
         TraceWhy::OutOfOrder => "out-of-order",
         TraceWhy::PastEnd => "past-end",
         TraceWhy::NameTaken => "name-taken",

@@ -1,31 +1,47 @@
 // The words of the command line, and what is done for them.
-ghost use Rattle.std.specs.Prelude.{◌≡◌, ◌≢◌, ◌↔◌, ◌≤◌, ◌⊎◌, List, ℕ, Some, None, Ok, Err, ◌++◌, option_map};
+ghost use Rattle.std.specs.Prelude.{◌≡◌, ◌≢◌, ◌↔◌, ◌≤◌, ◌<◌, ◌^◌, ◌⊎◌, List, ℕ, Some, None, Ok, Err, IfSome, option_map};
 ghost use Rattle.tetri_algebra.specs.Counts.{Rose};
+ghost use Rattle.tetri_io.specs.Numbers.{digits_below};
+ghost use Rattle.tetri_make.specs.Generated.{generated};
 ghost use Rattle.tetri_run.specs.Check.{IsAccepted};
-ghost use Rattle.tetri_run.specs.Status.{IsCheckPromised, IsPromised, IsRefusal, IsSilent, RoseOf, status_of, trace_of};
+ghost use Rattle.tetri_run.specs.Status.{IsCheckPromised, IsLoadAnswer, IsPromised, IsRefusal, IsSilent, RoseOf, status_of, trace_of};
 ghost use Rattle.tetri_run.specs.declared.why.Why.{Why};
 ghost use Rattle.tetri_trace.specs.declared.fault.TraceWhy.{TraceWhy};
-ghost use Rattle.tetri_run.specs.Words.{Asked, asked, asked_of, texts, to_check, to_plan};
+ghost use Rattle.tetri_run.specs.Words.{Asked, IsSmall, asked, asked_of, texts, to_check, to_load, to_plan};
 ghost use Rattle.tetri_trace.specs.Lines.{scenario_in};
 ghost use Rattle.tetri_trace.specs.Scenario.{Scenario};
 
 use crate::accepted::check_trace;
 use crate::cycles::run_cycles;
+use crate::load::run_load;
 use crate::status::Status;
 use std::alloc::Global;
-use tetri_io::{Shelf, Sink};
+use tetri_io::{Shelf, Sink, digits_below};
 use tetri_trace::{TraceFault, read_trace};
 
-/// What the words ask for, by names.
+/// What the words ask for, by names or by a number below 2^31.
 #[derive(Clone, Copy, Debug)]
 pub(crate) enum Request<'a> {
     Plan { trace: &'a str },
     Check { trace: &'a str, report: &'a str },
+    Load { number: u32 },
 }
 
-// What is asked for: `plan` and one more word, or `check` and two more.
+// The number of a generated trace: 1 to 10 digits, with a value below 2^31.
+fn load_number(word: &str) -> Option<u32>
+    ensures value { result ≡ digits_below (2 ^ 31) word.now }
+    ensures below { IfSome result (λ n. n < 2 ^ 31) }
+{
+    match digits_below(1 << 31, word.as_bytes()) {
+        Some(number) => Some(number as u32),
+        None => None,
+    }
+}
+
+// What is asked for: `plan` and one more word, `check` and two more, or `load` and a number.
 fn asked(words: &[String]) -> Option<Request<'_>>
-    ensures { option_map asked_of result ≡ asked (texts words.now) }
+    ensures asked { option_map asked_of result ≡ asked (texts words.now) }
+    ensures small { IfSome result IsSmall }
 {
     match words {
         [verb, trace] if verb.as_str() == "plan" => Some(Request::Plan {
@@ -35,12 +51,17 @@ fn asked(words: &[String]) -> Option<Request<'_>>
             trace: trace.as_str(),
             report: report.as_str(),
         }),
+        [verb, number] if verb.as_str() == "load" => match load_number(number.as_str()) {
+            Some(number) => Some(Request::Load { number }),
+            None => None,
+        },
         _ => None,
     }
 }
 
-/// Does what the words ask: `plan TRACE` plans the trace of that name and writes its report, and `check TRACE REPORT` checks the
-/// report of that name against the trace, and writes that it is accepted, where it is.
+/// Does what the words ask: `plan TRACE` plans the trace of that name and writes its report; `check TRACE REPORT` checks the
+/// report of that name against the trace, and writes that it is accepted, where it is; and `load N` runs the trace that is made of
+/// the number N, 1 to 10 digits with a value below 2^31, and writes the summary of its run alone.
 pub fn run<S: Shelf, K: Sink>(
     alloc: Global,
     words: &[String],
@@ -57,6 +78,8 @@ pub fn run<S: Shelf, K: Sink>(
     ensures refused { (name : List ℕ) (line : ℕ) (why : Why) → asked (texts words.now) ≡ Some (to_plan name) → result ≢ Status.Refused line why }
     ensures bad_trace { (trace report content : List ℕ) (line : ℕ) (why : TraceWhy) → asked (texts words.now) ≡ Some (to_check trace report)
         → S.told shelf.old trace ≡ Some content → result ≡ Status.BadTrace line why → scenario_in content ≡ Err (line, why) }
+    ensures load { (number : ℕ) → asked (texts words.now) ≡ Some (to_load number)
+        → IsLoadAnswer result (generated number) (K.written sink.old) (K.written sink.new) }
     ensures silent { IsSilent result (K.written sink.old) (K.written sink.new) }
     ensures check_silent { (trace report : List ℕ) → asked (texts words.now) ≡ Some (to_check trace report)
         → result ≢ Status.Done → result ≢ Status.WriteFault → K.written sink.new ≡ K.written sink.old }
@@ -66,8 +89,8 @@ pub fn run<S: Shelf, K: Sink>(
         → RoseOf a (S.faults shelf.old) (S.faults shelf.new) }
     ensures write { result ≡ Status.WriteFault → Rose (K.faults sink.old) (K.faults sink.new) }
 
-    // A trace that is accepted is planned, a report that is accepted is told so, and a trace and a report that are not accepted
-    // are refused, but for want of memory.
+    // A trace that is accepted is planned, a report that is accepted is told so, a number is run, and a trace and a report that are
+    // not accepted are refused, but for want of memory.
     ensures complete { (name content : List ℕ) (t : Scenario) → asked (texts words.now) ≡ Some (to_plan name)
         → S.told shelf.old name ≡ Some content → scenario_in content ≡ Ok t
         → ¬ Rose (S.faults shelf.old name) (S.faults shelf.new name)
@@ -84,9 +107,12 @@ pub fn run<S: Shelf, K: Sink>(
         → S.told shelf.old report ≡ Some lines → ¬ IsAccepted t lines
         → ¬ RoseOf (to_check trace report) (S.faults shelf.old) (S.faults shelf.new)
         → IsRefusal result t lines ⊎ (result ≡ Status.NoMemory) }
-    ensures refuses { (a : Asked) (content : List ℕ) (line : ℕ) (why : TraceWhy) → asked (texts words.now) ≡ Some a
-        → S.told shelf.old (trace_of a) ≡ Some content → scenario_in content ≡ Err (line, why)
-        → ¬ Rose (S.faults shelf.old (trace_of a)) (S.faults shelf.new (trace_of a))
+    ensures loads { (number : ℕ) → asked (texts words.now) ≡ Some (to_load number)
+        → ¬ Rose (K.faults sink.old) (K.faults sink.new)
+        → (result ≡ Status.Done) ⊎ (result ≡ Status.NoMemory) }
+    ensures refuses { (a : Asked) (name content : List ℕ) (line : ℕ) (why : TraceWhy) → asked (texts words.now) ≡ Some a
+        → trace_of a ≡ Some name → S.told shelf.old name ≡ Some content → scenario_in content ≡ Err (line, why)
+        → ¬ Rose (S.faults shelf.old name) (S.faults shelf.new name)
         → (result ≡ Status.BadTrace line why) ⊎ (result ≡ Status.NoMemory) }
     ensures same { S.told shelf.new ≡ S.told shelf.old }
     ensures later_reads { (other : List ℕ) → S.faults shelf.old other ≤ S.faults shelf.new other }
@@ -95,6 +121,7 @@ pub fn run<S: Shelf, K: Sink>(
     match asked(words) {
         Some(Request::Plan { trace }) => run_plan(alloc, trace, shelf, sink),
         Some(Request::Check { trace, report }) => run_check(alloc, trace, report, shelf, sink),
+        Some(Request::Load { number }) => run_load(alloc, number, sink),
         None => Status::Usage,
     }
 }

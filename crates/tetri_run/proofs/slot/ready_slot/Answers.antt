@@ -15,9 +15,6 @@ use Rattle.tetri_run.specs.Cycle.{IsPlanFor, instance_at}
 use Rattle.tetri_run.proofs.PrintLemmas.{cycle_printable}
 use Rattle.tetri_run.proofs.slot.ready_slot.Goals as goal
 
-pub plan_cycle-requires-clause-budget : goal.plan_cycle-requires-clause-budget
-plan_cycle-requires-clause-budget c = c.requires.sound.header.some_budget
-
 pub print_cycle-requires : goal.print_cycle-requires
 print_cycle-requires c =
     let t = scenario c.args.trace.now in

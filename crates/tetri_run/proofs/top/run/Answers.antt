@@ -9,7 +9,7 @@ pub returns-in-Some-Check-clause-accepts : goal.returns-in-Some-Check-clause-acc
 returns-in-Some-Check-clause-accepts g c = λ trace report content lines t asks told is told_lines accepted reads writes.
     let a = c.in-Some-Check.trace.now in
     let b = c.in-Some-Check.report.now in
-    let e : Some (to_check a b) ≡ asked (texts c.args.words.now) = rw c.in-Some-Check.field-0-is at c.in-Some-Check.ensures in
+    let e : Some (to_check a b) ≡ asked (texts c.args.words.now) = rw c.in-Some-Check.field-0-is at c.in-Some-Check.ensures.asked in
     let names = same_names a b trace report (asked (texts c.args.words.now)) e asks in
     let f = g.S.Shelf.faults c.args.shelf.now in
     let h = g.S.Shelf.faults c.run_check.new.shelf in
@@ -20,7 +20,7 @@ pub returns-in-Some-Check-clause-rejects : goal.returns-in-Some-Check-clause-rej
 returns-in-Some-Check-clause-rejects g c = λ trace report content lines t asks told is told_lines not reads.
     let a = c.in-Some-Check.trace.now in
     let b = c.in-Some-Check.report.now in
-    let e : Some (to_check a b) ≡ asked (texts c.args.words.now) = rw c.in-Some-Check.field-0-is at c.in-Some-Check.ensures in
+    let e : Some (to_check a b) ≡ asked (texts c.args.words.now) = rw c.in-Some-Check.field-0-is at c.in-Some-Check.ensures.asked in
     let names = same_names a b trace report (asked (texts c.args.words.now)) e asks in
     let f = g.S.Shelf.faults c.args.shelf.now in
     let h = g.S.Shelf.faults c.run_check.new.shelf in

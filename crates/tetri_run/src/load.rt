@@ -1,0 +1,98 @@
+// The run of a generated trace, for its summary alone.
+ghost use Rattle.std.specs.Prelude.{◌≡◌, ◌≢◌, ◌⊎◌, ◌≤◌, ◌<◌, ◌^◌, ℕ, IfOk, IsErrOf, OnOk};
+ghost use Rattle.tetri_algebra.specs.Counts.{Rose};
+ghost use Rattle.tetri_make.specs.Generated.{generated};
+ghost use Rattle.tetri_run.specs.Progress.{IsSummaryOfRun, StoppedInSummary, WroteSummary};
+ghost use Rattle.tetri_run.specs.Status.{IsLoadAnswer, IsSilent};
+ghost use Rattle.tetri_run.specs.declared.why.Why.{Why};
+ghost use Rattle.tetri_trace.specs.Scenario.{scenario};
+ghost use Rattle.tetri_trace.specs.Sound.{IsSound};
+ghost use Rattle.tetri_trace.specs.declared.fault.TraceWhy.{TraceWhy};
+
+use crate::cycles::{run_slots, summary_is_in_range};
+use crate::halt::Halt;
+use crate::status::Status;
+use std::alloc::{AllocError, Global};
+use tetri_io::{Failed, Sink, send_all};
+use tetri_make::make;
+use tetri_report::{Summary, print_summary};
+use tetri_trace::Trace;
+
+// A sink that keeps nothing of what is written to it, and tells nothing of it. No write to it fails.
+#[derive(Drop)]
+struct Unkept;
+
+impl Sink for Unkept {
+    ghost use Rattle.std.specs.Prelude.{None};
+
+    ghost written = { λ _. None };
+
+    ghost faults = { λ _. 0 };
+
+    fn write(&mut self, piece: &[u8]) -> Result<usize, Failed> {
+        Ok(piece.len())
+    }
+}
+
+// Runs all slots, and keeps the numbers of the run alone.
+fn count_run(alloc: Global, trace: &Trace) -> Result<Summary, AllocError>
+    requires { IsSound (scenario trace.now) }
+    ensures counted { IfOk result (IsSummaryOfRun (scenario trace.entry.now)) }
+    ensures small { IfOk result (λ summary. summary.worth < 2 ^ 127) }
+{
+    let mut blocks = Unkept;
+    match run_slots(alloc, trace, &mut blocks) {
+        Ok(summary) => Ok(summary),
+        Err(Halt::NoMemory) => Err(AllocError),
+        Err(Halt::WriteFault) => unreachable!(),
+    }
+}
+
+// Runs all slots, and writes the summary alone.
+fn write_summary<K: Sink>(alloc: Global, trace: &Trace, sink: &mut K) -> Result<(), Halt>
+    requires { IsSound (scenario trace.now) }
+    ensures ok { OnOk result (WroteSummary (scenario trace.entry.now) (K.written sink.old) (K.written sink.new)) }
+    ensures failed { IsErrOf result Halt.WriteFault → StoppedInSummary (scenario trace.entry.now) (K.written sink.old) (K.written sink.new) }
+    ensures memory { IsErrOf result Halt.NoMemory → K.written sink.new ≡ K.written sink.old }
+    ensures write { IsErrOf result Halt.WriteFault → Rose (K.faults sink.old) (K.faults sink.new) }
+    ensures later { K.faults sink.old ≤ K.faults sink.new }
+{
+    let summary = count_run(alloc, trace)?;
+    summary_is_in_range(&summary);
+    let text = print_summary(alloc, &summary)?;
+    send_all(sink, &text)?;
+    Ok(())
+}
+
+// Runs a trace, and writes its summary alone, by one send.
+fn run_counted<K: Sink>(alloc: Global, trace: &Trace, sink: &mut K) -> Status
+    requires { IsSound (scenario trace.now) }
+    ensures answer { IsLoadAnswer result (scenario trace.entry.now) (K.written sink.old) (K.written sink.new) }
+    ensures write { result ≡ Status.WriteFault → Rose (K.faults sink.old) (K.faults sink.new) }
+    ensures later { K.faults sink.old ≤ K.faults sink.new }
+{
+    match write_summary(alloc, trace, sink) {
+        Ok(()) => Status::Done,
+        Err(Halt::WriteFault) => Status::WriteFault,
+        Err(Halt::NoMemory) => Status::NoMemory,
+    }
+}
+
+/// Makes the trace of a number, runs it as `run_plan` runs a trace, and writes the summary of the run alone, by one send.
+pub fn run_load<K: Sink>(alloc: Global, number: u32, sink: &mut K) -> Status
+    requires { number < 2 ^ 31 }
+    ensures usage { result ≢ Status.Usage }
+    ensures refused { (line : ℕ) (why : Why) → result ≢ Status.Refused line why }
+    ensures good_trace { (line : ℕ) (why : TraceWhy) → result ≢ Status.BadTrace line why }
+    ensures read { result ≢ Status.ReadFault }
+    ensures silent { IsSilent result (K.written sink.old) (K.written sink.new) }
+    ensures promise { IsLoadAnswer result (generated number) (K.written sink.old) (K.written sink.new) }
+    ensures write { result ≡ Status.WriteFault → Rose (K.faults sink.old) (K.faults sink.new) }
+    ensures complete { ¬ Rose (K.faults sink.old) (K.faults sink.new) → (result ≡ Status.Done) ⊎ (result ≡ Status.NoMemory) }
+    ensures later { K.faults sink.old ≤ K.faults sink.new }
+{
+    match make(alloc, number) {
+        Ok(trace) => run_counted(alloc, &trace, sink),
+        Err(_) => Status::NoMemory,
+    }
+}
