@@ -8,7 +8,7 @@ use Rattle.std.proofs.lemmas.Bool.Decides.{nat_tests}
 use Rattle.std.proofs.lemmas.List.{get_or-take, length-take}
 use Rattle.std.proofs.lemmas.List.Elements.{All-nil, All-cons, All-append, All-contains, All-contains_itself, All-filter, All-take, All-weaker, Contains-append_left, Contains-append_right, filter_passes}
 use Rattle.std.proofs.lemmas.List.Folds.{list_any-append}
-use Rattle.std.proofs.lemmas.List.Kept.{AllPairs-filter, IsStrictlyIncreasing-filter}
+use Rattle.std.proofs.lemmas.List.Kept.{IsStrictlyIncreasing-filter}
 use Rattle.tetri_strl.specs.declared.expr.Leaf.{Leaf}
 use Rattle.tetri_strl.specs.Aligned.{EachLeaf, EachLeafOf}
 use Rattle.tetri_strl.specs.Tree.{greatest, least, added, Tree, one, join, scale, barrier, Trees, none, more, leaves, leaves_of}
@@ -240,12 +240,3 @@ module _ (s : Space) (job : ℕ) (taken : Leaf → ℕ → Bool) where
           (better_fit (nat_lt best.0 (fit_worth job t (fit_beside s job taken held t))) held ls best (fit_worth job t (fit_beside s job taken held t), fit_beside s job taken held t) fit
           (fit-wider held (leaves t) ls (fit_beside s job taken held t) (λ l at. wider l (Contains-append_left (leaves t) (leaves_of ts) l at))
           (are_fit t plain.0 (left_pairs Before (leaves t) (leaves_of ts) order) held)))
-
-    -- any part of a fit is one
-    pub fit-filter : (keeps : Placement → Bool) (held : List Placement) (ls : List Leaf) (ps : List Placement) → AreFit held ls ps → AreFit held ls (filter keeps ps)
-    fit-filter keeps held ls ps fit = record {
-      right = All-filter keeps IsRight ps fit.right;
-      within = All-filter keeps (λ p. Contains ls p.leaf) ps fit.within;
-      beside = All-filter keeps (IsBeside held) ps fit.beside;
-      pairs = AllPairs-filter Follows keeps ps fit.pairs;
-    }

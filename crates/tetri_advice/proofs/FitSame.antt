@@ -1,30 +1,26 @@
--- A fit depends on what is taken in the slots of live leaves alone.
-use Rattle.std.proofs.Common.{◌≡◌, ℕ, ◌<◌, ◌≤◌, ◌&&◌, Bool, true, false, not, cond, List, [], ◌∷◌, ◌++◌, length, take, refl, sym, ap, ◌∙◌, arith, nat_le, nat_lt}
+-- A fit depends on what is taken of idle nodes in the slots of live leaves alone.
+use Rattle.std.proofs.Common.{◌≡◌, ℕ, ◌≤◌, ◌&&◌, Bool, true, false, not, cond, List, [], ◌∷◌, ◌++◌, length, take, refl, sym, ap, ◌∙◌, nat_le}
 use Rattle.std.specs.Prelude.{filter}
-use Rattle.std.proofs.lemmas.Bool.Decides.{nat_tests}
 use Rattle.tetri_strl.specs.declared.expr.Leaf.{Leaf}
 use Rattle.tetri_strl.specs.Aligned.{EachLeaf, EachLeafOf}
 use Rattle.tetri_strl.specs.Tree.{greatest, least, added, Tree, one, join, scale, barrier, Trees, none, more}
 use Rattle.tetri_strl.specs.WellMade.{IsGoodLeaf}
 use Rattle.tetri_space.specs.Space.{Space, set_of}
-use Rattle.tetri_space.specs.Free.{is_free_throughout}
+use Rattle.tetri_space.specs.Free.{is_free_throughout, is_idle}
 use Rattle.tetri_advice.specs.Fit.{Placement, all_fit, best_fit, better, enough, fit_beside, fit_of_leaf, fit_worth, fits, is_available, is_held, is_live, lowest}
 
 filter-same : (p q : ℕ → Bool) (xs : List ℕ) → ((n : ℕ) → p n ≡ q n) → filter p xs ≡ filter q xs
 filter-same p q [] same = refl
 filter-same p q (x ∷ xs) same = ap (λ b. cond b (x ∷ filter p xs) (filter p xs)) (same x) ∙ ap (λ ys. cond (q x) (x ∷ ys) ys) (filter-same p q xs same)
 
-module _ (s : Space) (job : ℕ) (f g : Leaf → ℕ → Bool) (same : (l : Leaf) (n : ℕ) → is_live s l ≡ true → 1 ≤ l.dur → n < s.nodes → f l n ≡ g l n) where
-  -- where the node is not there it is not free
+module _ (s : Space) (job : ℕ) (f g : Leaf → ℕ → Bool) (same : (l : Leaf) (n : ℕ) → is_live s l ≡ true → 1 ≤ l.dur → is_idle s n l.start ≡ true → f l n ≡ g l n) where
+  -- a node that is not idle is not free
   available-same : (held : List Placement) (l : Leaf) → is_live s l ≡ true → 1 ≤ l.dur → (n : ℕ) → is_available s f held l n ≡ is_available s g held l n
-  available-same held l live some n = by_there (nat_lt n s.nodes) refl
+  available-same held l live some n = by_idle (is_idle s n l.start) refl
     where
-      below : nat_lt n s.nodes ≡ true → n < s.nodes
-      below e = grind (arith, nat_tests)
-
-      by_there : (t : Bool) → nat_lt n s.nodes ≡ t → is_available s f held l n ≡ is_available s g held l n
-      by_there true e = ap (λ b. is_free_throughout s l n && not b && not (is_held held l n)) (same l n live some (below e))
-      by_there false e = rw e refl
+      by_idle : (t : Bool) → is_idle s n l.start ≡ t → is_available s f held l n ≡ is_available s g held l n
+      by_idle true e = ap (λ b. is_free_throughout s l n && not b && not (is_held held l n)) (same l n live some e)
+      by_idle false e = rw e refl
 
   leaf-same : (held : List Placement) (l : Leaf) → 1 ≤ l.dur → fit_of_leaf s f held l ≡ fit_of_leaf s g held l
   leaf-same held l some = by_live (is_live s l) refl

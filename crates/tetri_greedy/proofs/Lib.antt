@@ -1,3 +1,6 @@
 pub mod Marks
+pub mod OpenLemmas
 pub mod Placing
+pub mod RankLemmas
+pub mod ServingLemmas
 pub mod Steps

@@ -1,2 +1,4 @@
-pub mod Held
 pub mod Fitted
+pub mod Held
+pub mod Order
+pub mod Served

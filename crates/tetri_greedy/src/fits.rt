@@ -1,5 +1,5 @@
 // The fit of an expression.
-ghost use Rattle.std.specs.Prelude.{◌≡◌, ◌∷◌, [], IfOk, OnOk, true, false, length, take};
+ghost use Rattle.std.specs.Prelude.{◌≡◌, ◌<◌, ◌∷◌, [], ℕ, IfOk, OnOk, true, false, length, take};
 ghost use Rattle.std.specs.List.Sorted.{IsStrictlyIncreasing};
 ghost use Rattle.tetri_advice.specs.Fit.{all_fit, best_fit, enough, fit_beside, fit_worth, fits, is_available, is_live, lowest};
 ghost use Rattle.tetri_greedy.specs.Fitted.{grown, with_fit};
@@ -36,6 +36,13 @@ fn is_enough(leaf: &Leaf, count: usize) -> bool
     }
 }
 
+// How many nodes the leaf needs to get any.
+fn least_nodes(leaf: &Leaf) -> u32
+    ensures { (n : ℕ) → n < result → enough leaf.now n ≡ false }
+{
+    if leaf.linear { 1 } else { leaf.k }
+}
+
 // Whether the node is free in every slot of the leaf.
 fn is_free(inst: &Instance, leaf: &Leaf, node: u32) -> bool
     requires sound { IsSound (space inst.now) }
@@ -45,16 +52,18 @@ fn is_free(inst: &Instance, leaf: &Leaf, node: u32) -> bool
     free_throughout(inst, leaf, node)
 }
 
-// Whether the node is free, and not held, in every slot of the live leaf.
+// Whether the node is free, and not held, in every slot of the live leaf. Closures, whose look-up costs
+// most, come last.
 fn is_open(inst: &Instance, held: &HeldSlots, own: &Placements, leaf: &Leaf, node: u32) -> bool
     requires sound { IsSound (space inst.now) }
     requires good { made.IsGoodLeaf leaf.now }
     requires live { is_live (space inst.now) leaf.now ≡ true }
     requires as_many { length held.now ≡ (space inst.now).nodes }
+    requires there { node < (space inst.now).nodes }
     ensures { result
         ≡ is_available (space inst.entry.now) (is_marked held.now (space inst.entry.now).now) own.now.placements leaf.now node }
 {
-    is_free(inst, leaf, node) && !held.holds(inst.now, leaf, node) && !own.holds(leaf, node)
+    !held.holds(inst.now, leaf, node) && !own.holds(leaf, node) && is_free(inst, leaf, node)
 }
 
 // The lowest nodes that are open to the live leaf, at most `k`.
@@ -103,6 +112,10 @@ fn fit_leaf(
     if !is_live(inst, leaf) {
         return Ok(());
     }
+    let _sets = inst.sets.len();
+    if !held.may_have(inst.now, leaf, least_nodes(leaf)) {
+        return Ok(());
+    }
     let nodes = lowest(alloc, inst, held, own, leaf)?;
     if is_enough(leaf, nodes.as_slice().len()) {
         own.push(*leaf, nodes)?;
@@ -111,7 +124,8 @@ fn fit_leaf(
 }
 
 /// Puts the fit of the expression behind the job's own placements: each leaf gets the lowest nodes of
-/// its set that are free, and not held, in all its slots. Of the parts of a `max` the first that is
+/// its set that are free, and not held, in all its slots. A leaf for which some slot has too few nodes
+/// is passed over without a look at them. Of the parts of a `max` the first that is
 /// worth most gets its fit, a `min` gets nothing where one of its parts is worth nothing, and a
 /// barrier nothing below its worth. `held` has one entry per node of the instance. Its only error is
 /// want of memory.

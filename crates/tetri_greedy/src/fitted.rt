@@ -1,9 +1,8 @@
 // The placements of one job.
-ghost use Rattle.std.specs.List.{list_any};
-ghost use Rattle.std.specs.Prelude.{◌==◌, ◌≡◌, ◌∷◌, [], ◌++◌, ◌≤◌, ◌+◌, nat_lt, drop, length, take, IfOk, OnOk};
+ghost use Rattle.std.specs.Prelude.{◌≡◌, ◌∷◌, [], ◌++◌, ◌≤◌, ◌+◌, nat_lt, drop, length, take, IfOk, OnOk};
 ghost use Rattle.tetri_advice.specs.Fit.{fit_worth, grants_of, is_held, is_held_by};
 ghost use Rattle.tetri_greedy.specs.Fitted.{grown, placement_of, placements_of};
-ghost use Rattle.tetri_greedy.specs.Held.{AreHoldable, IsHoldable, all_marked, but_leaves};
+ghost use Rattle.tetri_greedy.specs.Held.{AreHoldable, IsHoldable, all_marked};
 ghost use Rattle.tetri_strl.specs.Tree.{tree};
 ghost use Rattle.tetri_strl.specs.WellMade.{IsSound};
 
@@ -181,53 +180,37 @@ impl Placements {
     }
 
     /// The grants of the placements, in order.
-    pub fn grants(&self) -> &[Grant]
-        ensures { result.now ≡ grants_of self.now.job self.now.placements }
-    {
-        &self.grants
-    }
-
-    /// The same grants.
     pub fn into_grants(self) -> Vec<Grant>
         ensures { result.items ≡ grants_of self.job self.placements }
     {
         self.grants
     }
 
-    /// Holds the nodes of the placements in the slots of their leaves, which are live, but for the
-    /// leaves of these numbers.
-    pub fn hold_but(&self, idle: &[u32], now: u32, held: &mut HeldSlots)
+    /// Holds the nodes of the placements in the slots of their leaves, which are live.
+    pub fn hold(&self, now: u32, held: &mut HeldSlots)
         requires { AreHoldable now (length held.old) self.now.placements }
-        ensures marks { held.new ≡ all_marked now held.old (but_leaves idle.now self.now.placements) }
+        ensures marks { held.new ≡ all_marked now held.old self.now.placements }
         ensures as_many { length held.new ≡ length held.old }
     {
-        hold_each(&self.leaves, &self.grants, idle, now, held);
+        hold_each(&self.leaves, &self.grants, now, held);
     }
 }
 
-fn hold_each(leaves: &[Leaf], grants: &[Grant], idle: &[u32], now: u32, held: &mut HeldSlots)
+fn hold_each(leaves: &[Leaf], grants: &[Grant], now: u32, held: &mut HeldSlots)
     requires as_long { length leaves.now ≡ length grants.now }
     requires holdable { AreHoldable now (length held.old) (placements_of leaves.now grants.now) }
-    ensures marks { held.new ≡ all_marked now held.old (but_leaves idle.now (placements_of leaves.now grants.now)) }
+    ensures marks { held.new ≡ all_marked now held.old (placements_of leaves.now grants.now) }
     ensures as_many { length held.new ≡ length held.old }
 {
     for (place, leaf) in leaves.iter().enumerate() {
-        hold_one(leaf, &grants[place], idle, now, held);
+        hold_one(leaf, &grants[place], now, held);
     }
 }
 
-fn hold_one(leaf: &Leaf, grant: &Grant, idle: &[u32], now: u32, held: &mut HeldSlots)
+fn hold_one(leaf: &Leaf, grant: &Grant, now: u32, held: &mut HeldSlots)
     requires { IsHoldable now (length held.old) (placement_of leaf.now grant.now) }
-    ensures marks { held.new ≡ all_marked now held.old (but_leaves idle.now (placement_of leaf.now grant.now ∷ [])) }
+    ensures marks { held.new ≡ all_marked now held.old (placement_of leaf.now grant.now ∷ []) }
     ensures as_many { length held.new ≡ length held.old }
 {
-    if !has_number(idle, leaf.num) {
-        held.hold(now, leaf, grant.nodes.as_slice());
-    }
-}
-
-fn has_number(numbers: &[u32], number: u32) -> bool
-    ensures { result ≡ list_any (λ n. n == number) numbers.now }
-{
-    numbers.iter().any(|n| *n == number)
+    held.hold(now, leaf, grant.nodes.as_slice());
 }

@@ -1,10 +1,11 @@
-//! Greedy fits of requests.
+//! Two greedy advisors, which serve the jobs of an instance in turn.
 #![tactic(auto)]
 
+mod advisors;
 mod fits;
 mod fitted;
 mod held;
+mod order;
+mod serving;
 
-pub use fits::fit;
-pub use fitted::Placements;
-pub use held::HeldSlots;
+pub use advisors::{ByDeadline, ByWorth};

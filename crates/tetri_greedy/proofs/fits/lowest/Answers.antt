@@ -1,7 +1,7 @@
-use Rattle.std.proofs.Common.{◌≡◌, ◌++◌, ◌∷◌, ◌+◌, ◌∙◌, drop, take, filter, get_or, sym, subst}
+use Rattle.std.proofs.Common.{◌≡◌, ◌++◌, ◌∷◌, ◌+◌, ◌<◌, ◌∙◌, All, List, [], ℕ, ap, drop, take, filter, get_or, slice_index_or, sym, subst}
 use Rattle.std.proofs.lemmas.List.{drop_more}
 use Rattle.tetri_advice.specs.Fit.{is_available, lowest}
-use Rattle.tetri_space.specs.Space.{space}
+use Rattle.tetri_space.specs.Space.{set_of, space}
 use Rattle.tetri_space.specs.Slots.{is_marked}
 use Rattle.tetri_greedy.proofs.Steps.{passed_step, taken_step}
 use Rattle.tetri_greedy.proofs.fits.lowest.Goals as goal
@@ -23,3 +23,11 @@ loop-node-preserved c =
       | else-is_open w ↦ rw (w.nodes-is, w.left-is)
           (passed_step opens c.loop-node.nodes (get_or items i 0) (drop (i + 1) items) whole c.loop-node.left (sym c.is_open.ensures ∙ w.if-is_open.false) now)
     ]
+
+pub is_open-requires-clause-there : goal.is_open-requires-clause-there
+is_open-requires-clause-there c =
+    let s = space c.args.inst.now in
+    let is : c.as_slice-node-items.result.now ≡ set_of s c.args.leaf.now =
+    c.as_slice-node-items.ensures ∙ c.nodes_of.ensures.value ∙ ap (λ (sets : List (List ℕ)). slice_index_or sets c.args.leaf.now.set []) c.deref.ensures in
+    let within : All (λ n. n < s.nodes) c.as_slice-node-items.result.now = subst (All (λ n. n < s.nodes)) (sym is) c.requires.known.there in
+    within c.loop-node.node-index 0 c.loop-node-test.true

@@ -4,6 +4,6 @@ use Rattle.tetri_greedy.proofs.held.HeldSlots.hold.Given as goal
 
 abbrev pub invariant-loop-node : goal.invariant-loop-node
 invariant-loop-node l = record {
-  so_far : marked l.self-inside.masks.items l.slots (drop l.node-index l.nodes) ≡ marked l.fn.self l.slots l.nodes;
-  as_many : length l.self-inside.masks.items ≡ length l.fn.self;
+  so_far : marked l.self l.slots (drop l.node-index l.nodes) ≡ marked l.fn.self l.slots l.nodes;
+  as_many : length l.self ≡ length l.fn.self;
 }

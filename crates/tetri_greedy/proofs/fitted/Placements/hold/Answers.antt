@@ -1,6 +1,6 @@
 use Rattle.std.proofs.Common.{length, ap, sym, ◌∙◌}
 use Rattle.tetri_greedy.proofs.Placing.{as_many}
-use Rattle.tetri_greedy.proofs.fitted.Placements.hold_but.Goals as goal
+use Rattle.tetri_greedy.proofs.fitted.Placements.hold.Goals as goal
 
 pub hold_each-requires-clause-as_long : goal.hold_each-requires-clause-as_long
 hold_each-requires-clause-as_long c =
