@@ -1,0 +1,6 @@
+use Rattle.std.proofs.Common.{◌∙◌}
+use Rattle.tetri_split.proofs.RestrictingLemmas.{search_has}
+use Rattle.tetri_split.proofs.restricting.is_among.Goals as goal
+
+pub returns : goal.returns
+returns c = c.is_ok.ensures.value ∙ search_has c.args.jobs.now c.args.job c.binary_search.result c.requires c.binary_search.ensures.position
