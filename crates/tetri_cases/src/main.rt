@@ -6,15 +6,8 @@
 //! report that a check accepts.
 #![tactic(auto)]
 
-mod certificates;
-mod contents;
-mod names;
-mod reports;
 mod runs;
-mod sets;
 mod table;
-mod texts;
-mod traces;
 
 use std::{env, fs, io};
 

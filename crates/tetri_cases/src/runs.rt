@@ -1,11 +1,10 @@
 // Runs over memory: what they write, and what is said of them.
 ghost use Rattle.std.specs.Prelude.{◌<◌};
 
-use crate::table::Given;
 use std::alloc::{AllocError, Global};
 use tetri_io::{MemShelf, MemSink};
 use tetri_run::{Status, Why, conclude, run, say};
-use tetri_tables::{Tally, edited, halves};
+use tetri_tables::{Given, Tally, edited, halves};
 use tetri_trace::{Field, TraceWhy};
 
 // How a run is served: the bytes of a read and of a write at most, the bytes that there is room for, and the reads and writes
@@ -69,8 +68,8 @@ fn words_of(alloc: Global, line: &str) -> Result<Vec<String>, AllocError> {
     Ok(words)
 }
 
-/// The line that is said of a status, without its line feed.
-pub fn said_of(alloc: Global, status: &Status) -> Result<String, AllocError> {
+// The line that is said of a status, without its line feed.
+fn said_of(alloc: Global, status: &Status) -> Result<String, AllocError> {
     let mut sink = MemSink::new(alloc, 7, 1000, &[])?;
     match say(alloc, status, &mut sink) {
         Ok(()) => {

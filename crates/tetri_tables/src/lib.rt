@@ -3,10 +3,18 @@
 
 mod edits;
 mod escapes;
+mod faults;
+mod grants;
+mod readings;
+mod sections;
 mod tallies;
 mod trees;
 
 pub use edits::{edited, replaced};
 pub use escapes::{expand, expand_text};
+pub use faults::worded;
+pub use grants::{grants_in, grants_told, nodes_told};
+pub use readings::answer;
+pub use sections::{Given, sections_of};
 pub use tallies::{Tally, halves};
 pub use trees::tell_expr;

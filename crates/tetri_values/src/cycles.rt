@@ -9,9 +9,7 @@ ghost use Rattle.tetri_state.specs.Reached.{IsReached};
 ghost use Rattle.tetri_trace.specs.Scenario.{scenario};
 ghost use Rattle.tetri_trace.specs.Sound.{IsSound};
 
-use crate::grants::{grants_in, grants_told};
 use crate::instances;
-use crate::table::answer;
 use std::alloc::{AllocError, Global};
 use tetri_space::{Instance, lawful};
 use tetri_state::{
@@ -19,7 +17,7 @@ use tetri_state::{
     nodes_of_running_pieces_are_taken, running_pieces_run_on_unless_told,
 };
 use tetri_strl::{Allotment, waste};
-use tetri_tables::{Tally, halves};
+use tetri_tables::{Tally, answer, grants_in, grants_told, halves};
 use tetri_trace::Trace;
 
 // What is seen at the beginning of a cycle.

@@ -2,8 +2,6 @@
 ghost use Rattle.tetri_strl.specs.Tree.{tree};
 ghost use Rattle.tetri_strl.specs.WellMade.{IsWellMade};
 
-use crate::grants::{grants_in, grants_told};
-use crate::table::answer;
 use std::alloc::{AllocError, Global};
 use tetri_cluster::Sets;
 use tetri_parse::read_expr;
@@ -11,7 +9,7 @@ use tetri_strl::{
     Expr, aligned, copy_expr, copy_grants, idle_leaves, prune, thrifty_grants_start_together,
     top_in, trim, waste, waste_among, worth, worth_among,
 };
-use tetri_tables::{Tally, halves, tell_expr};
+use tetri_tables::{Tally, answer, grants_in, grants_told, halves, tell_expr};
 
 // The job whose grants count.
 const JOB: u32 = 1;

@@ -2,13 +2,13 @@
 ghost use Rattle.tetri_space.specs.Sound.{IsSound};
 ghost use Rattle.tetri_space.specs.Space.{space};
 
-use crate::grants::{grants_in, nodes_told};
 use crate::programs;
 use std::alloc::{AllocError, Global};
 use tetri_space::{
     Instance, Partitions, Unlawful, available, find_partitions, free, lawful, tops,
     tops_bound_every_lawful_total, total,
 };
+use tetri_tables::{grants_in, nodes_told, tell_expr};
 
 fn two_numbers(text: &str) -> (u32, u32) {
     let (first, second) = text.split_once(' ').unwrap_or((text, ""));
@@ -49,13 +49,25 @@ fn available_told(
     format!(in alloc; "{}", available(inst, &parts, part, slot))
 }
 
-/// What is told of an instance: `free NODE SLOT`, `tops`, `total GRANTS`, `lawful GRANTS`, `partitions` with how many jobs have
-/// live leaves, `available PARTITION SLOT`, or of its program.
+fn offer_told(alloc: Global, inst: &Instance, place: u32) -> Result<String, AllocError> {
+    match inst.jobs.get(place as usize) {
+        Some(offer) => {
+            let mut out = format!(in alloc; "{} ", offer.job)?;
+            tell_expr(&mut out, &offer.expr)?;
+            Ok(out)
+        }
+        None => String::from_str(alloc, "none"),
+    }
+}
+
+/// What is told of an instance: `offer PLACE` with its job, `free NODE SLOT`, `tops`, `total GRANTS`, `lawful GRANTS`,
+/// `partitions` with how many jobs have live leaves, `available PARTITION SLOT`, or of its program.
 pub fn told(alloc: Global, inst: &Instance, word: &str, rest: &str) -> Result<String, AllocError>
     requires { IsSound (space inst.now) }
 {
     let (first, second) = two_numbers(rest);
     match word {
+        "offer" => offer_told(alloc, inst, first),
         "free" => format!(in alloc; "{}", free(inst, first, second)),
         "tops" => {
             tops_bound_every_lawful_total(inst);

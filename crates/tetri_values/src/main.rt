@@ -6,7 +6,6 @@
 mod cycles;
 mod expressions;
 mod fractions;
-mod grants;
 mod instances;
 mod node_sets;
 mod programs;

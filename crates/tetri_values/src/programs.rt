@@ -3,7 +3,6 @@ ghost use Rattle.tetri_ip.specs.Points.{IsFit, IsInBox, bounds_of};
 ghost use Rattle.tetri_space.specs.Sound.{IsSound};
 ghost use Rattle.tetri_space.specs.Space.{space};
 
-use crate::grants::grants_told;
 use std::alloc::{AllocError, Global};
 use tetri_assign::assign;
 use tetri_base::Items;
@@ -13,6 +12,7 @@ use tetri_ip::{Program, Region, Weight, holds_point};
 use tetri_num::{Frac, Past};
 use tetri_simplex::{Full, Outcome, Sparse, dual_run, run_on};
 use tetri_space::{Instance, Partitions, find_partitions};
+use tetri_tables::grants_told;
 
 fn weights_told(out: &mut String, weights: &[Weight]) -> Result<(), AllocError> {
     for weight in weights {

@@ -1,26 +1,15 @@
 // Traces that are read, and that are refused at their first faulty line.
-use crate::runs::said_of;
-use crate::table::Given;
 use std::alloc::{AllocError, Global};
-use tetri_io::MemShelf;
-use tetri_run::Status;
-use tetri_tables::{Tally, expand, halves, replaced, tell_expr};
-use tetri_trace::{Trace, TraceFault, Work, job_of, read_trace};
-
-/// What reading a content answers.
-pub fn answer(alloc: Global, content: &[u8]) -> Result<Result<Trace, TraceFault>, AllocError> {
-    let mut shelf = MemShelf::new(alloc, 4000, &[])?;
-    shelf.put("trace", content)?;
-    Ok(read_trace(alloc, &mut shelf, "trace"))
-}
+use tetri_tables::{Given, Tally, answer, expand, halves, replaced, tell_expr, worded};
+use tetri_trace::{Trace, TraceFault, Work, job_of};
 
 // The words of a fault: its line and its cause.
 fn fault_told(alloc: Global, fault: TraceFault) -> Result<String, AllocError> {
     match fault {
         TraceFault::Bad { line, why } => {
-            let said = said_of(alloc, &Status::BadTrace { line, why })?;
-            let words = said.as_str().strip_prefix("bad trace: line ").unwrap_or("");
-            String::from_str(alloc, words)
+            let why = format!(in alloc; "{why:?}")?;
+            let words = worded(alloc, why.as_str())?;
+            format!(in alloc; "{line}: {words}")
         }
         _ => format!(in alloc; "{fault:?}"),
     }
@@ -120,6 +109,7 @@ fn tell_jobs(out: &mut String, trace: &Trace) -> Result<(), AllocError> {
         write!(out, "\njob {name} at {} late {} ", job.arrival, job.late)?;
         match &job.work {
             Work::Strl(e) => tell_expr(out, e)?,
+            Work::Asked(ask) => write!(out, "{ask:?}")?,
         }
     }
     for event in &trace.events {

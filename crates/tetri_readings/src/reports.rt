@@ -1,13 +1,11 @@
 // Reports that are read line by line.
 ghost use Rattle.std.specs.Prelude.{◌≤◌, ◌+◌};
 
-use crate::table::Given;
-use crate::traces::answer;
 use std::alloc::{AllocError, Global};
 use tetri_cert::{Certificate, print_onto};
 use tetri_report::{Blocks, Cycle, ReportFault};
 use tetri_state::PieceId;
-use tetri_tables::{Tally, halves, replaced};
+use tetri_tables::{Given, Tally, answer, halves, replaced};
 use tetri_trace::Trace;
 
 fn add_pieces(out: &mut String, word: &str, pieces: &[PieceId]) -> Result<(), AllocError> {

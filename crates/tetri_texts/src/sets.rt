@@ -1,11 +1,9 @@
 // Texts of sets.
-use crate::table::Given;
 use crate::texts::fault_told;
-use crate::traces::answer;
 use std::alloc::{AllocError, Global};
 use tetri_cluster::{Cluster, Sets};
 use tetri_parse::{read_expr, read_set};
-use tetri_tables::{Tally, expand, halves};
+use tetri_tables::{Given, Tally, answer, expand, halves};
 
 // The number and the nodes of what a text says.
 fn told(

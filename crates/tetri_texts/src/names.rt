@@ -1,9 +1,7 @@
 // Names, tables of names, and nodes.
-use crate::table::Given;
-use crate::traces::answer;
 use std::alloc::{AllocError, Global};
 use tetri_cluster::{Cluster, Name, NameFault, NameList, NameTable, NodeText, is_name};
-use tetri_tables::{Tally, expand, halves};
+use tetri_tables::{Given, Tally, answer, expand, halves};
 
 // Whether bytes are a name, and what is read of them.
 fn told(alloc: Global, bytes: &[u8]) -> Result<String, AllocError> {

@@ -1,24 +1,18 @@
 // Texts by their first faults, and expressions that are printed and read back.
 ghost use Rattle.std.specs.Prelude.{◌≤◌};
 
-use crate::runs::said_of;
-use crate::table::Given;
-use crate::traces::answer;
 use std::alloc::{AllocError, Global};
 use tetri_cluster::{Cluster, Sets};
 use tetri_parse::{ParseFault, print_expr, read_expr};
-use tetri_run::Status;
-use tetri_tables::{Tally, expand, halves, tell_expr};
-use tetri_trace::TraceWhy;
+use tetri_tables::{Given, Tally, answer, expand, halves, tell_expr, worded};
 
 /// The words of a fault: how many bytes stand before it, and its cause.
 pub fn fault_told(alloc: Global, fault: ParseFault) -> Result<String, AllocError> {
     match fault {
         ParseFault::At { offset, fault } => {
-            let why = TraceWhy::BadStrl { offset, fault };
-            let said = said_of(alloc, &Status::BadTrace { line: 1, why })?;
-            let words = said.as_str().split_once("bad-strl ").unwrap_or(("", ""));
-            String::from_str(alloc, words.1)
+            let fault = format!(in alloc; "{fault:?}")?;
+            let words = worded(alloc, fault.as_str())?;
+            format!(in alloc; "{offset} {words}")
         }
         ParseFault::NoMemory => String::from_str(alloc, "no memory"),
     }

@@ -1,0 +1,22 @@
+//! Tries the cases of the tables that its arguments name, on texts of expressions and sets, lines, marks, names and numbers, and
+//! prints what differs and how many cases there were. The README lists the kinds of sections.
+#![tactic(auto)]
+
+mod certificates;
+mod contents;
+mod names;
+mod sets;
+mod table;
+mod texts;
+
+use std::{env, fs, io};
+
+fn main(rt: HostRuntime) -> io::Result<()> {
+    for name in env::args(&rt)?.skip(1) {
+        let text = fs::read_to_string(&rt, name.as_str())?;
+        let tally = table::judge(rt.alloc(), text.as_str())?;
+        print!(rt; "{}", tally.differences)?;
+        println!(rt; "{name}: {} cases", tally.cases)?;
+    }
+    Ok(())
+}
