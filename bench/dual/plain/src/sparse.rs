@@ -67,7 +67,6 @@ fn sum<const SHORT: bool>(x: Frac, y: Frac) -> Option<Frac> {
 // x + a * y for each place, into `merged`.
 fn merge<const SHORT: bool>(a: Frac, xs: &[Entry], ys: &[Entry], merged: &mut Vec<Entry>) -> Option<()> {
     merged.clear();
-    merged.reserve(xs.len() + ys.len());
     let (mut x, mut y) = (0, 0);
     while x < xs.len() && y < ys.len() {
         let (left, right) = (xs[x], ys[y]);
