@@ -10,3 +10,5 @@ pub mod Written
 pub mod TextTree
 pub mod Printing
 pub mod Faults
+pub mod Ascending
+pub mod Words

@@ -1,4 +1,7 @@
 // Why a text is not read.
+ghost use Rattle.std.specs.Prelude.{◌≡◌};
+ghost use Rattle.tetri_parse.specs.Words.{fault_words};
+
 use std::alloc::{AllocError, AllocFailed};
 
 /// What is wrong with a text. Where several stand at one place, the first of this list is answered.
@@ -26,6 +29,27 @@ pub enum Fault {
     TooRich,
     /// The set is new, and 4,096 are there.
     TooManySets,
+}
+
+impl Fault {
+    /// The fault in words.
+    pub fn words(self) -> &'static str
+        ensures { result.now ≡ fault_words self }
+    {
+        match self {
+            Fault::Unexpected => "unexpected",
+            Fault::Ended => "ended",
+            Fault::Trailing => "trailing",
+            Fault::NumberRange => "number-range",
+            Fault::UnknownSet => "unknown-set",
+            Fault::Uneven => "uneven",
+            Fault::Mixed => "mixed",
+            Fault::TooDeep => "too-deep",
+            Fault::TooManyLeaves => "too-many-leaves",
+            Fault::TooRich => "too-rich",
+            Fault::TooManySets => "too-many-sets",
+        }
+    }
 }
 
 /// Why a text is not read.

@@ -1,4 +1,5 @@
-// A law of the definitions.
+// Laws of the definitions.
+ghost use Rattle.tetri_parse.specs.Ascending.{FaultsAscend};
 ghost use Rattle.tetri_parse.specs.Faults.{MeetsFirst};
 
 use tetri_cluster::{Cluster, Sets};
@@ -16,6 +17,17 @@ pub fn reading_meets_the_first_fault(
 {
     let _ = text;
     let _ = (unit, arrival);
+    let _ = cluster;
+    let _ = sets;
+}
+
+/// Where the grammar is kept, the faults of sets, values, starts and peaks stand in the order of the text:
+/// their offsets ascend, and at one offset their numbers.
+pub fn faults_ascend(text: &[u8], unit: u64, cluster: &Cluster, sets: &Sets)
+    ensures { FaultsAscend text.entry.now unit cluster.entry.now sets.entry.now }
+{
+    let _ = text;
+    let _ = unit;
     let _ = cluster;
     let _ = sets;
 }

@@ -16,6 +16,6 @@ mod syntax;
 mod token;
 
 pub use fault::{Fault, ParseFault};
-pub use laws::reading_meets_the_first_fault;
+pub use laws::{faults_ascend, reading_meets_the_first_fault};
 pub use print::print_expr;
 pub use read::{read_expr, read_set};

@@ -4,6 +4,7 @@ ghost use Rattle.std.specs.List.{range_with_len};
 ghost use Rattle.tetri_strl.specs.Aligned.{EachLeaf};
 ghost use Rattle.tetri_strl.specs.Tree.{tree, numbers, leaves};
 ghost use Rattle.tetri_strl.specs.WellMade.{IsWellMade};
+ghost use Rattle.tetri_parse.specs.Ascending.{LeastFault};
 ghost use Rattle.tetri_parse.specs.Answers.{Gives, Answers, fault_in};
 ghost use Rattle.tetri_parse.specs.Expression.{expression, expression_left, node_set, node_set_left};
 ghost use Rattle.tetri_parse.specs.Faults.{first_fault, AnswersFault};
@@ -50,8 +51,9 @@ fn read_parts(
 
 /// The expression that a text says. Its values are multiplied by the unit, its slots are counted
 /// from the arrival on, its leaves are numbered from 0 in the order of the text, and its sets are
-/// numbered in `sets`, where new ones come last. `At` comes exactly with the first fault of the text;
-/// any refusal leaves the sets as they were.
+/// numbered in `sets`, where new ones come last. `At` comes exactly with the first fault of the text: of
+/// those behind the grammar that of least offset, at one offset that of least number. Any refusal leaves
+/// the sets as they were.
 pub fn read_expr(
     alloc: Global,
     text: &[u8],
@@ -64,6 +66,7 @@ pub fn read_expr(
     requires arrival { arrival ≤ 10000 }
     ensures value { Answers (λ e. (tree e, sets.new)) result (expression text.entry.now unit arrival cluster.entry.now sets.old) }
     ensures first { AnswersFault text.entry.now (first_fault text.entry.now unit cluster.entry.now sets.old) result }
+    ensures least { LeastFault text.entry.now unit cluster.entry.now sets.old result }
     ensures refused { OnErr result (sets.new ≡ sets.old) }
     ensures kept { take (length sets.old) sets.new ≡ sets.old }
     ensures well_made { IfOk result (λ e. IsWellMade (tree e)) }
