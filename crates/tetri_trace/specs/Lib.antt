@@ -8,3 +8,4 @@ pub mod Objects
 pub mod Notices
 pub mod Lines
 pub mod Draft
+pub mod Words

@@ -14,6 +14,7 @@ mod jobs;
 mod lines;
 mod read;
 mod trace;
+mod words;
 
 pub use fault::{Field, TraceFault, TraceWhy};
 pub use find::job_of;
