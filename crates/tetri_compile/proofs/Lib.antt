@@ -14,6 +14,7 @@ pub mod FormSizes
 pub mod GainLaws
 pub mod GainLemmas
 pub mod GrantLemmas
+pub mod HeldLemmas
 pub mod KidLemmas
 pub mod LawLemmas
 pub mod LawfulLemmas

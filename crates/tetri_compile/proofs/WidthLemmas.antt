@@ -25,7 +25,7 @@ use Rattle.tetri_compile.specs.declared.outline.Tally.{Tally}
 use Rattle.tetri_compile.specs.Draft.{leaf_tallies, is_held, supply_row, tallies, tallies_of, bid_uppers, bid_rows, bid_tallies, part_supply, supply}
 use Rattle.tetri_compile.specs.Flat.{column_count, row_count}
 use Rattle.tetri_compile.specs.Forms.{Limit, limit, share, run}
-use Rattle.tetri_compile.specs.Sizes.{width_by, widths_by, widths_marked, row_total, row_totals, row_totals_under, covers, leaves_in, is_used, IsUsable, HasUsableParts}
+use Rattle.tetri_compile.specs.Sizes.{width_by, widths_by, widths_marked, row_total, row_totals, row_totals_under, covers, leaves_in, is_used, IsUsable, HasUsableParts, StartsInWindow}
 use Rattle.tetri_compile.specs.Usable.{usable_by}
 use Rattle.tetri_compile.specs.Walked.{IsReady}
 use Rattle.tetri_compile.specs.Walk.{ones, own_uppers, uppers, uppers_of, width, form, rows, rows_of, rows_under}
@@ -309,15 +309,34 @@ module _ (s : Space) (sound : IsSoundSpace s) (p : Parts) (are : ArePartitionsOf
   each_bid : (P : Leaf → Type 0) → ((b : Bid) (l : Leaf) → Contains (live_bids s) b → Contains (leaves b.expr) l → P l) → Each (λ b. EachLeaf P b.expr) (live_bids s)
   each_bid P f = Each-from (λ b. EachLeaf P b.expr) (live_bids s) (λ b at. EachLeaf-from P b.expr (λ l below. f b l at below))
 
-  pub usable : length p.inside ≤ 4096 → HasUsableParts p
+  live : (l : Leaf) → starts_in s.now (s.now + s.window) l ≡ true → IsLive s l
+  live l e = let both = and_parts (nat_le s.now l.start) (nat_lt l.start (s.now + s.window)) e in record { not_early = low s.now l.start both.0; not_late = high l.start (s.now + s.window) both.1 }
+    where
+      low : (m n : ℕ) → nat_le m n ≡ true → m ≤ n
+      low m n e = grind (arith, nat_tests)
+
+      high : (m n : ℕ) → nat_lt m n ≡ true → m < n
+      high m n e = grind (arith, nat_tests)
+
+  live_leaf : (b : Bid) (l : Leaf) → Contains (live_bids s) b → Contains (leaves b.expr) l → IsLive s l
+  live_leaf b l at below = from_left (Each-at (IsLeftOf s.now (s.now + s.window) s.bids) (live_bids s) b (each_left_of s.now (s.now + s.window) s.bids) at)
+    where
+      from_left : IsLeftOf s.now (s.now + s.window) s.bids b → IsLive s l
+      from_left h =
+          let among = subst (OfLeft (λ u. AreFrom s.now (s.now + s.window) (leaves h.whole.expr) (leaves u))) h.left (left_leaves s.now (s.now + s.window) h.whole.expr) in
+          live l (among l below).1
+
+  in_window : (l : Leaf) → IsLive s l → IsGoodLeaf l → StartsInWindow s.now l
+  in_window l h good = record { not_early = h.not_early; not_late = omega (arith, h.not_late, sound.few_slots); some_slots = good.some_slots; few_slots = good.few_slots }
+
+  pub usable : length p.inside ≤ 4096 → HasUsableParts s.now p
   usable few = record {
     few = omega (arith, ap length are.groups, partitions_few s, sound.few_nodes);
     sets = subst (λ bs. All (λ l. IsUsable p 4096 l.set) (leaves_in bs)) (sym are.bids) (all_leaves (λ l. IsUsable p 4096 l.set) (live_bids s) (λ b l at below.
         let h = found b l at below in
         record { known = h.0; parts = λ k d lt. subst (λ ps. All (λ q. q < 4096) ps) (sym h.1) (within l.set) k d lt }));
-    small = subst (λ bs. All (λ l. l.set < 4096) (leaves_in bs)) (sym are.bids) (all_leaves (λ l. l.set < 4096) (live_bids s) (λ b l at below. omega (arith, (found b l at below).0, few)));
-    ends = subst (λ bs. All (λ l. l.start + l.dur < 2 ^ 32) (leaves_in bs)) (sym are.bids) (all_leaves (λ l. l.start + l.dur < 2 ^ 32) (live_bids s) (λ b l at below.
-        let good : IsGoodLeaf l = good_leaf b l at below in omega (arith, good.within, good.few_slots)));
+    leaves = subst (λ bs. All (λ l. (l.set < 4096) × StartsInWindow s.now l) (leaves_in bs)) (sym are.bids) (all_leaves (λ l. (l.set < 4096) × StartsInWindow s.now l) (live_bids s) (λ b l at below.
+        (omega (arith, (found b l at below).0, few), in_window l (live_leaf b l at below) (good_leaf b l at below))));
   }
     where
       within : (k : ℕ) → All (λ q. q < 4096) (inside k)
@@ -398,15 +417,6 @@ module _ (s : Space) (sound : IsSoundSpace s) (p : Parts) (are : ArePartitionsOf
   bids_ready = subst (Each (λ b. IsSound b.expr × EachLeaf (IsReady s p) b.expr)) (sym are.bids) (Each-from (λ b. IsSound b.expr × EachLeaf (IsReady s p) b.expr) (live_bids s) (λ b at.
       from_left b at (Each-at (IsLeftOf s.now (s.now + s.window) s.bids) (live_bids s) b (each_left_of s.now (s.now + s.window) s.bids) at)))
     where
-      live : (l : Leaf) → starts_in s.now (s.now + s.window) l ≡ true → IsLive s l
-      live l e = let both = and_parts (nat_le s.now l.start) (nat_lt l.start (s.now + s.window)) e in record { not_early = low s.now l.start both.0; not_late = high l.start (s.now + s.window) both.1 }
-        where
-          low : (m n : ℕ) → nat_le m n ≡ true → m ≤ n
-          low m n e = grind (arith, nat_tests)
-
-          high : (m n : ℕ) → nat_lt m n ≡ true → m < n
-          high m n e = grind (arith, nat_tests)
-
       from_left : (b : Bid) → Contains (live_bids s) b → IsLeftOf s.now (s.now + s.window) s.bids b → IsSound b.expr × EachLeaf (IsReady s p) b.expr
       from_left b at h =
           let whole = All-contains (IsSoundBid s) s.bids h.whole sound.sound_bids h.among in

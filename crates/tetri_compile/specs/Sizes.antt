@@ -5,6 +5,7 @@ use Rattle.tetri_strl.specs.declared.expr.Leaf.{Leaf}
 use Rattle.tetri_strl.specs.Tree.{greatest, least, added, Tree, one, join, scale, barrier, Trees, none, more, leaves}
 use Rattle.tetri_base.specs.Lists.{has}
 use Rattle.tetri_space.specs.Partitions.{Parts, parts_found}
+use Rattle.tetri_space.specs.Slots.{meets}
 use Rattle.tetri_space.specs.Space.{Bid}
 
 -- the columns of a walk, where `many` gives the number of partitions in a set
@@ -64,9 +65,19 @@ pub record IsUsable (p : Parts) (most k : ℕ) : Type 0 where
   pub known : k < length p.inside
   pub parts : All (λ q. q < most) (parts_found p k)
 
--- the partitions in the sets of the leaves are there
-pub record HasUsableParts (p : Parts) : Type 0 where
+-- a leaf that starts in a window of 64 slots
+pub record StartsInWindow (now : ℕ) (l : Leaf) : Type 0 where
+  pub not_early : now ≤ l.start
+  pub not_late : l.start < now + 64
+  pub some_slots : 1 ≤ l.dur
+  pub few_slots : l.dur ≤ 10000
+
+-- the bit of a slot at this place in the window is set
+abbrev pub has_slot : ℕ → ℕ → Bool
+has_slot slots place = meets slots (2 ^ place)
+
+-- the partitions in the sets of the leaves are there, and the leaves start in the window
+pub record HasUsableParts (now : ℕ) (p : Parts) : Type 0 where
   pub few : length p.groups ≤ 4096
   pub sets : All (λ l. IsUsable p 4096 l.set) (leaves_in p.bids)
-  pub small : All (λ l. l.set < 4096) (leaves_in p.bids)
-  pub ends : All (λ l. l.start + l.dur < 2 ^ 32) (leaves_in p.bids)
+  pub leaves : All (λ l. (l.set < 4096) × StartsInWindow now l) (leaves_in p.bids)

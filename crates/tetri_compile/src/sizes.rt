@@ -1,5 +1,5 @@
 // The size of the program of an instance.
-ghost use Rattle.std.specs.Prelude.{◌≡◌, ◌<◌, ◌≤◌, ◌+◌, ◌&&◌, ◌||◌, ◌==◌, ◌^◌, ℕ, All, true, false, length, slice_index_or};
+ghost use Rattle.std.specs.Prelude.{◌≡◌, ◌<◌, ◌≤◌, ◌+◌, ◌&&◌, ◌||◌, ◌==◌, ◌^◌, ℕ, All, true, length, slice_index_or};
 ghost use Rattle.std.specs.List.{list_any, range_with_len};
 ghost use Rattle.tetri_strl.specs.Aligned.{EachLeaf};
 ghost use Rattle.tetri_strl.specs.Tree.{leaves, tree};
@@ -8,17 +8,17 @@ ghost use Rattle.tetri_space.specs.Partitions.{ArePartitionsOf, parts_found, par
 ghost use Rattle.tetri_space.specs.Sound.{IsSound};
 ghost use Rattle.tetri_space.specs.Space.{space};
 ghost use Rattle.tetri_compile.specs.Flat.{column_count, row_count};
-ghost use Rattle.tetri_compile.specs.Sizes.{HasUsableParts, IsUsable, covers, is_used, leaves_in, row_total, width_by};
+ghost use Rattle.tetri_compile.specs.Sizes.{HasUsableParts, IsUsable, StartsInWindow, covers, has_slot, is_used, leaves_in, row_total, width_by};
 
-use tetri_space::{Instance, Partitions};
-use tetri_strl::{Expr, Leaf};
+use tetri_space::{Instance, Partitions, hold, slots_of};
+use tetri_strl::Expr;
 
 // How many nodes there are at most, and how many sets.
 const MOST: usize = 4096;
 
 /// The numbers of columns and of rows of the program of an instance. It makes nothing and takes no
-/// memory. Linear in the leaves for each slot of the window, in the partitions of each set, and in
-/// the partitions.
+/// memory. Linear in the leaves, in the partitions of each set, and in the partitions for each slot of
+/// the window.
 pub fn size(inst: &Instance, parts: &Partitions) -> (u64, u64)
     requires sound { IsSound (space inst.now) }
     requires partitions { ArePartitionsOf (space inst.now) (parts_of parts.now) }
@@ -90,103 +90,83 @@ fn rows_of(e: &Expr) -> u64
 // window in which some leaf uses nodes of it.
 fn supply_rows(inst: &Instance, parts: &Partitions) -> u64
     requires sound { IsSound (space inst.now) }
-    requires usable { HasUsableParts (parts_of parts.now) }
+    requires usable { HasUsableParts inst.now.now (parts_of parts.now) }
     ensures few { result ≤ 262144 }
     ensures value { result ≡ sum_of (λ t. count (λ p. is_used (parts_found (parts_of parts.now)) (leaves_in (parts_of parts.now).bids) p t)
         (range_with_len 0 (length (parts_of parts.now).groups))) (range_with_len inst.entry.now.now inst.entry.now.window) }
 {
+    let mut named = [0u64; MOST];
+    hold_leaves(parts, inst.now, &mut named);
+    let mut used = [0u64; MOST];
+    hold_parts(parts, &named, &mut used);
     let mut rows = 0;
-    for slot in inst.now..inst.now + inst.window {
-        rows += used_parts(parts, slot);
+    for place in 0..inst.window {
+        rows += held_in(&used[..parts.count() as usize], place);
     }
     rows
 }
 
-// How many partitions some leaf uses in a slot.
-fn used_parts(parts: &Partitions, slot: u32) -> u64
-    requires { HasUsableParts (parts_of parts.now) }
-    ensures { result ≡ count (λ p. is_used (parts_found (parts_of parts.now)) (leaves_in (parts_of parts.now).bids) p slot)
-        (range_with_len 0 (length (parts_of parts.now).groups)) }
-{
-    let mut named = [false; MOST];
-    mark_all_named(parts, slot, &mut named);
-    let mut used = [false; MOST];
-    mark_used(parts, &named, &mut used);
-    count_marked(&used[..parts.count() as usize])
-}
-
-// Marks the sets of the leaves that use their nodes in the slot.
-fn mark_all_named(parts: &Partitions, slot: u32, named: &mut [bool])
-    requires { All (λ l. (l.set < length named.old) × (l.start + l.dur < 2 ^ 32)) (leaves_in (parts_of parts.now).bids) }
-    ensures { (k : ℕ) → slice_index_or named.new k false
-        ≡ (slice_index_or named.old k false || list_any (λ l. covers l slot && l.set == k) (leaves_in (parts_of parts.now).bids)) }
+// Adds to the slots of each set those in which leaves over it use their nodes.
+fn hold_leaves(parts: &Partitions, now: u32, named: &mut [u64])
+    requires { All (λ l. (l.set < length named.old) × StartsInWindow now l) (leaves_in (parts_of parts.now).bids) }
+    ensures { (k i : ℕ) → i < 64 → has_slot (slice_index_or named.new k 0) i
+        ≡ (has_slot (slice_index_or named.old k 0) i || list_any (λ l. covers l (now + i) && l.set == k) (leaves_in (parts_of parts.now).bids)) }
 {
     for offer in parts.offers() {
-        mark_named(&offer.expr, slot, named);
+        hold_slots(&offer.expr, now, named);
     }
 }
 
-// Marks the partitions in the sets that are marked.
-fn mark_used(parts: &Partitions, named: &[bool], used: &mut [bool])
+// Adds to the slots of each partition those of the sets that it is in.
+fn hold_parts(parts: &Partitions, named: &[u64], used: &mut [u64])
     requires few { length named.now ≤ 4096 }
-    requires usable { (k : ℕ) → slice_index_or named.now k false ≡ true → IsUsable (parts_of parts.now) (length used.old) k }
-    ensures { (p : ℕ) → slice_index_or used.new p false ≡ (slice_index_or used.old p false
-        || list_any (λ k. slice_index_or named.now k false && has (parts_found (parts_of parts.now) k) p) (range_with_len 0 (length named.now))) }
+    requires usable { (k i : ℕ) → i < 64 → has_slot (slice_index_or named.now k 0) i ≡ true → IsUsable (parts_of parts.now) (length used.old) k }
+    ensures { (p i : ℕ) → p < length used.old → i < 64 → has_slot (slice_index_or used.new p 0) i ≡ (has_slot (slice_index_or used.old p 0) i
+        || list_any (λ k. has_slot (slice_index_or named.now k 0) i && has (parts_found (parts_of parts.now) k) p) (range_with_len 0 (length named.now))) }
 {
     for set in 0..named.len() {
-        if named[set] {
-            mark_parts(parts.parts_in(set as u32), used);
+        if named[set] > 0 {
+            hold(used, named[set], parts.parts_in(set as u32));
         }
     }
 }
 
-fn count_marked(marks: &[bool]) -> u64
-    ensures { result ≡ count (λ b. b) marks.now }
+// How many of these have the slot at this place in the window.
+fn held_in(slots: &[u64], place: u32) -> u64
+    requires { place < 64 }
+    ensures { result ≡ count (λ s. has_slot s place) slots.now }
 {
-    let mut marked = 0;
-    for mark in marks {
-        if *mark {
-            marked += 1;
+    let mut held = 0;
+    for slot in slots {
+        if has_slot(*slot, place) {
+            held += 1;
         }
     }
-    marked
+    held
 }
 
-// Whether the leaf uses its nodes in the slot.
-fn is_in(leaf: &Leaf, slot: u32) -> bool
-    requires { leaf.now.start + leaf.now.dur < 2 ^ 32 }
-    ensures { result ≡ covers leaf.now slot }
+fn has_slot(slots: u64, place: u32) -> bool
+    requires { place < 64 }
+    ensures { result ≡ has_slot slots place }
 {
-    leaf.start <= slot && slot < leaf.start + leaf.dur
+    slots & (1 << place) != 0
 }
 
-// Marks the sets of the leaves that use their nodes in the slot.
-fn mark_named(e: &Expr, slot: u32, named: &mut [bool])
-    requires { EachLeaf (λ l. (l.set < length named.old) × (l.start + l.dur < 2 ^ 32)) (tree e.now) }
-    ensures { (k : ℕ) → slice_index_or named.new k false
-        ≡ (slice_index_or named.old k false || list_any (λ l. covers l slot && l.set == k) (leaves (tree e.now))) }
+// Adds to the slots of each set those in which leaves over it use their nodes.
+fn hold_slots(e: &Expr, now: u32, named: &mut [u64])
+    requires { EachLeaf (λ l. (l.set < length named.old) × StartsInWindow now l) (tree e.now) }
+    ensures { (k i : ℕ) → i < 64 → has_slot (slice_index_or named.new k 0) i
+        ≡ (has_slot (slice_index_or named.old k 0) i || list_any (λ l. covers l (now + i) && l.set == k) (leaves (tree e.now))) }
 {
     match e {
         Expr::One(leaf) => {
-            if is_in(leaf, slot) {
-                named[leaf.set as usize] = true;
-            }
+            named[leaf.set as usize] |= slots_of(now, leaf);
         }
         Expr::Max(kids) | Expr::Min(kids) | Expr::Sum(kids) => {
             for kid in kids {
-                mark_named(kid, slot, named);
+                hold_slots(kid, now, named);
             }
         }
-        Expr::Scale(kid, _) | Expr::Barrier(kid, _) => mark_named(kid, slot, named),
-    }
-}
-
-// Marks these partitions.
-fn mark_parts(parts: &[u32], used: &mut [bool])
-    requires { All (λ p. p < length used.old) parts.now }
-    ensures { (p : ℕ) → slice_index_or used.new p false ≡ (slice_index_or used.old p false || has parts.now p) }
-{
-    for part in parts {
-        used[*part as usize] = true;
+        Expr::Scale(kid, _) | Expr::Barrier(kid, _) => hold_slots(kid, now, named),
     }
 }
