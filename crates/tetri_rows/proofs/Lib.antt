@@ -5,6 +5,7 @@ pub mod Meanings
 pub mod Pairs
 pub mod Solved
 pub mod TermRows
+pub mod Scaled
 pub mod RowSigns
 pub mod Ratios
 pub mod RowLaws

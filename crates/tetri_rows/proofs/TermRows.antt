@@ -3,16 +3,14 @@ use Rattle.std.proofs.Common.{◌≡◌, ℕ, ◌+◌, ◌<◌, ◌≤◌, refl,
 use Prim.Native.Nat.{zero, suc}
 use Rattle.std.specs.Prelude.{All}
 use Rattle.std.proofs.lemmas.Bool.{cases_lt}
-use Rattle.std.proofs.lemmas.Int.{ints}
 use Rattle.std.proofs.lemmas.List.{get_or-set_same, get_or-set_other, get_or_default}
 use lib.IntN.{ℤ, pos, ◌*ℤ◌}
 use Rattle.tetri_algebra.specs.Integers.{*ℤ-one}
 use Rattle.tetri_algebra.specs.RingSolver.{var, num, ring, ◌⊕◌, ◌⊗◌}
 use Rattle.tetri_algebra.specs.IntegerRing.{ℤ_ring}
-use Rattle.tetri_rows.specs.Small.{IsShort, IsDenominator}
-use Rattle.tetri_rows.specs.Rows.{meaning, put_in, combined, combined_at}
+use Rattle.tetri_rows.specs.Small.{IsShort}
+use Rattle.tetri_rows.specs.Rows.{combined, combined_at}
 use Rattle.tetri_rows.specs.Terms.{IsAscending, AreTerms, term_at}
-use Rattle.tetri_rows.proofs.Pairs.{row_meaning}
 
 -- whether a place is among the first m
 pub find : (at : ℕ → ℕ) (m p : ℕ) → ((q : ℕ) × (q < m) × (at q ≡ p)) ⊎ ((q : ℕ) → q < m → at q ≡ p → ⊥)
@@ -97,14 +95,3 @@ terms_short f xs zs P N done other l sx st k d m =
     (λ w. subst (λ p. IsShort (get_or zs p (pos 0))) w.2 (subst IsShort (sym (done w.0 w.1)) (st w.0 w.1)))
     (λ n. subst IsShort (sym (other k n)) (sx k (pos 0) (omega arith)))
     (find (λ q. get_or P q 0) (length P) k))
-
-pub one_denominator : IsDenominator (pos 1)
-one_denominator = record { positive = omega (arith, ints); short = omega arith }
-
-pub terms_meaning : (j : ℕ) (den f f' : ℤ) (xs ys zs : List ℤ) (P : List ℕ) (N : List ℤ) → IsDenominator den → f' ≡ f → f ≡ get_or xs j (pos 0) → j < length xs → length ys ≡ length xs → length zs ≡ length xs →
-    ((q : ℕ) → q < length P → get_or zs (get_or P q 0) (pos 0) ≡ term_at f' (set xs j (pos 0)) P N q) →
-    ((p : ℕ) → ((q : ℕ) → q < length P → get_or P q 0 ≡ p → ⊥) → get_or zs p (pos 0) ≡ get_or (set xs j (pos 0)) p (pos 0)) → AreTerms P N ys →
-    meaning den zs ≡ put_in j (meaning (pos 1) ys) (meaning den xs)
-terms_meaning j den f f' xs ys zs P N hd fe fx l ly lz done other t =
-    row_meaning j den (pos 1) f (pos 1) den (pos 1) f' (pos 1) xs ys zs hd one_denominator hd refl fe refl fx l ly lz refl
-    (λ q m. terms_combined f' (set xs j (pos 0)) ys zs P N done other t q (omega arith))

@@ -144,6 +144,9 @@ greatest_next D F xs ys k most new new' size size' r r' h p e ne se se' re re' =
     nonnegative : (n : ℕ) → pos 0 ≤ℤ pos n
     nonnegative n = omega (arith, ints)
 
+pub short_under : (z : ℤ) → IsShort z → unsigned_abs z < 2 ^ 63
+short_under z h = omega arith
+
 pub wide_of_word : (z : ℤ) → unsigned_abs z < 2 ^ 63 → to_z w128 (of_z w128 (to_z w64 (of_z w64 z))) ≡ z
 wide_of_word z h = ap (λ w. to_z w128 (of_z w128 w)) (word z h) ∙ wide_word z h
 

@@ -4,6 +4,7 @@
 
 mod laws;
 mod rows;
+mod scaling;
 mod terms;
 
 pub use laws::{small_entries, small_quotients};

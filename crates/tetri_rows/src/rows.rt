@@ -31,7 +31,7 @@ pub(crate) fn combined(d: i64, f: i64, x: i64, y: i64) -> i64
 }
 
 // The greatest size of the numbers of the new row and of another number.
-fn greatest(d: i64, f: i64, row: &[i64], pivot: &[i64], least: i64) -> i64
+pub(crate) fn greatest(d: i64, f: i64, row: &[i64], pivot: &[i64], least: i64) -> i64
     requires d { IsShort d }
     requires f { IsShort f }
     requires row { All IsShort row.now }
@@ -76,7 +76,7 @@ fn divisor(d: i64, f: i64, row: &[i64], pivot: &[i64], den: i64) -> i64
 
 // A number by a divisor of it.
 #[inline(always)]
-fn divided(n: i64, g: i64) -> i64
+pub(crate) fn divided(n: i64, g: i64) -> i64
     requires fits { unsigned_abs n < 2 ^ 63 }
     requires positive { pos 0 <ℤ g }
     requires divides { unsigned_abs g ∣ unsigned_abs n }
@@ -105,7 +105,7 @@ fn write(d: i64, f: i64, row: &mut [i64], pivot: &[i64], g: i64)
 
 // The product of two denominators.
 #[inline(always)]
-fn product(a: i64, b: i64) -> i64
+pub(crate) fn product(a: i64, b: i64) -> i64
     requires a { IsDenominator a }
     requires b { IsDenominator b }
     ensures value { result ≡ a *ℤ b }
@@ -117,7 +117,7 @@ fn product(a: i64, b: i64) -> i64
 
 // Whether a quotient is short.
 #[inline(always)]
-fn is_short(n: i64, g: i64) -> bool
+pub(crate) fn is_short(n: i64, g: i64) -> bool
     requires sign { pos 0 ≤ℤ n }
     requires positive { pos 0 <ℤ g }
     ensures { IsTrue result → unsigned_abs n < 2 ^ 31 * unsigned_abs g }
@@ -159,7 +159,7 @@ pub(crate) fn add_multiple(
 }
 
 // Divides a row's numbers by a common divisor.
-fn divide(row: &mut [i64], g: i64)
+pub(crate) fn divide(row: &mut [i64], g: i64)
     requires row { All IsShort row.old }
     requires positive { pos 0 <ℤ g }
     requires divides { (q : ℕ) → q < length row.old → unsigned_abs g ∣ unsigned_abs (get_or row.old q (pos 0)) }
@@ -262,7 +262,7 @@ pub fn short(x: Frac) -> Option<i64>
 
 // The product of two short numbers.
 #[inline(always)]
-fn times(a: i64, b: i64) -> i64
+pub(crate) fn times(a: i64, b: i64) -> i64
     requires a { IsShort a }
     requires b { IsShort b }
     ensures value { result ≡ a *ℤ b }

@@ -1,13 +1,15 @@
-//! A row of whole numbers in which a whole pivot's row is put in: only the places at which the
-//! pivot's row is not 0 are visited.
+//! A row of whole numbers in which a pivot's row is put in. Only the places at which the pivot's row is
+//! not 0 are visited, and all where the row is brought over a multiple of its denominator.
 
-ghost use Rattle.std.specs.Prelude.{◌≡◌, ◌+◌, ◌<◌, ◌^◌, ℕ, List, length, get_or, All, pos, unsigned_abs, IsTrue, IfOk, IfSome, MatchOption, true, false};
+ghost use Rattle.std.specs.Prelude.{◌≡◌, ◌*ℤ◌, ◌+◌, ◌<◌, ◌^◌, ℕ, List, length, get_or, All, pos, unsigned_abs, IsTrue, IfOk, IfSome, MatchOption, true, false};
 ghost use Rattle.tetri_rows.specs.Small.{IsShort, IsDenominator};
 ghost use Rattle.tetri_rows.specs.Rows.{meaning, put_in, combined};
 ghost use Rattle.tetri_rows.specs.Terms.{IsAscending, ArePlaces, AreTerms, term_at};
 ghost use lib.IntN.{ℤ};
+ghost use Prim.Native.Nat.{◌∣◌};
 
-use crate::rows::{SHORT, add_multiple, combined};
+use crate::rows::{SHORT, add_multiple, combined, divide, divided};
+use crate::scaling::{scale_for, scaled};
 use std::alloc::{AllocError, Global};
 
 // Whether the new numbers are short.
@@ -45,29 +47,67 @@ fn write_terms(f: i64, row: &mut [i64], places: &[usize], numbers: &[i64])
     }
 }
 
-// Puts a whole pivot's row, given as its places that are not 0 and the numbers there, in for the
-// variable at place j; the row's denominator stays. False where a new number is not
-// short, and the row is as it was.
-fn add_terms(row: &mut [i64], j: usize, places: &[usize], numbers: &[i64]) -> bool
+// Puts a pivot's row, given as its places that are not 0 and the numbers there, in for the variable
+// at place j, whose number is a multiple of the pivot's denominator; the row's denominator stays.
+// False where a new number is not short, and the row is as it was.
+fn add_terms(row: &mut [i64], j: usize, pivot_den: i64, places: &[usize], numbers: &[i64]) -> bool
     requires row { All IsShort row.old }
+    requires pivot_den { IsDenominator pivot_den }
     requires numbers { All IsShort numbers.now }
     requires wide { length numbers.now ≡ length places.now }
     requires places { ArePlaces places.now (length row.old) }
     requires ascending { IsAscending places.now }
     requires place { j < length row.old }
+    requires whole { unsigned_abs pivot_den ∣ unsigned_abs (get_or row.old j (pos 0)) }
     ensures formed { IsTrue result → (pivot : List ℤ) → AreTerms places.now numbers.now pivot → length pivot ≡ length row.old → (den : ℤ) → IsDenominator den →
-        meaning den row.new ≡ put_in j (meaning (pos 1) pivot) (meaning den row.old) }
+        meaning den row.new ≡ put_in j (meaning pivot_den pivot) (meaning den row.old) }
     ensures unchanged { result ≡ false → row.new ≡ row.old }
     ensures row { All IsShort row.new }
 {
     let f = row[j];
+    let by = divided(f, pivot_den);
     row[j] = 0;
-    if !fits(f, row, places, numbers) {
+    if !fits(by, row, places, numbers) {
         row[j] = f;
         return false;
     }
-    write_terms(f, row, places, numbers);
+    write_terms(by, row, places, numbers);
     true
+}
+
+// The same in a row that is brought over its denominator times `scale` before, which makes the
+// number at place j a multiple of the pivot's denominator. Answers the denominator of the new row.
+fn add_scaled(
+    den: i64,
+    row: &mut [i64],
+    j: usize,
+    scale: i64,
+    pivot_den: i64,
+    terms: &Terms,
+) -> Option<i64>
+    requires den { IsDenominator den }
+    requires row { All IsShort row.old }
+    requires scale { IsDenominator scale }
+    requires pivot_den { IsDenominator pivot_den }
+    requires numbers { All IsShort terms.now.numbers.items }
+    requires wide { length terms.now.numbers.items ≡ length terms.now.places.items }
+    requires places { ArePlaces terms.now.places.items (length row.old) }
+    requires ascending { IsAscending terms.now.places.items }
+    requires place { j < length row.old }
+    requires whole { unsigned_abs pivot_den ∣ unsigned_abs (get_or row.old j (pos 0) *ℤ scale) }
+    ensures formed { MatchOption result (row.new ≡ row.old) (λ new. (pivot : List ℤ) → AreTerms terms.now.places.items terms.now.numbers.items pivot → length pivot ≡ length row.old →
+        meaning new row.new ≡ put_in j (meaning pivot_den pivot) (meaning den row.old)) }
+    ensures den { IfSome result (λ new. IsDenominator new) }
+    ensures row { All IsShort row.new }
+{
+    let Some(wider) = scaled(den, row, scale) else {
+        return None;
+    };
+    if add_terms(row, j, pivot_den, &terms.places, &terms.numbers) {
+        return Some(wider);
+    }
+    divide(row, scale);
+    None
 }
 
 /// The places at which a row is not 0, ascending, and the numbers there.
@@ -105,8 +145,8 @@ impl Terms {
 
 /// Puts a pivot's row, with these terms, in for the variable at place j. The row has the denominator
 /// `den`, the pivot's row `pivot_den`. Answers the denominator of the new row, or None where a
-/// number of it is not short, and the row is as it was. Where the pivot's row is whole, its terms
-/// alone are visited.
+/// number of it is not short, and the row is as it was. Where the new numbers are short over the least
+/// denominator that serves, the terms alone are visited, and the row is not brought to lowest terms.
 pub fn put_in(
     den: i64,
     row: &mut [i64],
@@ -126,12 +166,9 @@ pub fn put_in(
     ensures den { IfSome result (λ new. IsDenominator new) }
     ensures row { All IsShort row.new }
 {
-    if pivot_den != 1 {
-        return add_multiple(den, row, j, pivot_den, pivot);
-    }
-    if add_terms(row, j, &terms.places, &terms.numbers) {
-        Some(den)
-    } else {
-        None
+    let scale = scale_for(row[j], pivot_den);
+    match add_scaled(den, row, j, scale, pivot_den, terms) {
+        Some(new) => Some(new),
+        None => add_multiple(den, row, j, pivot_den, pivot),
     }
 }

@@ -1,18 +1,18 @@
 -- Sums and products in which nothing is divided.
-use Rattle.std.proofs.Common.{◌≡◌, ℕ, ◌/◌, ◌<◌, refl, sym, ap, ◌∙◌, subst, arith, lit<, [], ◌∷◌, Some}
+use Rattle.std.proofs.Common.{◌≡◌, ◌<◌, refl, sym, ap, ◌∙◌, arith, lit<, [], ◌∷◌, Some}
 use Rattle.std.specs.Prelude.{unsigned_abs, int_div, ◌<ℤ◌}
 use Rattle.std.proofs.Math.Nat.{div_self}
 use Rattle.std.proofs.lemmas.Int.{ints}
 use lib.IntN.{ℤ, pos, negsuc, neg_ℤ, ◌+ℤ◌, ◌*ℤ◌}
 use Rattle.tetri_algebra.specs.Gcd.{gcd_of}
 use Rattle.tetri_algebra.specs.Coprime.{gcd_of-one, gcd_of-zero, gcd_of_comm, gcd_of_self}
-use Rattle.tetri_algebra.specs.Integers.{*ℤ-one, one-*ℤ, abs_of_positive}
+use Rattle.tetri_algebra.specs.Integers.{*ℤ-one, one-*ℤ}
 use Rattle.tetri_algebra.specs.Rational.{ℚ}
 use Rattle.tetri_algebra.specs.RationalRing.{ℚ_ring, ◌+ℚ◌, ◌*ℚ◌, neg_ℚ, zero_ℚ, one_ℚ, num-whole_ℚ, den-whole_ℚ, num-neg_ℚ, den-neg_ℚ}
 use Rattle.tetri_algebra.specs.RingSolver.{var, unit, nil, minus, ring, ◌⊕◌, ◌⊗◌}
 use Rattle.tetri_num.specs.declared.fractions.Frac.{Frac}
 use Rattle.tetri_num.specs.Checked.{IsRepresentable, checked_product, checked_sum}
-use Rattle.tetri_num.specs.Forms.{common, product_den, product_num, product_numbers, sum_den, sum_left, sum_numbers, sum_right, sum_total}
+use Rattle.tetri_num.specs.Forms.{common, product_den, product_num, product_numbers, sum_den, sum_numbers, sum_total}
 use Rattle.tetri_num.specs.Frac.{value}
 use Rattle.tetri_num.specs.Range.{AreWithin, IsWithin}
 use Rattle.tetri_num.proofs.Checks.{value_within_some}

@@ -1,16 +1,18 @@
 //! The first dictionary of whole numbers, from the first sparse one.
 
-ghost use Rattle.std.specs.Prelude.{◌≡◌, ◌+◌, ◌<◌, ◌∷◌, ◌^◌, length, IfOk, IfSome, IsTrue, pos};
+ghost use Rattle.std.specs.Prelude.{◌≡◌, ℕ, ◌+◌, ◌<◌, ◌∷◌, ◌^◌, All, length, get_or, IfOk, IfSome, IsTrue, pos};
 ghost use Rattle.tetri_num.specs.Frac.{value};
 ghost use Rattle.tetri_ip.specs.Points.{IsFit, IsInBox, bounds_of};
+ghost use Rattle.tetri_algebra.specs.Rational.{fraction};
 ghost use Rattle.tetri_rows.specs.Rows.{meaning};
+ghost use Rattle.tetri_rows.specs.Small.{IsShort};
 ghost use Rattle.tetri_simplex.specs.Fractions.{values};
 ghost use Rattle.tetri_simplex.specs.Mixed.{mixed_row, mixed_rows, AreWholeNumbers, IsMixedRow, AreMixedRows};
-ghost use Rattle.tetri_simplex.specs.Sparse.{AreEntries, AreLines, line_of, lines_of};
+ghost use Rattle.tetri_simplex.specs.Sparse.{AreEntries, AreLines, line_of, lines_of, number_of};
 ghost use Rattle.tetri_simplex.specs.Start.{first_table};
 ghost use Rattle.tetri_simplex.specs.Whole.{table_of, IsWhole};
 
-use crate::lines::{Line, number_of};
+use crate::lines::{Entry, Line, number_of};
 use crate::mixed::MixedRow;
 use crate::start_lines::first_sparse;
 use crate::whole::Whole;
@@ -19,24 +21,43 @@ use tetri_ip::{Program, Region};
 use tetri_num::Frac;
 use tetri_rows::{Terms, short};
 
+// Writes the numbers of entries behind a constant, where all other coefficients are 0. False where a number is not
+// whole or not short.
+fn set_entries(columns: u32, numbers: &mut [i64], entries: &[Entry]) -> bool
+    requires entries { AreEntries columns entries.now }
+    requires wide { length numbers.old ≡ columns + 1 }
+    requires short { All IsShort numbers.old }
+    requires zeros { (q : ℕ) → q < columns → get_or numbers.old (q + 1) (pos 0) ≡ pos 0 }
+    ensures coefficients { IsTrue result → (q : ℕ) → q < columns → fraction (get_or numbers.new (q + 1) (pos 0)) 1 ≡ number_of entries.now q }
+    ensures constant { get_or numbers.new 0 (pos 0) ≡ get_or numbers.old 0 (pos 0) }
+    ensures short { All IsShort numbers.new }
+{
+    for k in 0..entries.len() {
+        let entry = entries[k];
+        let Some(number) = short(entry.number) else {
+            return false;
+        };
+        numbers[entry.place as usize + 1] = number;
+    }
+    true
+}
+
 // The numbers of a line, where all are whole and short.
 fn whole_numbers(alloc: Global, columns: u32, line: &Line) -> Result<Option<Vec<i64>>, AllocError>
     requires { AreEntries columns line.now.entries.items }
     ensures numbers { IfOk result (λ o. IfSome o (λ v. meaning (pos 1) v.items ≡ line_of columns line.now)) }
     ensures sound { IfOk result (λ o. IfSome o (λ v. AreWholeNumbers columns (pos 1) v.items)) }
 {
-    let mut numbers = Vec::new(alloc);
     let Some(constant) = short(line.constant) else {
         return Ok(None);
     };
-    numbers.push(constant)?;
-    for j in 0..columns {
-        let Some(number) = short(number_of(&line.entries, j)) else {
-            return Ok(None);
-        };
-        numbers.push(number)?;
+    let mut numbers = vec![in alloc; 0i64; columns as usize + 1]?;
+    numbers[0] = constant;
+    if set_entries(columns, &mut numbers, &line.entries) {
+        Ok(Some(numbers))
+    } else {
+        Ok(None)
     }
-    Ok(Some(numbers))
 }
 
 // The numbers of a line.

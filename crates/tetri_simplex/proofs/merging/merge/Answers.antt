@@ -1,4 +1,4 @@
-use Rattle.std.proofs.Common.{◌≡◌, ℕ, ◌+◌, ◌<◌, length, refl, sym, ap, subst, ◌∙◌, arith, Ok, Err}
+use Rattle.std.proofs.Common.{◌≡◌, ◌+◌, ◌<◌, length, refl, sym, ap, subst, ◌∙◌, arith, Ok, Err}
 use Rattle.tetri_algebra.specs.Rational.{ℚ}
 use Rattle.tetri_num.specs.Frac.{value}
 use Rattle.tetri_simplex.specs.Sparse.{place_at}
