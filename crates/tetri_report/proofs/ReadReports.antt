@@ -17,11 +17,11 @@ use Rattle.tetri_io.proofs.TextLemmas.{AllAvoid, lines_of_text, text_of}
 use Rattle.tetri_trace.specs.Scenario.{Scenario}
 use Rattle.tetri_trace.specs.Sound.{IsSound}
 use Rattle.tetri_report.specs.Block.{Block}
-use Rattle.tetri_report.specs.BlockLines.{block_lines, certificate_lines, granted, inner_lines, plan_of}
+use Rattle.tetri_report.specs.BlockLines.{block_lines, certificate_lines, granted, inner_lines, occurrences_in, plan_of}
 use Rattle.tetri_report.specs.BlockLines as read
 use Rattle.tetri_report.specs.Printable.{IsCertificateInRange, IsInRange, IsPrintable, IsPrintableCertificate, IsSummaryInRange}
 use Rattle.tetri_report.specs.Reading.{Reading, is_between, is_certified, onto_blocks, onto_report, opened, report_from, report_in, with_read}
-use Rattle.tetri_report.specs.Text.{after_comma, cycle_line, cycle_text, entry, grant_line, grant_lines, granted_line, happened_text, job_line, job_name, joined, leaf_line, name_line, piece_line, plan_line, summary_text}
+use Rattle.tetri_report.specs.Text.{after_comma, cycle_line, cycle_text, entry, events_text, grant_line, grant_lines, granted_line, happened_text, job_line, job_name, joined, launches_text, leaf_line, name_line, piece_line, plan_line, plan_text, summary_text}
 use Rattle.tetri_report.specs.declared.cycle.Summary.{Summary}
 use Rattle.tetri_report.specs.declared.line.ReportLine.{ReportLine}
 use Rattle.tetri_report.specs.declared.line.ReportLine.TheVariants as lines
@@ -125,7 +125,7 @@ module _ (t : Scenario) where
   grants_are (g ∷ gs) (s ∷ ss) =
       ap (λ l. l ++ grant_lines t gs ss) (grant_is g s) ∙ append_assoc (line_of t (lines.Grant g s)) (10 ∷ []) (grant_lines t gs ss) ∙ ap (λ l. line_of t (lines.Grant g s) ++ 10 ∷ l) (grants_are gs ss)
 
-  happened_is : (b : Block) → happened_text t b ≡ lines_text (map lines.End b.ended) ++ lines_text (map lines.Cancel b.cancelled) ++ lines_text (map lines.Fail b.failed) ++ lines_text (map lines.Over b.over) ++ lines_text (map lines.Expire b.expired)
+  happened_is : (b : Block) → happened_text t (occurrences_in b) ≡ lines_text (map lines.End b.ended) ++ lines_text (map lines.Cancel b.cancelled) ++ lines_text (map lines.Fail b.failed) ++ lines_text (map lines.Over b.over) ++ lines_text (map lines.Expire b.expired)
   unfolding happened_text
   happened_is b =
       let ended = flat_is (piece_line t (codes "end")) lines.End (λ p. leaf_is (codes "end") (job_name t p.job) p.leaf) b.ended in
@@ -140,14 +140,14 @@ module _ (t : Scenario) where
 
   -- the parts of a block's text, glued
   glued : (c h p g m l : List ℕ) (e1 e2 e3 e4 e5 : List ℕ) → h ≡ e1 ++ e2 ++ e3 ++ e4 ++ e5 →
-      c ++ h ++ p ++ g ++ m ++ l ≡ c ++ (e1 ++ (e2 ++ (e3 ++ (e4 ++ (e5 ++ (p ++ (g ++ (m ++ l))))))))
-  glued c h p g m l e1 e2 e3 e4 e5 is = ap (λ x. c ++ x ++ p ++ g ++ m ++ l) is ∙ simp append_assoc
+      (c ++ h) ++ (p ++ g ++ m) ++ l ≡ c ++ (e1 ++ (e2 ++ (e3 ++ (e4 ++ (e5 ++ (p ++ (g ++ (m ++ l))))))))
+  glued c h p g m l e1 e2 e3 e4 e5 is = ap (λ x. (c ++ x) ++ (p ++ g ++ m) ++ l) is ∙ simp append_assoc
 
   glue : (x y : List ℕ) (ls ms : List ReportLine) → x ≡ lines_text ls → y ≡ lines_text ms → x ++ y ≡ lines_text (ls ++ ms)
   glue x y ls ms p q = ap (λ l. l ++ y) p ∙ ap (λ l. lines_text ls ++ l) q ∙ sym (lines_text-append ls ms)
 
   cycle_text_is : (b : Block) → cycle_text t b ≡ lines_text (block_lines b)
-  unfolding cycle_text
+  unfolding cycle_text events_text plan_text launches_text
   cycle_text_is b =
       let launches = flat_is (job_line t (codes "launch")) lines.Launch (λ j. name_is (codes "launch") (job_name t j)) b.launched in
       let from_certificate = glue (certificate_text b.certificate) _ (certificate_lines b.certificate) _ (certificate_is b.certificate) launches in
@@ -158,7 +158,7 @@ module _ (t : Scenario) where
       let from_failed = glue (lines_text (map lines.Fail b.failed)) _ (map lines.Fail b.failed) _ refl from_over in
       let from_cancelled = glue (lines_text (map lines.Cancel b.cancelled)) _ (map lines.Cancel b.cancelled) _ refl from_failed in
       let from_ended = glue (lines_text (map lines.End b.ended)) _ (map lines.End b.ended) _ refl from_cancelled in
-      glued (cycle_line b.number) (happened_text t b) (plan_line b.value b.bound b.mark b.nodes) (grant_lines t b.grants b.starts) (certificate_text b.certificate) (flat_map (job_line t (codes "launch")) b.launched)
+      glued (cycle_line b.number) (happened_text t (occurrences_in b)) (plan_line b.value b.bound b.mark b.nodes) (grant_lines t b.grants b.starts) (certificate_text b.certificate) (flat_map (job_line t (codes "launch")) b.launched)
       (lines_text (map lines.End b.ended)) (lines_text (map lines.Cancel b.cancelled)) (lines_text (map lines.Fail b.failed)) (lines_text (map lines.Over b.over)) (lines_text (map lines.Expire b.expired)) (happened_is b)
       ∙ glue (cycle_line b.number) _ (lines.Cycle b.number ∷ []) _ (cycle_is b.number) from_ended
 

@@ -1,12 +1,15 @@
 -- The text of a report.
 use Rattle.std.specs.Prelude.{ℕ, List, [], ◌∷◌, ◌++◌, map, flat_map, slice_index_or, codes, decimal}
 use Rattle.tetri_strl.specs.declared.grants.Grant.{Grant}
+use Rattle.tetri_cert.specs.declared.certificate.Certificate.{Certificate}
 use Rattle.tetri_cert.specs.declared.plan_mark.PlanMark.{PlanMark}
 use Rattle.tetri_cert.specs.Text.{mark_text, certificate_text}
 use Rattle.tetri_cluster.specs.Cluster.{name_at}
+use Rattle.tetri_state.specs.Begin.{Occurrences}
 use Rattle.tetri_state.specs.declared.happened.PieceId.{PieceId}
 use Rattle.tetri_trace.specs.Scenario.{Scenario, job_names}
 use Rattle.tetri_report.specs.Block.{Block}
+use Rattle.tetri_report.specs.BlockLines.{occurrences_in}
 use Rattle.tetri_report.specs.declared.cycle.Summary.{Summary}
 
 unfoldable pub cycle_line : ℕ → List ℕ
@@ -55,16 +58,26 @@ module _ (s : Scenario) where
   grant_lines (g ∷ gs) (start ∷ starts) = grant_line g start ++ grant_lines gs starts
 
   -- the lines of what happened
-  unfoldable pub happened_text : Block → List ℕ
-  happened_text b =
-      flat_map (piece_line (codes "end")) b.ended ++ flat_map (job_line (codes "cancel")) b.cancelled
-      ++ flat_map (job_line (codes "fail")) b.failed ++ flat_map (piece_line (codes "over")) b.over ++ flat_map (job_line (codes "expire")) b.expired
+  unfoldable pub happened_text : Occurrences → List ℕ
+  happened_text o =
+      flat_map (piece_line (codes "end")) o.ended ++ flat_map (job_line (codes "cancel")) o.cancelled
+      ++ flat_map (job_line (codes "fail")) o.failed ++ flat_map (piece_line (codes "over")) o.over ++ flat_map (job_line (codes "expire")) o.expired
+
+  -- the first line of a cycle, and the lines of what happened at its beginning
+  unfoldable pub events_text : ℕ → Occurrences → List ℕ
+  events_text number o = cycle_line number ++ happened_text o
+
+  -- the lines of a plan: its numbers and its mark, its grants with their starts, and its certificate
+  unfoldable pub plan_text : ℕ → ℕ → PlanMark → ℕ → List Grant → List ℕ → Certificate → List ℕ
+  plan_text value bound mark nodes grants starts certificate = plan_line value bound mark nodes ++ grant_lines grants starts ++ certificate_text certificate
+
+  -- the lines of the jobs that are launched
+  unfoldable pub launches_text : List ℕ → List ℕ
+  launches_text jobs = flat_map (job_line (codes "launch")) jobs
 
   -- the lines of a cycle
   unfoldable pub cycle_text : Block → List ℕ
-  cycle_text b =
-      cycle_line b.number ++ happened_text b ++ plan_line b.value b.bound b.mark b.nodes ++ grant_lines b.grants b.starts
-      ++ certificate_text b.certificate ++ flat_map (job_line (codes "launch")) b.launched
+  cycle_text b = events_text b.number (occurrences_in b) ++ plan_text b.value b.bound b.mark b.nodes b.grants b.starts b.certificate ++ launches_text b.launched
 
 -- a key of the summary and its number
 unfoldable pub entry : List ℕ → ℕ → List ℕ

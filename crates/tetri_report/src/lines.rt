@@ -49,7 +49,8 @@ fn add_leaf_line(out: &mut String, word: &str, name: &str, leaf: u32) -> Result<
     write!(out, "{word} {name} {leaf}\n")
 }
 
-fn name_of(trace: &Trace, job: u32) -> &str
+/// The name of a job of the trace.
+pub fn name_of(trace: &Trace, job: u32) -> &str
     requires { job < length (scenario trace.now).submissions }
     ensures { result.now ≡ job_name (scenario trace.entry.now) job }
 {
