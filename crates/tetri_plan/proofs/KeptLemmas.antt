@@ -1,11 +1,14 @@
 -- What is kept of several allotments.
 use Rattle.std.proofs.Common.{◌≡◌, ℕ, suc, ◌+◌, ◌<◌, ◌≤◌, ◌∙◌, refl, sym, ap, arith, List, [], ◌∷◌, drop, get_or, length, map, cond, Bool, true, false, All}
 use Rattle.std.proofs.Math.Seq.{drop-cons}
-use Rattle.std.specs.Prelude.{nat_lt}
+use Rattle.std.specs.Prelude.{nat_lt, Option, Some, None}
 use Rattle.std.proofs.lemmas.Bool.{ltb-true, ltb-false}
 use Rattle.std.proofs.lemmas.List.Elements.{All-nil, All-weaker}
 use Rattle.tetri_base.specs.Lists.{Each, sum_of}
 use Rattle.tetri_base.proofs.OrderLaws.{sum_of-sum_by}
+use Rattle.tetri_cert.specs.declared.certificate.Certificate.{Certificate}
+use Rattle.tetri_cert.specs.declared.certificate.Certificate.TheVariants.{Tops, Tree}
+use Rattle.tetri_cert.specs.declared.marks.Cell.{Cell}
 use Rattle.tetri_strl.specs.declared.grants.Grant.{Grant}
 use Rattle.tetri_strl.specs.Thrifty.{IsThriftyFor}
 use Rattle.tetri_strl.proofs.ExprLaws.{apart_of_pairs, trimmed_thrifty}
@@ -15,9 +18,11 @@ use Rattle.tetri_space.specs.Sound.{IsSound, IsSoundBid}
 use Rattle.tetri_space.specs.Space.{Bid, Space}
 use Rattle.tetri_space.specs.Total.{bid_worth, total_in}
 use Rattle.tetri_space.specs.Trimmed.{IsThriftyForAll, all_trimmed}
-use Rattle.tetri_space.proofs.AllotmentLaws.{lawful_trimmed, thrifty_trimmed}
-use Rattle.tetri_space.proofs.SpanLemmas.{each_of}
-use Rattle.tetri_plan.specs.Chosen.{better, first_best, kept}
+use Rattle.tetri_space.proofs.AllotmentLaws.{lawful_trimmed, thrifty_trimmed, total_in_order, total_trimmed}
+use Rattle.tetri_space.proofs.SpanLemmas.{all_of, each_of}
+use Rattle.tetri_search.specs.Follow.{last_whole}
+use Rattle.tetri_claims.specs.Planned.{Planned}
+use Rattle.tetri_plan.specs.Chosen.{IsChosen, better, better_found, first_best, found_at, kept, searched}
 
 -- what an allotment needs to be planned
 pub record IsFair (s : Space) (a : List Grant) : Type 0 where
@@ -40,6 +45,15 @@ module _ (s : Space) where
   pub first_bounds : (a : List Grant) (bs : List (List Grant)) → total_in s a ≤ total_in s (first_best s a bs)
   first_bounds a [] = omega arith
   first_bounds a (b ∷ bs) = omega (arith, (better_bounds a b).0, first_bounds (better s a b) bs)
+
+  -- what a search leaves is worth no less than what was known before it
+  searched_bounds : (best : List Grant) (c : Certificate) → total_in s best ≤ total_in s (searched s best c)
+  searched_bounds best (Tops columns rows) = omega arith
+  searched_bounds best (Tree marks) = by_found (last_whole marks)
+    where
+      by_found : (o : Option (List Cell)) → total_in s best ≤ total_in s (better_found s best o)
+      by_found None = omega arith
+      by_found (Some cells) = (better_bounds best (found_at s cells)).0
 
   -- one more given allotment
   pub next_given : (best : List Grant) (given : List (List Grant)) (i : ℕ) (a t b : List Grant) → i < length given → a ≡ get_or given i a → t ≡ all_trimmed s a → b ≡ better s best t →
@@ -88,6 +102,24 @@ module _ (s : Space) where
     -- and is worth no less
     pub kept_bounds : (carry : List Grant) (given : List (List Grant)) → total_in s carry ≤ total_in s (kept s carry given)
     kept_bounds carry given = omega (arith, (better_bounds [] carry).1, first_bounds (better s [] carry) (map (all_trimmed s) given))
+
+    first_bounds_each : (a : List Grant) (given : List (List Grant)) → Each (λ g. total_in s g ≤ total_in s (first_best s a (map (all_trimmed s) given))) given
+    first_bounds_each a [] = tt
+    first_bounds_each a (g ∷ gs) =
+        let b = better s a (all_trimmed s g) in
+        (omega (arith, total_trimmed s sound g, (better_bounds a (all_trimmed s g)).1, first_bounds b (map (all_trimmed s) gs)), first_bounds_each b gs)
+
+    -- and no less than each given allotment
+    pub given_bounds : (carry : List Grant) (given : List (List Grant)) → All (λ g. total_in s g ≤ total_in s (kept s carry given)) given
+    given_bounds carry given = all_of (λ g. total_in s g ≤ total_in s (kept s carry given)) given (first_bounds_each (better s [] carry) given)
+
+    -- a chosen plan is worth no less than what was kept
+    pub chosen_bounds : (carry : List Grant) (given : List (List Grant)) (budget : ℕ) (p : Planned) → IsChosen s carry given budget p → total_in s p.grants ≡ p.value →
+        total_in s (kept s carry given) ≤ p.value
+    chosen_bounds carry given budget p chosen attained =
+        let best = searched s (kept s carry given) p.certificate in
+        let same : total_in s p.grants ≡ total_in s best = ap (total_in s) chosen.grants ∙ total_in_order s best in
+        omega (arith, same, attained, searched_bounds (kept s carry given) p.certificate)
 
     -- with nothing given it is worth as much
     pub carried_worth : (carry : List Grant) → total_in s (kept s carry []) ≡ total_in s carry

@@ -14,7 +14,7 @@ ghost use Rattle.tetri_space.specs.Partitions.{ArePartitionsOf, parts_of};
 ghost use Rattle.tetri_space.specs.Sound.{IsSound};
 ghost use Rattle.tetri_space.specs.Space.{space};
 ghost use Rattle.tetri_space.specs.Total.{total_in};
-ghost use Rattle.tetri_space.specs.Trimmed.{IsThriftyForAll};
+ghost use Rattle.tetri_space.specs.Trimmed.{IsThriftyForAll, all_trimmed};
 
 use std::alloc::{AllocError, Global};
 use tetri_assign::assign;
@@ -42,6 +42,8 @@ pub struct Plan {
     pub certificate: Certificate,
     /// What the best allotment was worth that was known before the search.
     pub low: u64,
+    /// For each advisor that sat as the panel was asked, in seating order, whether it was heard.
+    pub heard: Vec<bool>,
 }
 
 // An allotment, and what it is worth.
@@ -69,6 +71,17 @@ fn better(inst: &Instance, earlier: Candidate, later: Allotment) -> Candidate
     }
 }
 
+// What of an allotment earns something. It is the same where the grants are put by job first, and then one pass finds it.
+fn trim_given(alloc: Global, inst: &Instance, a: &Allotment) -> Result<Allotment, AllocError>
+    requires { IsSound (space inst.now) }
+    ensures { IfOk result (λ trimmed. trimmed ≡ all_trimmed (space inst.entry.now) a.now) }
+{
+    let mut grants = copy_grants(alloc, a)?.into_items();
+    grants.sort_by_key(|grant| grant.job)?;
+    let by_job = Allotment::of(grants);
+    trim_all(alloc, inst, &by_job)
+}
+
 // Of no grant, what is carried over and what of each given allotment earns something, the first that is worth most.
 fn kept(
     alloc: Global,
@@ -87,7 +100,7 @@ fn kept(
     let carried = copy_grants(alloc, carry)?;
     let mut best = better(inst, nothing, carried);
     for a in given {
-        let trimmed = trim_all(alloc, inst, a)?;
+        let trimmed = trim_given(alloc, inst, a)?;
         best = better(inst, best, trimmed);
     }
     Ok(best)
@@ -198,7 +211,7 @@ fn bound_on(
 /// The chosen plan of an instance. Of no grant, what is carried over and what of each given allotment earns something, the first
 /// that is worth most is kept. Where a job is pending and the program of the instance has at most 2,000 columns and rows, a search by
 /// branch and bound with this budget follows, and the nodes of its last whole point take the place of the kept ones where they are
-/// worth more. Its only error is want of memory.
+/// worth more. Nobody is heard. Its only error is want of memory.
 pub fn choose(
     alloc: Global,
     inst: &Instance,
@@ -214,6 +227,7 @@ pub fn choose(
     ensures chosen { IfOk result (λ p. IsChosen (space inst.entry.now) carry.entry.now given.entry.now budget (planned_of p)) }
     ensures low { IfOk result (λ p. p.low ≡ total_in (space inst.entry.now) (kept (space inst.entry.now) carry.entry.now given.entry.now)) }
     ensures at_least { IfOk result (λ p. p.low ≤ p.value) }
+    ensures heard { IfOk result (λ p. p.heard.items ≡ []) }
     ensures ordered { IfOk result (λ p. AllPairs ComesBefore p.grants) }
     ensures printable { IfOk result (λ p. IsPrintableTree p.certificate) }
     ensures tree { IfOk result (λ p. HasTree p.certificate ↔ MayHaveTree (space inst.entry.now)) }
@@ -238,30 +252,6 @@ pub fn choose(
         grants,
         certificate: found.certificate,
         low,
+        heard: Vec::new(alloc),
     })
-}
-
-/// The plan of a cycle: the chosen one with nothing given. Its only error is want of memory.
-pub fn plan_cycle(
-    alloc: Global,
-    inst: &Instance,
-    carry: &Allotment,
-    budget: u32,
-) -> Result<Plan, AllocError>
-    requires sound { IsSound (space inst.now) }
-    requires lawful { IsLawful (space inst.now) carry.now }
-    requires thrifty { IsThriftyForAll (space inst.now) carry.now }
-    ensures good { IfOk result (λ p. IsGood (space inst.entry.now) (total_in (space inst.entry.now) carry.entry.now) (planned_of p)) }
-    ensures chosen { IfOk result (λ p. IsChosen (space inst.entry.now) carry.entry.now [] budget (planned_of p)) }
-    ensures low { IfOk result (λ p. p.low ≡ total_in (space inst.entry.now) carry.entry.now) }
-    ensures ordered { IfOk result (λ p. AllPairs ComesBefore p.grants) }
-    ensures printable { IfOk result (λ p. IsPrintableTree p.certificate) }
-    ensures tree { IfOk result (λ p. HasTree p.certificate ↔ MayHaveTree (space inst.entry.now)) }
-    ensures no_rest { IfOk result (λ p. MayHaveTree (space inst.entry.now) → leaves_open p.certificate ≡ false → p.mark ≡ marks.Optimal) }
-    ensures spent { IfOk result (λ p. p.mark ≡ marks.Spent → (p.value < p.bound) × (leaves_open p.certificate ≡ true) × (p.nodes ≡ budget)) }
-    ensures wide { IfOk result (λ p. p.mark ≡ marks.Wide → (p.value < p.bound)
-        × ((2000 < column_count (space inst.entry.now)) ⊎ (2000 < row_count (space inst.entry.now)))) }
-    ensures enough { MayHaveTree (space inst.entry.now) → enough_in (space inst.entry.now) ≤ budget → IfOk result (λ p. p.mark ≡ marks.Optimal) }
-{
-    choose(alloc, inst, carry, &[], budget)
 }

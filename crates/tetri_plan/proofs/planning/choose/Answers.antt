@@ -1,4 +1,4 @@
-use Rattle.std.proofs.Common.{◌∙◌, List, ap, arith, subst, sym}
+use Rattle.std.proofs.Common.{◌∙◌, List, ap, arith, rules, subst, sym}
 use Rattle.tetri_strl.specs.declared.grants.Grant.{Grant}
 use Rattle.tetri_space.specs.Lawful.{IsLawful}
 use Rattle.tetri_space.specs.Space.{space}
@@ -34,6 +34,7 @@ returns c =
       chosen = holds.chosen;
       low = low_is;
       at_least = omega (arith, low_is, is.at_least);
+      heard = search rules;
       ordered = holds.ordered;
       printable = is.printable;
       tree = is.tree;
