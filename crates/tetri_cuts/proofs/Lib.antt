@@ -1,0 +1,15 @@
+pub mod Signed
+pub mod SumLemmas
+pub mod CutLaw
+pub mod CutSteps
+pub mod CutShape
+pub mod BreakLemmas
+pub mod FitSteps
+pub mod CopyLemmas
+pub mod ColumnLemmas
+pub mod PassLemmas
+pub mod RootLemmas
+pub mod OutcomeLemmas
+pub mod TightLemmas
+pub mod ChainLemmas
+pub mod RoundLemmas

@@ -1,0 +1,42 @@
+use Rattle.std.proofs.Common.{ℕ, ◌<◌, sym, ap, subst, ◌∙◌, arith, length, get_or, rules, List}
+use Rattle.std.proofs.lemmas.Int.{to_z-of_z}
+use mir.Val.{SFits}
+use mir.Syntax.{w128}
+use lib.IntN.{pos}
+use Rattle.tetri_ip.specs.declared.programs.Term.{Term}
+use Rattle.tetri_ip.specs.declared.programs.Weight.{Weight}
+use Rattle.tetri_ip.specs.Points.{coefficient, column_at}
+use Rattle.tetri_ip.proofs.Steps.{terms_of_at}
+use Rattle.tetri_cuts.specs.Cuts.{coefficients}
+use Rattle.tetri_cuts.proofs.SumLemmas.{sum_next, sum_none}
+use Rattle.tetri_cuts.proofs.sums.column_sum.Goals as goal
+
+pub coefficient_of-by-requires : goal.coefficient_of-by-requires
+coefficient_of-by-requires c =
+    let d : Weight = record { row = 0; by = pos 0 } in
+    let l : c.loop-w.w-index < length c.args.weights.now = omega arith in
+    let k : (get_or c.args.weights.now c.loop-w.w-index d).row < length c.args.p.now.rows.items = c.requires.rows c.loop-w.w-index d l in
+    let e = terms_of_at c.args.p.now.rows.items (get_or c.args.weights.now c.loop-w.w-index d).row c.index.result.now k c.index.ensures in
+    subst (λ (ts : List Term). (k m : ℕ) → k < m → m < length ts → column_at ts k < column_at ts m) e (c.requires.fit.rows (get_or c.args.weights.now c.loop-w.w-index d).row k).ascending
+
+pub loop-w-preserved : goal.loop-w-preserved
+loop-w-preserved c =
+    let d : Weight = record { row = 0; by = pos 0 } in
+    let l : c.loop-w.w-index < length c.args.weights.now = omega arith in
+    let k : (get_or c.args.weights.now c.loop-w.w-index d).row < length c.args.p.now.rows.items = c.requires.rows c.loop-w.w-index d l in
+    let f : SFits w128 (get_or c.args.weights.now c.loop-w.w-index d).by = search rules in
+    let h : SFits w128 c.coefficient_of-by.result = search rules in
+    sym (sum_next (coefficients c.args.p.now.rows.items c.args.column) c.args.weights.now c.loop-w.w-index d _ _ _ _ l (to_z-of_z _ _ f)
+    (to_z-of_z _ _ h ∙ c.coefficient_of-by.ensures ∙ ap (λ (ts : List Term). coefficient ts c.args.column) (sym (terms_of_at _ _ c.index.result.now k c.index.ensures)))
+    c.add_product.ensures c.in-Some.next _ c.in-Some.is (λ u. to_z-of_z _ _ u)) ∙ c.loop-w.invariant
+
+pub returns-in_default : goal.returns-in_default
+returns-in_default c =
+    let d : Weight = record { row = 0; by = pos 0 } in
+    let l : c.loop-w.w-index < length c.args.weights.now = omega arith in
+    let k : (get_or c.args.weights.now c.loop-w.w-index d).row < length c.args.p.now.rows.items = c.requires.rows c.loop-w.w-index d l in
+    let f : SFits w128 (get_or c.args.weights.now c.loop-w.w-index d).by = search rules in
+    let h : SFits w128 c.coefficient_of-by.result = search rules in
+    sum_none (coefficients c.args.p.now.rows.items c.args.column) c.args.weights.now c.loop-w.w-index d _ _ _ _ l (to_z-of_z _ _ f)
+    (to_z-of_z _ _ h ∙ c.coefficient_of-by.ensures ∙ ap (λ (ts : List Term). coefficient ts c.args.column) (sym (terms_of_at _ _ c.index.result.now k c.index.ensures)))
+    c.add_product.ensures c.in_default.is ∙ c.loop-w.invariant

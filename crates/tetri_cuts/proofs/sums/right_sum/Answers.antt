@@ -1,0 +1,28 @@
+use Rattle.std.proofs.Common.{◌<◌, sym, ◌∙◌, arith, length, get_or, rules}
+use Rattle.std.proofs.lemmas.Int.{to_z-of_z}
+use mir.Val.{SFits}
+use mir.Syntax.{w128}
+use lib.IntN.{pos}
+use Rattle.tetri_ip.specs.declared.programs.Weight.{Weight}
+use Rattle.tetri_ip.specs.Points.{right_of}
+use Rattle.tetri_ip.proofs.Steps.{right_of_at}
+use Rattle.tetri_cuts.proofs.SumLemmas.{sum_next, sum_none}
+use Rattle.tetri_cuts.proofs.sums.right_sum.Goals as goal
+
+pub loop-w-preserved : goal.loop-w-preserved
+loop-w-preserved c =
+    let d : Weight = record { row = 0; by = pos 0 } in
+    let l : c.loop-w.w-index < length c.args.weights.now = omega arith in
+    let k : (get_or c.args.weights.now c.loop-w.w-index d).row < length c.args.p.now.rows.items = c.requires c.loop-w.w-index d l in
+    let f : SFits w128 (get_or c.args.weights.now c.loop-w.w-index d).by = search rules in
+    let h : SFits w128 c.index.result.now.right = search rules in
+    sym (sum_next (right_of c.args.p.now.rows.items) c.args.weights.now c.loop-w.w-index d _ _ _ _ l (to_z-of_z _ _ f) (to_z-of_z _ _ h ∙ sym (right_of_at _ _ c.index.result.now k c.index.ensures)) c.add_product.ensures c.in-Some.next _ c.in-Some.is (λ u. to_z-of_z _ _ u)) ∙ c.loop-w.invariant
+
+pub returns-in_default : goal.returns-in_default
+returns-in_default c =
+    let d : Weight = record { row = 0; by = pos 0 } in
+    let l : c.loop-w.w-index < length c.args.weights.now = omega arith in
+    let k : (get_or c.args.weights.now c.loop-w.w-index d).row < length c.args.p.now.rows.items = c.requires c.loop-w.w-index d l in
+    let f : SFits w128 (get_or c.args.weights.now c.loop-w.w-index d).by = search rules in
+    let h : SFits w128 c.index.result.now.right = search rules in
+    sum_none (right_of c.args.p.now.rows.items) c.args.weights.now c.loop-w.w-index d _ _ _ _ l (to_z-of_z _ _ f) (to_z-of_z _ _ h ∙ sym (right_of_at _ _ c.index.result.now k c.index.ensures)) c.add_product.ensures c.in_default.is ∙ c.loop-w.invariant

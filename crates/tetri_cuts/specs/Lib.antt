@@ -1,0 +1,4 @@
+pub mod Cuts
+pub mod Sums
+pub mod Breaking
+pub mod Tightening
