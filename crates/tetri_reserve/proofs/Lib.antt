@@ -1,0 +1,4 @@
+pub mod WantedLemmas
+pub mod MeaningLemmas
+pub mod PlanLemmas
+pub mod BookLemmas
