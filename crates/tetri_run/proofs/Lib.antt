@@ -8,3 +8,4 @@ pub mod TopLemmas
 pub mod RefusalLemmas
 pub mod EndedLemmas
 pub mod OneRun
+pub mod AdvisedLemmas

@@ -1,96 +1,23 @@
 -- What is planned for an instance of a trace may be printed.
-use Rattle.std.proofs.Common.{◌≡◌, ℕ, ◌<◌, Bool, true, false, cond, List, [], ◌∷◌, length, map, All, Contains, refl, sym, ap, ◌∙◌, subst, arith}
-use Rattle.std.specs.Prelude.{filter, Option, Some, None}
-use Rattle.std.specs.Option.{IsSomeAnd}
+use Rattle.std.proofs.Common.{◌≡◌, ℕ, ◌<◌, List, [], ◌∷◌, length, All, sym, ap, ◌∙◌, subst}
 use Rattle.std.proofs.lemmas.List.{length-map}
-use Rattle.std.proofs.lemmas.List.Elements.{All-nil, All-cons, All-head, All-tail, All-append, All-weaker, All-contains}
-use Rattle.tetri_strl.specs.declared.expr.Leaf.{Leaf}
+use Rattle.std.proofs.lemmas.List.Elements.{All-nil, All-cons, All-head, All-tail}
 use Rattle.tetri_strl.specs.declared.grants.Grant.{Grant}
-use Rattle.tetri_strl.specs.Tree.{Tree, one, join, scale, barrier, Trees, none, more, leaves, leaves_of}
-use Rattle.tetri_strl.specs.WellMade.{IsGoodLeaf, AreSound}
-use Rattle.tetri_strl.specs.WellMade as well_made
-use Rattle.tetri_space.specs.Space.{Bid, Space, set_of, leaf_in}
-use Rattle.tetri_space.specs.Lawful.{MayBeGranted, IsLawfulGrant}
-use Rattle.tetri_space.specs.Sound.{HasKnownSet, IsSoundBid, IsSound}
-use Rattle.tetri_space.proofs.LeafLemmas.{leaf_in-within, IsOffered}
+use Rattle.tetri_space.specs.Space.{Space}
 use Rattle.tetri_state.specs.Known.{AreOfJobs}
 use Rattle.tetri_state.specs.Launch.{start_of, starts_now}
 use Rattle.tetri_trace.specs.Scenario.{Scenario}
 use Rattle.tetri_report.specs.Block.{Block}
-use Rattle.tetri_report.specs.Printable.{AreJobs, IsPrintable, IsPrintableCertificate, IsPrintableGrant, IsPrintableNode}
+use Rattle.tetri_report.specs.Printable.{AreJobs, IsPrintable, IsPrintableCertificate, IsPrintableNode}
 use Rattle.tetri_cert.specs.NodeText.{HasShortLists, IsPlain}
 use Rattle.tetri_cert.specs.declared.certificate.Certificate.{Certificate}
 use Rattle.tetri_cert.specs.declared.certificate.Certificate.TheVariants as certificates
 use Rattle.tetri_cert.specs.declared.marks.Mark.{Mark}
+use Rattle.tetri_parts.specs.Printing.{IsInstanceOf}
+use Rattle.tetri_parts.proofs.PrintLaws.{grants_printable, kept_within}
 use Rattle.tetri_plan.specs.Plans.{IsPrintableTree}
 use Rattle.tetri_report.specs.BlockLines.{occurrences_in}
 use Rattle.tetri_run.specs.Cycle.{IsPlanFor}
-
-mutual
-  -- the leaves of a sound expression are within their limits
-  pub leaves_good : (t : Tree) → well_made.IsSound t → All IsGoodLeaf (leaves t)
-  leaves_good (one l) h = All-cons IsGoodLeaf l [] h.0 (All-nil IsGoodLeaf)
-  leaves_good (join op ts) h = leaves_good_of ts h.1
-  leaves_good (scale t by) h = leaves_good t h.0
-  leaves_good (barrier t v) h = leaves_good t h.0
-
-  leaves_good_of : (ts : Trees) → AreSound ts → All IsGoodLeaf (leaves_of ts)
-  leaves_good_of none h = All-nil IsGoodLeaf
-  leaves_good_of (more t ts) h = All-append IsGoodLeaf (leaves t) (leaves_of ts) (leaves_good t h.0) (leaves_good_of ts h.1)
-
-there_is : {X : Type 0} (o : Option X) (P : X → Type 0) → IsSomeAnd o P → (x : X) × (o ≡ Some x) × P x
-there_is None P h = absurd h
-there_is (Some x) P h = (x, refl, h)
-
--- The leaf that a lawful grant names is a pending job's, and keeps its limits.
-pub record IsOfGoodLeaf (s : Space) (g : Grant) (b : Bid) (l : Leaf) : Type 0 where
-  pub offered : IsOffered s.bids g.job g.leaf b l
-  pub good : IsGoodLeaf l
-  pub set_known : HasKnownSet s l
-  pub may : MayBeGranted s l g.nodes
-
-pub leaf_of_grant : (s : Space) → IsSound s → (g : Grant) → IsLawfulGrant s g → (b : Bid) × (l : Leaf) × IsOfGoodLeaf s g b l
-leaf_of_grant s sound g lawful =
-    let found = there_is (leaf_in s.bids g.job g.leaf) (λ l. MayBeGranted s l g.nodes) lawful in
-    let offer = leaf_in-within s.bids g.job g.leaf found.0 found.1 in
-    let bid : IsSoundBid s offer.0 = All-contains (IsSoundBid s) s.bids offer.0 sound.sound_bids offer.1.pending in (
-      offer.0,
-      found.0,
-      record {
-        offered = offer.1;
-        good = All-contains IsGoodLeaf (leaves offer.0.expr) found.0 (leaves_good offer.0.expr bid.well_made.sound) offer.1.below;
-        set_known = All-contains (HasKnownSet s) (leaves offer.0.expr) found.0 bid.known_sets offer.1.below;
-        may = found.2;
-      },
-    )
-
--- the instance is one of this trace
-pub record IsInstanceOf (t : Scenario) (i : Space) : Type 0 where
-  pub sound : IsSound i
-  pub nodes : i.nodes ≡ length t.nodes
-  pub jobs : All (λ b. b.job < length t.submissions) i.bids
-
-grant_printable : (t : Scenario) (i : Space) → IsInstanceOf t i → (g : Grant) → IsLawfulGrant i g → IsPrintableGrant t g
-grant_printable t i is g lawful =
-    let of = leaf_of_grant i is.sound g lawful in
-    let right = of.2.may.nodes_right in
-    let job = All-contains (λ (b : Bid). b.job < length t.submissions) i.bids of.0 is.jobs of.2.offered.pending in
-    record {
-      job = omega (arith, job, of.2.offered.of_job);
-      some = right.some;
-      few = omega (arith, right.few, of.2.good.few_nodes);
-      nodes = All-weaker (Contains (set_of i of.1)) (λ n. n < length t.nodes)
-          (λ n at. let there = All-contains (λ m. m < i.nodes) (set_of i of.1) n of.2.set_known.there at in omega (arith, there, is.nodes)) g.nodes right.in_set;
-    }
-
-kept_within : (n : ℕ) (keeps : Bid → Bool) (bs : List Bid) → All (λ b. b.job < n) bs → All (λ job. job < n) (map (λ b. b.job) (filter keeps bs))
-kept_within n keeps [] all = All-nil (λ job. job < n)
-kept_within n keeps (b ∷ bs) all =
-    let rest = kept_within n keeps bs (All-tail (λ c. c.job < n) b bs all) in
-    elim (keeps b) as (λ t. All (λ job. job < n) (map (λ c. c.job) (cond t (b ∷ filter keeps bs) (filter keeps bs)))) [
-      | true ↦ All-cons (λ job. job < n) b.job (map (λ c. c.job) (filter keeps bs)) (All-head (λ c. c.job < n) b bs all) rest
-      | false ↦ rest
-    ]
 
 certificate_printable : (c : Certificate) → IsPrintableTree c → IsPrintableCertificate c
 certificate_printable (certificates.Tops columns rows) may = tt
@@ -109,7 +36,7 @@ cycle_printable t i carry b budget is jobs plan may = record {
   failed = jobs.failed;
   over = jobs.over;
   expired = jobs.expired;
-  grants = All-weaker (IsLawfulGrant i) (IsPrintableGrant t) (grant_printable t i is) b.grants plan.honest.lawful.grants;
+  grants = grants_printable t i b.grants is plan.honest.lawful;
   starts = ap length plan.starts ∙ length-map b.grants (start_of i);
   certificate = certificate_printable b.certificate may;
   launched = subst (AreJobs t) (sym plan.launched) (kept_within (length t.submissions) (λ c. starts_now i b.grants c.job) i.bids is.jobs);

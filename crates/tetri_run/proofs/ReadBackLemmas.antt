@@ -13,6 +13,7 @@ use Rattle.tetri_io.proofs.Known.{append_known-append}
 use Rattle.tetri_run.specs.Progress.{RanAll, WroteReport}
 use Rattle.tetri_report.specs.Text.{cycle_text, summary_text}
 use Rattle.tetri_report.proofs.ReportLaws.{printed_is_short, printed_reads_back}
+use Rattle.tetri_space.specs.Space.{Space}
 use Rattle.tetri_state.specs.Begin.{begin}
 use Rattle.tetri_state.specs.Known.{AreOfJobs}
 use Rattle.tetri_state.specs.Reached.{IsReached, between}
@@ -20,6 +21,7 @@ use Rattle.tetri_state.specs.Snapshot.{Snapshot}
 use Rattle.tetri_state.proofs.InstanceLemmas.{instance_sound}
 use Rattle.tetri_state.proofs.KnownLemmas.{begun_bids, occurring_known}
 use Rattle.tetri_state.proofs.ReachedLemmas.{begin_reached, stands_begun, early_begun}
+use Rattle.tetri_strl.specs.declared.grants.Grant.{Grant}
 use Rattle.tetri_trace.specs.Scenario.{Scenario}
 use Rattle.tetri_trace.specs.Sound.{IsSound}
 use Rattle.tetri_io.specs.Lines.{lines_from}
@@ -36,52 +38,57 @@ cycles_text-in_order t (b ∷ past) =
     ∙ ap (λ l. flat_map (cycle_text t) (in_order past) ++ l) (sym (append-nil (cycle_text t b)))
     ∙ sym (flat_map-append (cycle_text t) (in_order past) (b ∷ []))
 
-module _ (t : Scenario) (sound : IsSound t) where
-  run_cycle_printable : (s : Snapshot) (b : Block) → IsReached t between s → s.now < t.header.until → IsPlannedCycle t s b → IsPrintable t b
+module _ (M : Space → List (List Grant) → Type 0) (t : Scenario) (sound : IsSound t) where
+  run_cycle_printable : (s : Snapshot) (b : Block) → IsReached t between s → s.now < t.header.until → IsPlannedCycle M t s b → IsPrintable t b
   run_cycle_printable s b reached more planned =
       let there = begin_reached t s reached more in
       cycle_printable t (instance_at t s) planned.cycle.carry b t.header.budget
       (record { sound = instance_sound t (begin t s) sound (stands_begun t (begin t s) sound there) (early_begun t (begin t s) sound there); nodes = refl; jobs = begun_bids t sound (begin t s) there })
       (subst (AreOfJobs t) (sym planned.cycle.happened) (occurring_known t sound s reached)) planned.cycle.plan planned.printable
 
-  run_printable : (past : List Block) → IsPlannedRun t past → All (IsPrintable t) (in_order past)
+  run_printable : (past : List Block) → IsPlannedRun M t past → All (IsPrintable t) (in_order past)
   run_printable [] run = All-nil (IsPrintable t)
   run_printable (b ∷ past) run =
       All-append (IsPrintable t) (in_order past) (b ∷ []) (run_printable past run.2)
-      (All-cons (IsPrintable t) b [] (run_cycle_printable (state_behind t past) b (run_reaches t past (run_of t past run.2)) run.0 run.1) (All-nil (IsPrintable t)))
+      (All-cons (IsPrintable t) b [] (run_cycle_printable (state_behind t past) b (run_reaches t past (run_of M t past run.2)) run.0 run.1) (All-nil (IsPrintable t)))
 
-  run_in_range : (past : List Block) → IsPlannedRun t past → All IsInRange (in_order past)
+  run_in_range : (past : List Block) → IsPlannedRun M t past → All IsInRange (in_order past)
   run_in_range [] run = All-nil IsInRange
   run_in_range (b ∷ past) run = All-append IsInRange (in_order past) (b ∷ []) (run_in_range past run.2) (All-cons IsInRange b [] run.1.in_range (All-nil IsInRange))
 
-  pub run_reads_back : (past : List Block) → IsPlannedRun t past → IsSummaryInRange (summary_of t past) → report_in t (report_text t past) ≡ Ok (in_order past, summary_of t past)
+  pub run_reads_back : (past : List Block) → IsPlannedRun M t past → IsSummaryInRange (summary_of t past) → report_in t (report_text t past) ≡ Ok (in_order past, summary_of t past)
   run_reads_back past run small =
       ap (λ l. report_in t (l ++ summary_text (summary_of t past))) (cycles_text-in_order t past)
       ∙ printed_reads_back t sound (in_order past) (summary_of t past) (run_printable past run) (run_in_range past run) small
 
-  run_lines_short : (past : List Block) → IsPlannedRun t past → IsSummaryInRange (summary_of t past) → All IsShort (lines_in (report_text t past))
+  run_lines_short : (past : List Block) → IsPlannedRun M t past → IsSummaryInRange (summary_of t past) → All IsShort (lines_in (report_text t past))
   run_lines_short past run small =
       All-map IsShort (λ (l : List ℕ × ℕ). l.0) (lines_from 0 (report_text t past))
       (subst (λ bytes. All (λ (l : List ℕ × ℕ). length l.0 ≤ 1048576) (lines_from 0 bytes)) (ap (λ l. l ++ summary_text (summary_of t past)) (sym (cycles_text-in_order t past)))
       (printed_is_short t sound (in_order past) (summary_of t past) (run_printable past run) (run_in_range past run) small))
 
   -- what this planner writes is accepted
-  pub run_accepted : (past : List Block) → IsPlannedRun t past → length past ≡ t.header.until → IsSummaryInRange (summary_of t past) → IsAccepted t (report_text t past)
+  pub run_accepted : (past : List Block) → IsPlannedRun M t past → length past ≡ t.header.until → IsSummaryInRange (summary_of t past) → IsAccepted t (report_text t past)
   run_accepted past run whole small = record {
     past = past;
     reads = run_reads_back past run small;
-    run = run_of t past run;
+    run = run_of M t past run;
     whole = whole;
     short = run_lines_short past run small;
   }
 
-pub wrote_report : (t : Scenario) → IsSound t → (m : Summary) (before middle now : Option (List ℕ)) → RanAll t m before middle → IsSummaryInRange m → now ≡ append_known middle (summary_text m) → WroteReport t before now
-wrote_report t sound m before middle now ran small e = record {
-  past = ran.past;
-  run = ran.run;
-  whole = ran.whole;
-  written = e ∙ ap (λ k. append_known k (summary_text m)) ran.written ∙ append_known-append before (cycles_text t ran.past) (summary_text m)
-      ∙ ap (λ (s : Summary). append_known before (cycles_text t ran.past ++ summary_text s)) ran.counted;
-  reads = run_reads_back t sound ran.past ran.run (subst IsSummaryInRange ran.counted small);
-  accepted = run_accepted t sound ran.past ran.run ran.whole (subst IsSummaryInRange ran.counted small);
-}
+-- the report of such a run
+pub wrote_report : (M : Space → List (List Grant) → Type 0) (IsSuch : Scenario → List Block → Type 0) (t : Scenario) → IsSound t →
+    ((past : List Block) → IsSuch t past → IsPlannedRun M t past) → (m : Summary) (before middle now : Option (List ℕ)) → RanAll IsSuch t m before middle → IsSummaryInRange m →
+    now ≡ append_known middle (summary_text m) → WroteReport IsSuch t before now
+wrote_report M IsSuch t sound planned m before middle now ran small e =
+    let run = planned ran.past ran.run in
+    record {
+      past = ran.past;
+      run = ran.run;
+      whole = ran.whole;
+      written = e ∙ ap (λ k. append_known k (summary_text m)) ran.written ∙ append_known-append before (cycles_text t ran.past) (summary_text m)
+          ∙ ap (λ (s : Summary). append_known before (cycles_text t ran.past ++ summary_text s)) ran.counted;
+      reads = run_reads_back M t sound ran.past run (subst IsSummaryInRange ran.counted small);
+      accepted = run_accepted M t sound ran.past run ran.whole (subst IsSummaryInRange ran.counted small);
+    }

@@ -13,6 +13,8 @@ use Rattle.tetri_state.specs.Begin.{begin}
 use Rattle.tetri_state.specs.Launch.{worth_launched}
 use Rattle.tetri_state.specs.Reached.{ArePlans, IsReached, begun, between}
 use Rattle.tetri_state.specs.Snapshot.{Snapshot}
+use Rattle.tetri_space.specs.Space.{Space}
+use Rattle.tetri_strl.specs.declared.grants.Grant.{Grant}
 use Rattle.tetri_trace.specs.Scenario.{Scenario}
 use Rattle.tetri_run.specs.Cycle.{IsPlannedCycle, instance_at}
 use Rattle.tetri_run.specs.Run.{IsPlannedRun, IsRun, NextText, cycle, summary, cycles_text, optimal_cycles, plans_of, state_behind, summary_of, worth_of_run}
@@ -25,9 +27,9 @@ run_plans t [] run = tt
 run_plans t (b ∷ past) run = (run.0, record { lawful = run.1.plan.honest.lawful; thrifty = run.1.plan.honest.thrifty }, run_plans t past run.2)
 
 -- what this planner plans is a run
-pub run_of : (t : Scenario) (past : List Block) → IsPlannedRun t past → IsRun t past
-run_of t [] run = tt
-run_of t (b ∷ past) run = (run.0, run.1.cycle, run_of t past run.2)
+pub run_of : (MayBeGiven : Space → List (List Grant) → Type 0) (t : Scenario) (past : List Block) → IsPlannedRun MayBeGiven t past → IsRun t past
+run_of MayBeGiven t [] run = tt
+run_of MayBeGiven t (b ∷ past) run = (run.0, run.1.cycle, run_of MayBeGiven t past run.2)
 
 -- the states of a run are reached
 pub run_reaches : (t : Scenario) (past : List Block) → IsRun t past → IsReached t between (state_behind t past)
@@ -41,8 +43,13 @@ pub now_behind : (t : Scenario) (past : List Block) → (state_behind t past).no
 now_behind t [] = refl
 now_behind t (b ∷ past) = omega (arith, now_behind t past)
 
-no_slots : (t : Scenario) (tally : RunTally) (before : Option (List ℕ)) (s : Snapshot) → s ≡ state_behind t [] → tally.worth ≡ 0 → tally.optimal ≡ 0 → RanSlots t 0 s tally before before
-no_slots t tally before s e w o = record {
+pub append_known-nil : (known : Option (List ℕ)) → append_known known [] ≡ known
+append_known-nil None = refl
+append_known-nil (Some bytes) = ap Some (append-nil bytes)
+
+pub no_slots : (MayBeGiven : Space → List (List Grant) → Type 0) (t : Scenario) (tally : RunTally) (before : Option (List ℕ)) (s : Snapshot) → s ≡ state_behind t [] → tally.worth ≡ 0 →
+    tally.optimal ≡ 0 → RanSlots MayBeGiven t 0 s tally before before
+no_slots MayBeGiven t tally before s e w o = record {
   past = [];
   run = tt;
   as_many = refl;
@@ -51,17 +58,13 @@ no_slots t tally before s e w o = record {
   optimal = o;
   written = sym (append_known-nil before);
 }
-  where
-    append_known-nil : (known : Option (List ℕ)) → append_known known [] ≡ known
-    append_known-nil None = refl
-    append_known-nil (Some bytes) = ap Some (append-nil bytes)
 
-pub one_more_slot : (t : Scenario) (i : ℕ) (old new : Snapshot) (tally more : RunTally) (slot : SlotTally) (before middle now : Option (List ℕ)) →
-    old.now < t.header.until → RanSlots t i old tally before middle → RanSlot t old new slot middle now →
-    more.worth ≡ tally.worth + slot.worth → more.optimal ≡ tally.optimal + slot.optimal → RanSlots t (i + 1) new more before now
-one_more_slot t i old new tally more slot before middle now in_run ran step w o =
+pub one_more_slot : (MayBeGiven : Space → List (List Grant) → Type 0) (t : Scenario) (i : ℕ) (old new : Snapshot) (tally more : RunTally) (slot : SlotTally)
+    (before middle now : Option (List ℕ)) → old.now < t.header.until → RanSlots MayBeGiven t i old tally before middle → RanSlot MayBeGiven t old new slot middle now →
+    more.worth ≡ tally.worth + slot.worth → more.optimal ≡ tally.optimal + slot.optimal → RanSlots MayBeGiven t (i + 1) new more before now
+one_more_slot MayBeGiven t i old new tally more slot before middle now in_run ran step w o =
     let b = step.block in
-    let planned : IsPlannedCycle t (state_behind t ran.past) b = subst (λ (s : Snapshot). IsPlannedCycle t s b) ran.state step.planned in
+    let planned : IsPlannedCycle MayBeGiven t (state_behind t ran.past) b = subst (λ (s : Snapshot). IsPlannedCycle MayBeGiven t s b) ran.state step.planned in
     record {
       past = b ∷ ran.past;
       run = (subst (λ (s : Snapshot). s.now < t.header.until) ran.state in_run, planned, ran.run);
@@ -73,9 +76,9 @@ one_more_slot t i old new tally more slot before middle now in_run ran step w o 
     }
 
 -- a proper front of what comes next, behind what was written
-in_text : (t : Scenario) (past : List Block) (run : IsPlannedRun t past) (text : List ℕ) (before middle now : Option (List ℕ)) → NextText t past text →
-    middle ≡ append_known before (cycles_text t past) → AppendsPart middle now text → StoppedInText t before now
-in_text t past run text before middle now next e part = record {
+in_text : (IsSuch : Scenario → List Block → Type 0) (t : Scenario) (past : List Block) (run : IsSuch t past) (text : List ℕ) (before middle now : Option (List ℕ)) →
+    NextText IsSuch t past text → middle ≡ append_known before (cycles_text t past) → AppendsPart middle now text → StoppedInText IsSuch t before now
+in_text IsSuch t past run text before middle now next e part = record {
   past = past;
   run = run;
   text = text;
@@ -85,20 +88,24 @@ in_text t past run text before middle now next e part = record {
   written = part.2 ∙ ap (λ k. append_known k (take part.0 text)) e ∙ append_known-append before (cycles_text t past) (take part.0 text);
 }
 
-pub stopped_in_slot : (t : Scenario) (i : ℕ) (old : Snapshot) (tally : RunTally) (before middle now : Option (List ℕ)) →
-    old.now < t.header.until → RanSlots t i old tally before middle → StoppedInSlot t old middle now → StoppedInText t before now
-stopped_in_slot t i old tally before middle now in_run ran stop =
-    let planned : IsPlannedCycle t (state_behind t ran.past) stop.block = subst (λ (s : Snapshot). IsPlannedCycle t s stop.block) ran.state stop.planned in
-    in_text t ran.past ran.run (cycle_text t stop.block) before middle now
-    (cycle stop.block (subst (λ (s : Snapshot). s.now < t.header.until) ran.state in_run, planned, ran.run)) ran.written stop.written
+-- a run whose runs are such
+module _ (MayBeGiven : Space → List (List Grant) → Type 0) (IsSuch : Scenario → List Block → Type 0) (t : Scenario)
+    (such : (past : List Block) → IsPlannedRun MayBeGiven t past → IsSuch t past) where
+  pub stopped_in_slot : (i : ℕ) (old : Snapshot) (tally : RunTally) (before middle now : Option (List ℕ)) →
+      old.now < t.header.until → RanSlots MayBeGiven t i old tally before middle → StoppedInSlot MayBeGiven t old middle now → StoppedInText IsSuch t before now
+  stopped_in_slot i old tally before middle now in_run ran stop =
+      let planned : IsPlannedCycle MayBeGiven t (state_behind t ran.past) stop.block = subst (λ (s : Snapshot). IsPlannedCycle MayBeGiven t s stop.block) ran.state stop.planned in
+      in_text IsSuch t ran.past (such ran.past ran.run) (cycle_text t stop.block) before middle now
+      (cycle stop.block (such (stop.block ∷ ran.past) (subst (λ (s : Snapshot). s.now < t.header.until) ran.state in_run, planned, ran.run))) ran.written stop.written
 
-pub stopped_between : (t : Scenario) (i : ℕ) (old : Snapshot) (tally : RunTally) (before middle now : Option (List ℕ)) →
-    RanSlots t i old tally before middle → now ≡ middle → StoppedBetween t before now
-stopped_between t i old tally before middle now ran e = record { past = ran.past; run = ran.run; written = e ∙ ran.written }
+  pub stopped_between : (i : ℕ) (old : Snapshot) (tally : RunTally) (before middle now : Option (List ℕ)) →
+      RanSlots MayBeGiven t i old tally before middle → now ≡ middle → StoppedBetween IsSuch t before now
+  stopped_between i old tally before middle now ran e = record { past = ran.past; run = such ran.past ran.run; written = e ∙ ran.written }
 
-pub stopped_in_summary : (t : Scenario) (m : Summary) (before middle now : Option (List ℕ)) → RanAll t m before middle → AppendsPart middle now (summary_text m) → StoppedInText t before now
-stopped_in_summary t m before middle now ran part =
-    in_text t ran.past ran.run (summary_text (summary_of t ran.past)) before middle now (summary ran.whole) ran.written (subst (λ (s : Summary). AppendsPart middle now (summary_text s)) ran.counted part)
+pub stopped_in_summary : (IsSuch : Scenario → List Block → Type 0) (t : Scenario) (m : Summary) (before middle now : Option (List ℕ)) → RanAll IsSuch t m before middle →
+    AppendsPart middle now (summary_text m) → StoppedInText IsSuch t before now
+stopped_in_summary IsSuch t m before middle now ran part =
+    in_text IsSuch t ran.past ran.run (summary_text (summary_of t ran.past)) before middle now (summary ran.whole) ran.written (subst (λ (s : Summary). AppendsPart middle now (summary_text s)) ran.counted part)
 
 -- what is added up over a run are its numbers
 pub summary_is : (t : Scenario) (past : List Block) (s : Snapshot) (tally : RunTally) → s ≡ state_behind t past → tally.worth ≡ worth_of_run t past → tally.optimal ≡ optimal_cycles past →

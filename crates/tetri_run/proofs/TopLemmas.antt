@@ -1,11 +1,13 @@
--- What the check of a report says once its trace was read.
-use Rattle.std.proofs.Common.{◌≡◌, ◌∙◌, ◌⊎◌, ℕ, List, refl, sym, inl, inr}
+-- What a call says once its trace was read.
+use Rattle.std.proofs.Common.{◌≡◌, ◌∙◌, ◌⊎◌, ⊎_elim, ℕ, List, ◌∷◌, refl, sym, inl, inr}
 use Rattle.std.specs.Prelude.{Option, Some, Result, Ok}
+use Rattle.tetri_report.specs.Block.{Block}
 use Rattle.tetri_trace.specs.Lines.{scenario_in}
 use Rattle.tetri_trace.specs.Scenario.{Scenario}
 use Rattle.tetri_trace.specs.declared.fault.TraceWhy.{TraceWhy}
 use Rattle.tetri_run.specs.Check.{IsAccepted}
-use Rattle.tetri_run.specs.Status.{IsCheckAnswer, IsCheckPromised, IsLoadAnswer, IsRefusal, IsSilent}
+use Rattle.tetri_run.specs.Run.{NextText, cycle, summary}
+use Rattle.tetri_run.specs.Status.{IsCheckAnswer, IsCheckPromised, IsPromisedOf, IsRefusal}
 use Rattle.tetri_run.specs.Words.{Asked, to_check, to_load}
 use Rattle.tetri_run.specs.declared.status.Status.{Status}
 use Rattle.tetri_run.specs.declared.status.Status.TheVariants.{Done, Refused, Usage, ReadFault, WriteFault, BadTrace, NoMemory}
@@ -48,26 +50,38 @@ same_names a b trace report o e f = (first (e ∙ f), second (e ∙ f))
     second : Some (to_check a b) ≡ Some (to_check trace report) → b ≡ report
     second e = cc
 
--- ---- a load
-module _ (t : Scenario) (before after : Option (List ℕ)) where
-  -- it is done, unless a write failed or memory ran out
-  pub load_ends : (status : Status) → IsLoadAnswer status t before after → (status ≡ WriteFault → ⊥) → (status ≡ Done) ⊎ (status ≡ NoMemory)
-  load_ends Done answer quiet = inl refl
-  load_ends (Refused line why) answer quiet = absurd answer
-  load_ends Usage answer quiet = absurd answer
-  load_ends ReadFault answer quiet = absurd answer
-  load_ends WriteFault answer quiet = absurd (quiet refl)
-  load_ends (BadTrace line why) answer quiet = absurd answer
-  load_ends NoMemory answer quiet = inr refl
+-- ---- a run
+-- a run that is such is such another one
+module _ (IsSuch IsOther : Scenario → List Block → Type 0) (other : (t : Scenario) (past : List Block) → IsSuch t past → IsOther t past) where
+  next_weakens : (t : Scenario) (past : List Block) (text : List ℕ) → NextText IsSuch t past text → NextText IsOther t past text
+  next_weakens t past _ (cycle b run) = cycle b (other t (b ∷ past) run)
+  next_weakens t past _ (summary whole) = summary whole
 
-  pub load_silent : (status : Status) → IsLoadAnswer status t before after → IsSilent status before after
-  load_silent Done answer = tt
-  load_silent (Refused line why) answer = absurd answer
-  load_silent Usage answer = absurd answer
-  load_silent ReadFault answer = absurd answer
-  load_silent WriteFault answer = tt
-  load_silent (BadTrace line why) answer = absurd answer
-  load_silent NoMemory answer = tt
+  pub promise_weakens : (status : Status) (trace : Result Scenario (ℕ × TraceWhy)) (before after : Option (List ℕ)) → IsPromisedOf IsSuch status trace before after →
+      IsPromisedOf IsOther status trace before after
+  promise_weakens Done trace before after promise =
+      let w = promise.2 in
+      (promise.0, promise.1, record { past = w.past; run = other promise.0 w.past w.run; whole = w.whole; written = w.written; reads = w.reads; accepted = w.accepted })
+  promise_weakens (Refused line why) trace before after promise = promise
+  promise_weakens Usage trace before after promise = tt
+  promise_weakens ReadFault trace before after promise = tt
+  promise_weakens WriteFault trace before after promise =
+      let w = promise.2 in (
+        promise.0,
+        promise.1,
+        record {
+          past = w.past;
+          run = other promise.0 w.past w.run;
+          text = w.text;
+          next = next_weakens promise.0 w.past w.text w.next;
+          part = w.part;
+          proper = w.proper;
+          written = w.written;
+        },
+      )
+  promise_weakens (BadTrace line why) trace before after promise = promise
+  promise_weakens NoMemory trace before after promise =
+      ⊎_elim inl (λ stopped. inr (stopped.0, stopped.1, record { past = stopped.2.past; run = other stopped.0 stopped.2.past stopped.2.run; written = stopped.2.written })) promise
 
 -- the words name one number
 pub same_number : (m n : ℕ) (o : Option Asked) → Some (to_load m) ≡ o → o ≡ Some (to_load n) → m ≡ n

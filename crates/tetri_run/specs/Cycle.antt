@@ -1,5 +1,5 @@
 -- What one cycle of a run says.
-use Rattle.std.specs.Prelude.{◌≡◌, List, [], ℕ, AllPairs, map}
+use Rattle.std.specs.Prelude.{◌≡◌, List, ℕ, All, AllPairs, map}
 use Rattle.tetri_strl.specs.declared.grants.Grant.{Grant}
 use Rattle.tetri_claims.specs.Certified.{IsCertified}
 use Rattle.tetri_claims.specs.Good.{BoundsEveryLawful, IsHonest}
@@ -10,6 +10,7 @@ use Rattle.tetri_report.specs.Printable.{IsInRange}
 use Rattle.tetri_plan.specs.Chosen.{IsChosen}
 use Rattle.tetri_plan.specs.Plans.{IsPrintableTree}
 use Rattle.tetri_space.specs.GrantOrder.{ComesBefore}
+use Rattle.tetri_space.specs.Lawful.{IsLawful}
 use Rattle.tetri_space.specs.Space.{Space}
 use Rattle.tetri_space.specs.Total.{total_in}
 use Rattle.tetri_state.specs.Begin.{begin, occurring}
@@ -43,12 +44,16 @@ pub record IsCycle (t : Scenario) (s : Snapshot) (b : Block) : Type 0 where
 abbrev pub IsBoundedCycle : Scenario → Snapshot → Block → Type 0
 IsBoundedCycle t s b = BoundsEveryLawful (instance_at t s) b.bound
 
--- The cycle that this planner plans: its plan is the chosen one for what is carried over and the budget of the trace, with its grants by
--- job and leaf; its certificate may be printed, and its numbers are within the ranges of their lines.
-pub record IsPlannedCycle (t : Scenario) (s : Snapshot) (b : Block) : Type 0 where
+-- The cycle that this planner plans, where lists of grants are given that may be given of its instance: its plan is the chosen one for
+-- what is carried over, these lists, which are lawful, and the budget of the trace, with its grants by job and leaf; its certificate
+-- may be printed, and its numbers are within the ranges of their lines.
+pub record IsPlannedCycle (MayBeGiven : Space → List (List Grant) → Type 0) (t : Scenario) (s : Snapshot) (b : Block) : Type 0 where
   pub cycle : IsCycle t s b
   pub bounded : IsBoundedCycle t s b
-  pub chosen : IsChosen (instance_at t s) cycle.carry [] t.header.budget (planned b)
+  pub given : List (List Grant)
+  pub may : MayBeGiven (instance_at t s) given
+  pub lawful : All (IsLawful (instance_at t s)) given
+  pub chosen : IsChosen (instance_at t s) cycle.carry given t.header.budget (planned b)
   pub ordered : AllPairs ComesBefore b.grants
   pub printable : IsPrintableTree b.certificate
   pub in_range : IsInRange b

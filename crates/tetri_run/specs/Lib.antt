@@ -1,5 +1,6 @@
 pub mod Cycle
 pub mod Run
+pub mod Advised
 pub mod Faulty
 pub mod Check
 pub mod Checked
@@ -7,3 +8,4 @@ pub mod Progress
 pub mod Words
 pub mod Status
 pub mod Ended
+pub mod ByParts

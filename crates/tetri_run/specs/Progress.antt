@@ -6,11 +6,13 @@ use Rattle.tetri_report.specs.Block.{Block}
 use Rattle.tetri_report.specs.Reading.{report_in}
 use Rattle.tetri_report.specs.Text.{cycle_text, summary_text}
 use Rattle.tetri_report.specs.declared.cycle.Summary.{Summary}
+use Rattle.tetri_space.specs.Space.{Space}
 use Rattle.tetri_state.specs.After.{after}
 use Rattle.tetri_state.specs.Readied.{Fits, IsLaunchOf}
 use Rattle.tetri_state.specs.Begin.{begin}
 use Rattle.tetri_state.specs.Launch.{worth_launched}
 use Rattle.tetri_state.specs.Snapshot.{Snapshot}
+use Rattle.tetri_strl.specs.declared.grants.Grant.{Grant}
 use Rattle.tetri_trace.specs.Scenario.{Scenario}
 use Rattle.tetri_run.specs.Check.{IsAccepted}
 use Rattle.tetri_run.specs.Cycle.{IsPlannedCycle, instance_at}
@@ -19,90 +21,90 @@ use Rattle.tetri_run.specs.declared.slot.Ready.{Ready}
 use Rattle.tetri_run.specs.declared.slot.SlotTally.{SlotTally}
 use Rattle.tetri_run.specs.declared.cycles.RunTally.{RunTally}
 
--- A cycle is ready that begins in this state: its lines, what it launches, and its numbers.
-pub record IsReady (t : Scenario) (old : Snapshot) (r : Ready) : Type 0 where
+-- A cycle is ready that begins in this state, planned with lists that may be given: its lines, what it launches, and its numbers.
+pub record IsReady (MayBeGiven : Space → List (List Grant) → Type 0) (t : Scenario) (old : Snapshot) (r : Ready) : Type 0 where
   pub block : Block
-  pub planned : IsPlannedCycle t old block
+  pub planned : IsPlannedCycle MayBeGiven t old block
   pub text : r.text.items ≡ cycle_text t block
   pub launch : IsLaunchOf t (begin t old) block.grants r.prepared
   pub fits : Fits (begin t old) r.prepared
   pub worth : r.tally.worth ≡ worth_launched (instance_at t old) block.grants
   pub optimal : r.tally.optimal ≡ optimal_count block.mark
 
--- A slot was run: a cycle was planned, written and applied.
-pub record RanSlot (t : Scenario) (old new : Snapshot) (tally : SlotTally) (before now : Option (List ℕ)) : Type 0 where
+-- A slot was run: a cycle was planned with lists that may be given, written and applied.
+pub record RanSlot (MayBeGiven : Space → List (List Grant) → Type 0) (t : Scenario) (old new : Snapshot) (tally : SlotTally) (before now : Option (List ℕ)) : Type 0 where
   pub block : Block
-  pub planned : IsPlannedCycle t old block
+  pub planned : IsPlannedCycle MayBeGiven t old block
   pub state : new ≡ after t (begin t old) block.grants
   pub worth : tally.worth ≡ worth_launched (instance_at t old) block.grants
   pub optimal : tally.optimal ≡ optimal_count block.mark
   pub written : now ≡ append_known before (cycle_text t block)
 
--- A write failed in the text of a planned cycle.
-pub record StoppedInSlot (t : Scenario) (old : Snapshot) (before now : Option (List ℕ)) : Type 0 where
+-- A write failed in the text of a cycle that was planned with lists that may be given.
+pub record StoppedInSlot (MayBeGiven : Space → List (List Grant) → Type 0) (t : Scenario) (old : Snapshot) (before now : Option (List ℕ)) : Type 0 where
   pub block : Block
-  pub planned : IsPlannedCycle t old block
+  pub planned : IsPlannedCycle MayBeGiven t old block
   pub written : AppendsPart before now (cycle_text t block)
 
--- So many slots were run from the opening state on.
-pub record RanSlots (t : Scenario) (slots : ℕ) (new : Snapshot) (tally : RunTally) (before now : Option (List ℕ)) : Type 0 where
+-- So many slots were run from the opening state on, planned with lists that may be given.
+pub record RanSlots (MayBeGiven : Space → List (List Grant) → Type 0) (t : Scenario) (slots : ℕ) (new : Snapshot) (tally : RunTally) (before now : Option (List ℕ)) : Type 0 where
   pub past : List Block
-  pub run : IsPlannedRun t past
+  pub run : IsPlannedRun MayBeGiven t past
   pub as_many : length past ≡ slots
   pub state : new ≡ state_behind t past
   pub worth : tally.worth ≡ worth_of_run t past
   pub optimal : tally.optimal ≡ optimal_cycles past
   pub written : now ≡ append_known before (cycles_text t past)
 
--- The run stopped behind some cycles, in their next text.
-pub record StoppedInText (t : Scenario) (before now : Option (List ℕ)) : Type 0 where
+-- Such a run stopped behind some cycles, in their next text.
+pub record StoppedInText (IsSuch : Scenario → List Block → Type 0) (t : Scenario) (before now : Option (List ℕ)) : Type 0 where
   pub past : List Block
-  pub run : IsPlannedRun t past
+  pub run : IsSuch t past
   pub text : List ℕ
-  pub next : NextText t past text
+  pub next : NextText IsSuch t past text
   pub part : ℕ
   pub proper : part < length text
   pub written : now ≡ append_known before (cycles_text t past ++ take part text)
 
--- The run stopped between two texts.
-pub record StoppedBetween (t : Scenario) (before now : Option (List ℕ)) : Type 0 where
+-- Such a run stopped between two texts.
+pub record StoppedBetween (IsSuch : Scenario → List Block → Type 0) (t : Scenario) (before now : Option (List ℕ)) : Type 0 where
   pub past : List Block
-  pub run : IsPlannedRun t past
+  pub run : IsSuch t past
   pub written : now ≡ append_known before (cycles_text t past)
 
--- The report of a whole run was written, which is an accepted report: its lines read as the cycles and the summary of the run.
-pub record WroteReport (t : Scenario) (before now : Option (List ℕ)) : Type 0 where
+-- The report of such a run, a whole one, was written, which is an accepted report: its lines read as the cycles and the summary of the
+-- run.
+pub record WroteReport (IsSuch : Scenario → List Block → Type 0) (t : Scenario) (before now : Option (List ℕ)) : Type 0 where
   pub past : List Block
-  pub run : IsPlannedRun t past
+  pub run : IsSuch t past
   pub whole : length past ≡ t.header.until
   pub written : now ≡ append_known before (report_text t past)
   pub reads : report_in t (report_text t past) ≡ Ok (in_order past, summary_of t past)
   pub accepted : IsAccepted t (report_text t past)
 
--- The summary is that of a whole planned run, which is the only one that the trace has.
-pub record IsSummaryOfRun (t : Scenario) (summary : Summary) : Type 0 where
+-- The summary is that of such a run, a whole one.
+pub record IsSummaryOfRun (IsSuch : Scenario → List Block → Type 0) (t : Scenario) (summary : Summary) : Type 0 where
   pub past : List Block
-  pub run : IsPlannedRun t past
+  pub run : IsSuch t past
   pub whole : length past ≡ t.header.until
-  pub only : (other : List Block) → IsPlannedRun t other → length other ≡ t.header.until → other ≡ past
   pub counted : summary ≡ summary_of t past
 
--- The summary of a whole planned run was written.
-pub record WroteSummary (t : Scenario) (before now : Option (List ℕ)) : Type 0 where
+-- The summary of such a run, a whole one, was written.
+pub record WroteSummary (IsSuch : Scenario → List Block → Type 0) (t : Scenario) (before now : Option (List ℕ)) : Type 0 where
   pub summary : Summary
-  pub of_run : IsSummaryOfRun t summary
+  pub of_run : IsSummaryOfRun IsSuch t summary
   pub written : now ≡ append_known before (summary_text summary)
 
--- A write failed in the summary of a whole planned run.
-pub record StoppedInSummary (t : Scenario) (before now : Option (List ℕ)) : Type 0 where
+-- A write failed in the summary of such a run, a whole one.
+pub record StoppedInSummary (IsSuch : Scenario → List Block → Type 0) (t : Scenario) (before now : Option (List ℕ)) : Type 0 where
   pub summary : Summary
-  pub of_run : IsSummaryOfRun t summary
+  pub of_run : IsSummaryOfRun IsSuch t summary
   pub written : AppendsPart before now (summary_text summary)
 
--- All slots were run, and the summary is theirs.
-pub record RanAll (t : Scenario) (summary : Summary) (before now : Option (List ℕ)) : Type 0 where
+-- All slots of such a run were run, and the summary is theirs.
+pub record RanAll (IsSuch : Scenario → List Block → Type 0) (t : Scenario) (summary : Summary) (before now : Option (List ℕ)) : Type 0 where
   pub past : List Block
-  pub run : IsPlannedRun t past
+  pub run : IsSuch t past
   pub whole : length past ≡ t.header.until
   pub counted : summary ≡ summary_of t past
   pub written : now ≡ append_known before (cycles_text t past)

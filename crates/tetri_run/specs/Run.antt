@@ -1,5 +1,6 @@
 -- A run: one cycle a slot, from the opening state on. Lists of cycles have the last one first.
 use Rattle.std.specs.Prelude.{◌≡◌, ◌⊎◌, ◌<◌, Contains, ℕ, ◌+◌, List, [], ◌∷◌, ◌++◌, map, length}
+use Rattle.tetri_space.specs.Space.{Space}
 use Rattle.tetri_strl.specs.declared.grants.Grant.{Grant}
 use Rattle.tetri_cert.specs.declared.plan_mark.PlanMark.{PlanMark}
 use Rattle.tetri_cert.specs.declared.plan_mark.PlanMark.TheVariants.{Optimal, Spent, Wide}
@@ -42,9 +43,13 @@ RunsOnBehind t past b p =
     ((q : Piece) × Contains (state_behind t (b ∷ past)).pieces q × IsSameRun p q)
     ⊎ (Contains b.ended (named p) ⊎ (Contains b.cancelled p.job ⊎ Contains b.failed p.job))
 
--- a run that this planner plans
-abbrev pub IsPlannedRun : Scenario → List Block → Type 0
-IsPlannedRun = IsRunOf IsPlannedCycle
+-- a run that this planner plans, where lists are given in each cycle that may be given of its instance
+abbrev pub IsPlannedRun : (Space → List (List Grant) → Type 0) → Scenario → List Block → Type 0
+IsPlannedRun MayBeGiven = IsRunOf (IsPlannedCycle MayBeGiven)
+
+-- all lists may be given
+abbrev pub AnyLists : Space → List (List Grant) → Type 0
+AnyLists i given = Unit {0}
 
 abbrev pub optimal_count : PlanMark → ℕ
 optimal_count Optimal = 1
@@ -89,7 +94,7 @@ cycles_text t (b ∷ past) = cycles_text t past ++ cycle_text t b
 abbrev pub report_text : Scenario → List Block → List ℕ
 report_text t past = cycles_text t past ++ summary_text (summary_of t past)
 
--- The next text of a report: the cycle that follows, or the summary behind the last one.
-pub data NextText (t : Scenario) (past : List Block) : List ℕ → Type 0 where
-  cycle : (b : Block) → IsPlannedRun t (b ∷ past) → NextText t past (cycle_text t b)
-  summary : length past ≡ t.header.until → NextText t past (summary_text (summary_of t past))
+-- The next text of the report of such a run: the cycle that follows, or the summary behind the last one.
+pub data NextText (IsSuch : Scenario → List Block → Type 0) (t : Scenario) (past : List Block) : List ℕ → Type 0 where
+  cycle : (b : Block) → IsSuch t (b ∷ past) → NextText IsSuch t past (cycle_text t b)
+  summary : length past ≡ t.header.until → NextText IsSuch t past (summary_text (summary_of t past))

@@ -1,16 +1,22 @@
 // The cycles of a run, one a slot.
-ghost use Rattle.std.specs.Prelude.{◌≡◌, ◌≤◌, ◌<◌, ◌^◌, IfOk, IsErrOf, OnOk};
+ghost use Rattle.std.specs.Prelude.{◌≡◌, ◌≢◌, ◌⊎◌, ◌≤◌, ◌<◌, ◌^◌, ℕ, Ok, Result, IfOk, IsErrOf, OnOk};
+ghost use Rattle.tetri_advice.specs.Seat.{creeds_of};
+ghost use Rattle.tetri_advice.specs.Sitting.{seats};
 ghost use Rattle.tetri_algebra.specs.Counts.{Rose};
 ghost use Rattle.tetri_report.specs.Printable.{IsSummaryInRange};
+ghost use Rattle.tetri_run.specs.Advised.{IsAdvisedRun};
 ghost use Rattle.tetri_run.specs.Progress.{RanAll, StoppedBetween, StoppedInText, WroteReport, summary_at};
-ghost use Rattle.tetri_run.specs.Status.{IsRunAnswer};
-ghost use Rattle.tetri_trace.specs.Scenario.{scenario};
+ghost use Rattle.tetri_run.specs.Status.{IsPromised, IsPromisedOf, IsSilent};
+ghost use Rattle.tetri_run.specs.declared.why.Why.{Why};
+ghost use Rattle.tetri_trace.specs.Scenario.{Scenario, scenario};
 ghost use Rattle.tetri_trace.specs.Sound.{IsSound};
+ghost use Rattle.tetri_trace.specs.declared.fault.TraceWhy.{TraceWhy};
 
 use crate::halt::Halt;
 use crate::slot::run_slot;
 use crate::status::Status;
 use std::alloc::Global;
+use tetri_advice::{Advisor, PanelOf};
 use tetri_io::{Sink, send_all};
 use tetri_report::{Summary, print_summary};
 use tetri_state::State;
@@ -38,19 +44,22 @@ pub(crate) fn summary_at(state: &State, tally: &RunTally) -> Summary
     }
 }
 
-// Runs all slots, from the opening state on.
-pub(crate) fn run_slots<K: Sink>(
+// Runs all slots, from the opening state on, each once the panel was asked.
+pub(crate) fn run_slots<K: Sink, A: Advisor>(
     alloc: Global,
     trace: &Trace,
     sink: &mut K,
+    panel: &mut PanelOf<A>,
 ) -> Result<Summary, Halt>
     requires { IsSound (scenario trace.now) }
-    ensures ok { IfOk result (λ summary. RanAll (scenario trace.entry.now) summary (K.written sink.old) (K.written sink.new)) }
+    ensures ok { IfOk result (λ summary. RanAll (IsAdvisedRun (seats A.says A.misses A.creed panel.old) panel.old.missed panel.new.missed) (scenario trace.entry.now) summary (K.written sink.old) (K.written sink.new)) }
     ensures small { IfOk result (λ summary. summary.worth < 2 ^ 127) }
-    ensures failed { IsErrOf result Halt.WriteFault → StoppedInText (scenario trace.entry.now) (K.written sink.old) (K.written sink.new) }
-    ensures memory { IsErrOf result Halt.NoMemory → StoppedBetween (scenario trace.entry.now) (K.written sink.old) (K.written sink.new) }
+    ensures failed { IsErrOf result Halt.WriteFault → StoppedInText (IsAdvisedRun (seats A.says A.misses A.creed panel.old) panel.old.missed panel.new.missed) (scenario trace.entry.now) (K.written sink.old) (K.written sink.new) }
+    ensures memory { IsErrOf result Halt.NoMemory → StoppedBetween (IsAdvisedRun (seats A.says A.misses A.creed panel.old) panel.old.missed panel.new.missed) (scenario trace.entry.now) (K.written sink.old) (K.written sink.new) }
     ensures write { IsErrOf result Halt.WriteFault → Rose (K.faults sink.old) (K.faults sink.new) }
     ensures later { K.faults sink.old ≤ K.faults sink.new }
+    ensures creeds { creeds_of (seats A.says A.misses A.creed panel.new) ≡ creeds_of (seats A.says A.misses A.creed panel.old) }
+    ensures later_misses { panel.old.missed ≤ panel.new.missed }
 {
     let mut state = State::open(alloc, trace)?;
     let mut tally = RunTally {
@@ -58,7 +67,7 @@ pub(crate) fn run_slots<K: Sink>(
         optimal: 0,
     };
     for number in 0..trace.header.until {
-        let slot = run_slot(alloc, trace, &mut state, sink)?;
+        let slot = run_slot(alloc, trace, &mut state, sink, panel)?;
         tally.worth += u128::from(slot.worth);
         tally.optimal += slot.optimal;
     }
@@ -83,30 +92,54 @@ pub(crate) fn summary_is_in_range(summary: &Summary)
 }
 
 // Runs all slots, and then writes the summary.
-fn write_run<K: Sink>(alloc: Global, trace: &Trace, sink: &mut K) -> Result<(), Halt>
+fn write_run<K: Sink, A: Advisor>(
+    alloc: Global,
+    trace: &Trace,
+    sink: &mut K,
+    panel: &mut PanelOf<A>,
+) -> Result<(), Halt>
     requires { IsSound (scenario trace.now) }
-    ensures ok { OnOk result (WroteReport (scenario trace.entry.now) (K.written sink.old) (K.written sink.new)) }
-    ensures failed { IsErrOf result Halt.WriteFault → StoppedInText (scenario trace.entry.now) (K.written sink.old) (K.written sink.new) }
-    ensures memory { IsErrOf result Halt.NoMemory → StoppedBetween (scenario trace.entry.now) (K.written sink.old) (K.written sink.new) }
+    ensures ok { OnOk result (WroteReport (IsAdvisedRun (seats A.says A.misses A.creed panel.old) panel.old.missed panel.new.missed) (scenario trace.entry.now) (K.written sink.old) (K.written sink.new)) }
+    ensures failed { IsErrOf result Halt.WriteFault → StoppedInText (IsAdvisedRun (seats A.says A.misses A.creed panel.old) panel.old.missed panel.new.missed) (scenario trace.entry.now) (K.written sink.old) (K.written sink.new) }
+    ensures memory { IsErrOf result Halt.NoMemory → StoppedBetween (IsAdvisedRun (seats A.says A.misses A.creed panel.old) panel.old.missed panel.new.missed) (scenario trace.entry.now) (K.written sink.old) (K.written sink.new) }
     ensures write { IsErrOf result Halt.WriteFault → Rose (K.faults sink.old) (K.faults sink.new) }
     ensures later { K.faults sink.old ≤ K.faults sink.new }
+    ensures creeds { creeds_of (seats A.says A.misses A.creed panel.new) ≡ creeds_of (seats A.says A.misses A.creed panel.old) }
+    ensures later_misses { panel.old.missed ≤ panel.new.missed }
 {
-    let summary = run_slots(alloc, trace, sink)?;
+    let summary = run_slots(alloc, trace, sink, panel)?;
     summary_is_in_range(&summary);
     let text = print_summary(alloc, &summary)?;
     send_all(sink, &text)?;
     Ok(())
 }
 
-/// Runs a trace and writes its report: each cycle by one send once it is planned, and then the summary by one more. A fault leaves
-/// whole cycles and a proper front of the next text, and want of memory whole cycles alone.
-pub(crate) fn run_cycles<K: Sink>(alloc: Global, trace: &Trace, sink: &mut K) -> Status
+/// Runs a trace and writes its report: each cycle by one send once the panel was asked and it is planned, and then the summary by one
+/// more. A fault leaves whole cycles and a proper front of the next text, and want of memory whole cycles alone.
+pub(crate) fn run_cycles<K: Sink, A: Advisor>(
+    alloc: Global,
+    trace: &Trace,
+    sink: &mut K,
+    panel: &mut PanelOf<A>,
+) -> Status
     requires { IsSound (scenario trace.now) }
-    ensures answer { IsRunAnswer result (scenario trace.entry.now) (K.written sink.old) (K.written sink.new) }
+    ensures usage { result ≢ Status.Usage }
+    ensures refused { (line : ℕ) (why : Why) → result ≢ Status.Refused line why }
+    ensures good_trace { (line : ℕ) (why : TraceWhy) → result ≢ Status.BadTrace line why }
+    ensures read { result ≢ Status.ReadFault }
+    ensures silent { IsSilent result (K.written sink.old) (K.written sink.new) }
+    ensures promise { (read : Result Scenario (ℕ × TraceWhy)) → read ≡ Ok (scenario trace.entry.now)
+        → IsPromised result read (K.written sink.old) (K.written sink.new) }
+    ensures advised { (read : Result Scenario (ℕ × TraceWhy)) → read ≡ Ok (scenario trace.entry.now)
+        → IsPromisedOf (IsAdvisedRun (seats A.says A.misses A.creed panel.old) panel.old.missed panel.new.missed)
+        result read (K.written sink.old) (K.written sink.new) }
     ensures write { result ≡ Status.WriteFault → Rose (K.faults sink.old) (K.faults sink.new) }
+    ensures complete { ¬ Rose (K.faults sink.old) (K.faults sink.new) → (result ≡ Status.Done) ⊎ (result ≡ Status.NoMemory) }
     ensures later { K.faults sink.old ≤ K.faults sink.new }
+    ensures creeds { creeds_of (seats A.says A.misses A.creed panel.new) ≡ creeds_of (seats A.says A.misses A.creed panel.old) }
+    ensures later_misses { panel.old.missed ≤ panel.new.missed }
 {
-    match write_run(alloc, trace, sink) {
+    match write_run(alloc, trace, sink, panel) {
         Ok(()) => Status::Done,
         Err(Halt::WriteFault) => Status::WriteFault,
         Err(Halt::NoMemory) => Status::NoMemory,

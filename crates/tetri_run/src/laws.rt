@@ -1,9 +1,12 @@
 // Laws of runs, and of reports that are checked.
 ghost use Rattle.std.specs.Prelude.{◌≡◌, ◌∷◌, AllPairs, Contains, List, ℕ, Some, length};
+ghost use Rattle.tetri_advice.specs.Seat.{Seat};
+ghost use Rattle.tetri_advice.specs.declared.creed.Creed.{Creed};
 ghost use Rattle.tetri_report.specs.Block.{Block};
+ghost use Rattle.tetri_run.specs.Advised.{AreListsOf, BeginsWithin, IsAdvisedRun};
 ghost use Rattle.tetri_run.specs.Check.{IsRefusedAt};
 ghost use Rattle.tetri_run.specs.Cycle.{instance_at};
-ghost use Rattle.tetri_run.specs.Run.{IsPlannedRun, IsRun, RunsOnBehind, state_behind};
+ghost use Rattle.tetri_run.specs.Run.{AnyLists, IsPlannedRun, IsRun, RunsOnBehind, state_behind};
 ghost use Rattle.tetri_run.specs.declared.why.Why.{Why};
 ghost use Rattle.tetri_space.specs.Space.{Covers, leaf_in};
 ghost use Rattle.tetri_state.specs.Begin.{begin};
@@ -28,7 +31,9 @@ pub fn states_of_runs_are_reached()
     ensures between { (t : Scenario) (past : List Block) → IsRun t past → IsReached t moment.between (state_behind t past) }
     ensures begun { (t : Scenario) (past : List Block) (b : Block) → IsRun t (b ∷ past)
         → IsReached t moment.begun (begin t (state_behind t past)) }
-    ensures planned { (t : Scenario) (past : List Block) → IsPlannedRun t past → IsRun t past }
+    ensures planned { (t : Scenario) (past : List Block) → IsPlannedRun AnyLists t past → IsRun t past }
+    ensures advised { (sat : List Seat) (before now : ℕ) (t : Scenario) (past : List Block)
+        → IsAdvisedRun sat before now t past → IsPlannedRun AnyLists t past }
 {}
 
 /// Of every run of a trace, planned or read from an accepted report: no two running pieces share a node; a piece that runs behind
@@ -59,8 +64,15 @@ pub fn reports_are_refused_once()
         → IsRefusedAt t bytes other because → (line ≡ other) × (why ≡ because) }
 {}
 
-/// A trace has one planned run of each length. So a run of it that is planned, to be printed or to be counted, is the only one.
+/// The search of each cycle of a planned run begins with a worth between what is carried over and given, and the value of its plan.
+pub fn searches_begin_within_the_value()
+    ensures { (t : Scenario) (past : List Block) (b : Block) → IsSound t → (run : IsPlannedRun AnyLists t (b ∷ past))
+        → BeginsWithin (instance_at t (state_behind t past)) run.1.cycle.carry run.1.given b.value }
+{}
+
+/// A trace has one planned run of each length where in each cycle the lists of the same creeds are given. So a run of it that is planned,
+/// to be printed or to be counted, with advisors that all tell these creeds and of whom none was missed, is the only one.
 pub fn planned_runs_are_one()
-    ensures { (t : Scenario) (past others : List Block) → IsPlannedRun t past → IsPlannedRun t others
-        → length past ≡ length others → past ≡ others }
+    ensures { (cs : List Creed) (t : Scenario) (past others : List Block) → IsPlannedRun (AreListsOf cs) t past
+        → IsPlannedRun (AreListsOf cs) t others → length past ≡ length others → past ≡ others }
 {}

@@ -9,19 +9,22 @@ mod ended;
 mod halt;
 mod laws;
 mod load;
+mod parts;
 mod planner;
 mod slot;
 mod spoken;
 mod status;
 mod top;
 mod why;
+mod words;
 
 pub use ended::{conclude, exit_number, status_of_words};
 pub use laws::{
     pieces_of_runs_keep_their_nodes, planned_runs_are_one, reports_are_refused_once,
-    states_of_runs_are_reached,
+    searches_begin_within_the_value, states_of_runs_are_reached,
 };
 pub use load::run_load;
+pub use parts::run_parts;
 pub use spoken::{SayFault, say};
 pub use status::Status;
 pub use top::{run, run_check, run_plan};

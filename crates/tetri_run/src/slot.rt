@@ -1,6 +1,9 @@
 // One slot of a run.
 ghost use Rattle.std.specs.Prelude.{◌≡◌, ◌≤◌, ◌<◌, ◌^◌, IfOk, IsErrOf, OnOk};
+ghost use Rattle.tetri_advice.specs.Seat.{creeds_of};
+ghost use Rattle.tetri_advice.specs.Sitting.{seats};
 ghost use Rattle.tetri_algebra.specs.Counts.{Rose};
+ghost use Rattle.tetri_run.specs.Advised.{IsAdvice};
 ghost use Rattle.tetri_run.specs.Cycle.{IsPlannedCycle};
 ghost use Rattle.tetri_run.specs.Progress.{IsReady, RanSlot, StoppedInSlot};
 ghost use Rattle.tetri_run.specs.Run.{optimal_count};
@@ -13,8 +16,9 @@ ghost use Rattle.tetri_trace.specs.Scenario.{scenario};
 ghost use Rattle.tetri_trace.specs.Sound.{IsSound};
 
 use crate::halt::Halt;
-use crate::planner::{Told, plan_cycle};
+use crate::planner::{Told, told_cycle};
 use std::alloc::{AllocError, Global};
+use tetri_advice::{Advisor, PanelOf};
 use tetri_cert::PlanMark;
 use tetri_io::{Sink, send_all};
 use tetri_report::print_cycle;
@@ -48,26 +52,35 @@ pub(crate) struct Ready {
     pub(crate) tally: SlotTally,
 }
 
-// Plans the slot that begins in this state, and makes its lines and its launch ready. The slot has begun afterwards.
-fn ready_slot(alloc: Global, trace: &Trace, state: &mut State) -> Result<Ready, AllocError>
+/// Plans the slot that begins in this state, once the panel was asked, and makes its lines and its launch ready. The slot has begun
+/// afterwards.
+pub(crate) fn ready_slot<A: Advisor>(
+    alloc: Global,
+    trace: &Trace,
+    state: &mut State,
+    panel: &mut PanelOf<A>,
+) -> Result<Ready, AllocError>
     requires sound { IsSound (scenario trace.now) }
     requires reached { IsReached (scenario trace.now) between state.old }
     requires in_run { state.old.now < (scenario trace.now).header.until }
     ensures begun { OnOk result (state.new ≡ begin (scenario trace.entry.now) state.old) }
-    ensures ready { IfOk result (IsReady (scenario trace.entry.now) state.old) }
+    ensures ready { IfOk result (IsReady (IsAdvice (seats A.says A.misses A.creed panel.old) panel.old.missed (seats A.says A.misses A.creed panel.new) panel.new.missed) (scenario trace.entry.now) state.old) }
     ensures most { IfOk result (λ r. r.tally.optimal ≤ 1) }
     ensures small { IfOk result (λ r. r.tally.worth < 2 ^ 64) }
+    ensures creeds { creeds_of (seats A.says A.misses A.creed panel.new) ≡ creeds_of (seats A.says A.misses A.creed panel.old) }
+    ensures later_misses { panel.old.missed ≤ panel.new.missed }
 {
     jobs_of_a_run_are_known(trace);
     let happened = state.begin_cycle(alloc, trace)?;
     let inst = state.instance(alloc, trace)?;
     let carry = state.carry(alloc, trace, &inst)?;
-    let told = plan_cycle(
+    let told = told_cycle(
         alloc,
         &inst,
         inst.now,
         happened,
         &carry,
+        panel,
         trace.header.budget,
     )?;
     let text = print_cycle(alloc, trace, &told.cycle)?;
@@ -83,26 +96,31 @@ fn ready_slot(alloc: Global, trace: &Trace, state: &mut State) -> Result<Ready, 
     })
 }
 
-/// Runs the slot that begins in this state: its cycle is planned and prepared, then written by one send, and then applied. What
-/// is written at a fault is a proper front of its lines, and without memory nothing is.
-pub(crate) fn run_slot<K: Sink>(
+/// Runs the slot that begins in this state: its cycle is planned, once the panel was asked, and prepared, then written by one send, and
+/// then applied. What is written at a fault is a proper front of its lines, and without memory nothing is.
+pub(crate) fn run_slot<K: Sink, A: Advisor>(
     alloc: Global,
     trace: &Trace,
     state: &mut State,
     sink: &mut K,
+    panel: &mut PanelOf<A>,
 ) -> Result<SlotTally, Halt>
     requires sound { IsSound (scenario trace.now) }
     requires reached { IsReached (scenario trace.now) between state.old }
     requires in_run { state.old.now < (scenario trace.now).header.until }
-    ensures ok { IfOk result (λ tally. RanSlot (scenario trace.entry.now) state.old state.new tally (K.written sink.old) (K.written sink.new)) }
+    ensures ok { IfOk result (λ tally. RanSlot (IsAdvice (seats A.says A.misses A.creed panel.old) panel.old.missed (seats A.says A.misses A.creed panel.new) panel.new.missed)
+        (scenario trace.entry.now) state.old state.new tally (K.written sink.old) (K.written sink.new)) }
     ensures most { IfOk result (λ tally. tally.optimal ≤ 1) }
     ensures small { IfOk result (λ tally. tally.worth < 2 ^ 64) }
-    ensures failed { IsErrOf result Halt.WriteFault → StoppedInSlot (scenario trace.entry.now) state.old (K.written sink.old) (K.written sink.new) }
+    ensures failed { IsErrOf result Halt.WriteFault → StoppedInSlot (IsAdvice (seats A.says A.misses A.creed panel.old) panel.old.missed (seats A.says A.misses A.creed panel.new) panel.new.missed)
+        (scenario trace.entry.now) state.old (K.written sink.old) (K.written sink.new) }
     ensures memory { IsErrOf result Halt.NoMemory → K.written sink.new ≡ K.written sink.old }
     ensures write { IsErrOf result Halt.WriteFault → Rose (K.faults sink.old) (K.faults sink.new) }
     ensures later { K.faults sink.old ≤ K.faults sink.new }
+    ensures creeds { creeds_of (seats A.says A.misses A.creed panel.new) ≡ creeds_of (seats A.says A.misses A.creed panel.old) }
+    ensures later_misses { panel.old.missed ≤ panel.new.missed }
 {
-    let ready = ready_slot(alloc, trace, state)?;
+    let ready = ready_slot(alloc, trace, state, panel)?;
     send_all(sink, &ready.text)?;
     state.apply(ready.prepared);
     Ok(ready.tally)

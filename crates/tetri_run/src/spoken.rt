@@ -4,7 +4,7 @@ ghost use Rattle.std.specs.Io.KnownBytes.{append_known};
 ghost use Rattle.tetri_algebra.specs.Counts.{Rose};
 ghost use Rattle.tetri_io.specs.Sink.{AppendsPart};
 ghost use Rattle.tetri_run.specs.Ended.{NeedsMemory};
-ghost use Rattle.tetri_run.specs.Status.{bad_trace_words, fault_words, field_words, refusal_name, refusal_values, refused_words, rule_name, rule_values, status_words, tree_words, why_name, why_values, why_words};
+ghost use Rattle.tetri_run.specs.Status.{bad_trace_words, refusal_name, refusal_values, refused_words, rule_name, rule_values, status_words, tree_words};
 ghost use Rattle.tetri_run.specs.declared.why.Why.TheVariants as whys;
 ghost use Rattle.tetri_trace.specs.declared.fault.TraceWhy.{TraceWhy};
 
@@ -14,9 +14,8 @@ use std::alloc::{AllocError, Global};
 use std::fmt::Write;
 use tetri_cert::TreeWhy;
 use tetri_io::{Failed, Sink, send_all};
-use tetri_parse::Fault;
 use tetri_space::{Rule, Unlawful};
-use tetri_trace::{Field, TraceWhy};
+use tetri_trace::TraceWhy;
 use thiserror::Error;
 
 /// Why a status was not said.
@@ -52,110 +51,13 @@ impl From<AllocError> for SayFault {
     }
 }
 
-// A fault in words.
-fn fault_word(fault: Fault) -> &'static str
-    ensures { result.now ≡ fault_words fault }
-{
-    match fault {
-        Fault::Unexpected => "unexpected",
-        Fault::Ended => "ended",
-        Fault::Trailing => "trailing",
-        Fault::NumberRange => "number-range",
-        Fault::UnknownSet => "unknown-set",
-        Fault::Uneven => "uneven",
-        Fault::Mixed => "mixed",
-        Fault::TooDeep => "too-deep",
-        Fault::TooManyLeaves => "too-many-leaves",
-        Fault::TooRich => "too-rich",
-        Fault::TooManySets => "too-many-sets",
-    }
-}
-
-// A field as its key.
-fn field_word(field: Field) -> &'static str
-    ensures { result.now ≡ field_words field }
-{
-    match field {
-        Field::Nodes => "nodes",
-        Field::Window => "window",
-        Field::Budget => "budget",
-        Field::Until => "until",
-        Field::Unit => "unit",
-        Field::Closures => "closures",
-        Field::At => "at",
-        Field::Arrive => "arrive",
-        Field::Cancel => "cancel",
-        Field::Drain => "drain",
-        Field::Undrain => "undrain",
-        Field::Fail => "fail",
-        Field::Late => "late",
-        Field::Strl => "strl",
-        Field::Ask => "ask",
-        Field::K => "k",
-        Field::Set => "set",
-        Field::Dur => "dur",
-        Field::Value => "value",
-        Field::Deadline => "deadline",
-        Field::Prefer => "prefer",
-        Field::PreferSet => "prefer.set",
-        Field::PreferDur => "prefer.dur",
-        Field::Class => "class",
-        Field::Elastic => "elastic",
-    }
-}
-
-// The name of a cause.
-fn why_name(why: TraceWhy) -> &'static str
-    ensures { result.now ≡ why_name why }
-{
-    match why {
-        TraceWhy::LineTooLong => "line-too-long",
-        TraceWhy::TraceTooLong => "trace-too-long",
-        TraceWhy::NotJson => "not-json",
-        TraceWhy::NotObject => "not-object",
-        TraceWhy::NoHeader => "no-header",
-        TraceWhy::MissingField(_) => "missing-field",
-        TraceWhy::BadField(_) => "bad-field",
-        TraceWhy::UnknownEvent => "unknown-event",
-        TraceWhy::OutOfOrder => "out-of-order",
-        TraceWhy::PastEnd => "past-end",
-        TraceWhy::NameTaken => "name-taken",
-        TraceWhy::NoSuchJob => "no-such-job",
-        TraceWhy::NoSuchNode => "no-such-node",
-        TraceWhy::BadStrl { .. } => "bad-strl",
-        TraceWhy::TooManyJobs => "too-many-jobs",
-    }
-}
-
-// Adds the values of a cause, each after a space.
-fn add_why_values(out: &mut String, why: TraceWhy) -> Result<(), AllocError>
-    ensures { OnOk result (string_bytes out.new ≡ string_bytes out.old ++ why_values why) }
-{
-    match why {
-        TraceWhy::MissingField(field) | TraceWhy::BadField(field) => {
-            write!(out, " {}", field_word(field))
-        }
-        TraceWhy::BadStrl { offset, fault } => write!(out, " {offset} {}", fault_word(fault)),
-        _ => Ok(()),
-    }
-}
-
-// Adds a cause in words, with its values.
-#[tactic(auto, unfolding(crate::specs::Status::why_words))]
-fn add_why(out: &mut String, why: TraceWhy) -> Result<(), AllocError>
-    ensures { OnOk result (string_bytes out.new ≡ string_bytes out.old ++ why_words why) }
-{
-    out.push_str(why_name(why))?;
-    add_why_values(out, why)
-}
-
 #[tactic(auto, unfolding(crate::specs::Status::bad_trace_words))]
 fn bad_trace_line(alloc: Global, line: u64, why: TraceWhy) -> Result<String, AllocError>
     ensures { IfOk result (λ s. string_bytes s ≡ bad_trace_words line why) }
 {
     let mut out = String::new(alloc);
     write!(out, "bad trace: line {line}: ")?;
-    add_why(&mut out, why)?;
+    why.print_onto(&mut out)?;
     out.push_str("\n")?;
     Ok(out)
 }
@@ -279,7 +181,7 @@ pub fn say<K: Sink>(alloc: Global, status: &Status, sink: &mut K) -> Result<(), 
         }
         Status::Usage => send_all(
             sink,
-            b"usage: tetri plan TRACE | check TRACE REPORT | load N\n",
+            b"usage: tetri plan TRACE | check TRACE REPORT | load N | parts TRACE\n",
         )?,
         Status::ReadFault => send_all(sink, b"read fault\n")?,
         Status::WriteFault => send_all(sink, b"write fault\n")?,

@@ -1,77 +1,49 @@
-// The words of the command line, and what is done for them.
-ghost use Rattle.std.specs.Prelude.{◌≡◌, ◌≢◌, ◌↔◌, ◌≤◌, ◌<◌, ◌^◌, ◌⊎◌, List, ℕ, Some, None, Ok, Err, IfSome, option_map};
+// What is done for the words of the command line.
+ghost use Rattle.std.specs.Prelude.{◌≡◌, ◌≢◌, ◌↔◌, ◌≤◌, ◌⊎◌, List, ℕ, Some, None, Ok, Err};
+ghost use Rattle.tetri_advice.specs.Seat.{creeds_of};
+ghost use Rattle.tetri_advice.specs.Sitting.{seats};
 ghost use Rattle.tetri_algebra.specs.Counts.{Rose};
-ghost use Rattle.tetri_io.specs.Numbers.{digits_below};
 ghost use Rattle.tetri_make.specs.Generated.{generated};
+ghost use Rattle.tetri_run.specs.Advised.{IsAdvisedRun};
+ghost use Rattle.tetri_run.specs.ByParts.{IsPartsPromised};
 ghost use Rattle.tetri_run.specs.Check.{IsAccepted};
-ghost use Rattle.tetri_run.specs.Status.{IsCheckPromised, IsLoadAnswer, IsPromised, IsRefusal, IsSilent, RoseOf, status_of, trace_of};
+ghost use Rattle.tetri_run.specs.Status.{IsCheckPromised, IsLoadAnswer, IsPromised, IsPromisedOf, IsRefusal, IsSilent, RoseOf, status_of, trace_of};
 ghost use Rattle.tetri_run.specs.declared.why.Why.{Why};
 ghost use Rattle.tetri_trace.specs.declared.fault.TraceWhy.{TraceWhy};
-ghost use Rattle.tetri_run.specs.Words.{Asked, IsSmall, asked, asked_of, texts, to_check, to_load, to_plan};
+ghost use Rattle.tetri_run.specs.Words.{Asked, asked, texts, to_check, to_load, to_parts, to_plan};
 ghost use Rattle.tetri_trace.specs.Lines.{scenario_in};
 ghost use Rattle.tetri_trace.specs.Scenario.{Scenario};
 
 use crate::accepted::check_trace;
 use crate::cycles::run_cycles;
 use crate::load::run_load;
+use crate::parts::run_parts;
 use crate::status::Status;
+use crate::words::{Request, asked};
 use std::alloc::Global;
-use tetri_io::{Shelf, Sink, digits_below};
+use tetri_advice::Panel;
+use tetri_io::{Shelf, Sink};
 use tetri_trace::{TraceFault, read_trace};
-
-/// What the words ask for, by names or by a number below 2^31.
-#[derive(Clone, Copy, Debug)]
-pub(crate) enum Request<'a> {
-    Plan { trace: &'a str },
-    Check { trace: &'a str, report: &'a str },
-    Load { number: u32 },
-}
-
-// The number of a generated trace: 1 to 10 digits, with a value below 2^31.
-fn load_number(word: &str) -> Option<u32>
-    ensures value { result ≡ digits_below (2 ^ 31) word.now }
-    ensures below { IfSome result (λ n. n < 2 ^ 31) }
-{
-    match digits_below(1 << 31, word.as_bytes()) {
-        Some(number) => Some(number as u32),
-        None => None,
-    }
-}
-
-// What is asked for: `plan` and one more word, `check` and two more, or `load` and a number.
-fn asked(words: &[String]) -> Option<Request<'_>>
-    ensures asked { option_map asked_of result ≡ asked (texts words.now) }
-    ensures small { IfSome result IsSmall }
-{
-    match words {
-        [verb, trace] if verb.as_str() == "plan" => Some(Request::Plan {
-            trace: trace.as_str(),
-        }),
-        [verb, trace, report] if verb.as_str() == "check" => Some(Request::Check {
-            trace: trace.as_str(),
-            report: report.as_str(),
-        }),
-        [verb, number] if verb.as_str() == "load" => match load_number(number.as_str()) {
-            Some(number) => Some(Request::Load { number }),
-            None => None,
-        },
-        _ => None,
-    }
-}
 
 /// Does what the words ask: `plan TRACE` plans the trace of that name and writes its report; `check TRACE REPORT` checks the
 /// report of that name against the trace, and writes that it is accepted, where it is; and `load N` runs the trace that is made of
-/// the number N, 1 to 10 digits with a value below 2^31, and writes the summary of its run alone.
+/// the number N, 1 to 10 digits with a value below 2^31, and writes the summary of its run alone. `parts TRACE` plans the trace part by
+/// part, each group of jobs that can share no node with others by itself, and asks no panel.
 pub fn run<S: Shelf, K: Sink>(
     alloc: Global,
     words: &[String],
     shelf: &mut S,
     sink: &mut K,
+    panel: &mut Panel,
 ) -> Status
     ensures usage { (result ≡ Status.Usage) ↔ (asked (texts words.now) ≡ None) }
     ensures promise { (name content : List ℕ) → asked (texts words.now) ≡ Some (to_plan name)
         → S.told shelf.old name ≡ Some content
         → IsPromised result (scenario_in content) (K.written sink.old) (K.written sink.new) }
+    ensures advised { (name content : List ℕ) → asked (texts words.now) ≡ Some (to_plan name)
+        → S.told shelf.old name ≡ Some content
+        → IsPromisedOf (IsAdvisedRun (seats (λ b. says b) (λ b. misses b) (λ b. creed b) panel.old) panel.old.missed panel.new.missed)
+        result (scenario_in content) (K.written sink.old) (K.written sink.new) }
     ensures check { (trace report content lines : List ℕ) → asked (texts words.now) ≡ Some (to_check trace report)
         → S.told shelf.old trace ≡ Some content → S.told shelf.old report ≡ Some lines
         → IsCheckPromised result (scenario_in content) lines (K.written sink.old) (K.written sink.new) }
@@ -79,7 +51,11 @@ pub fn run<S: Shelf, K: Sink>(
     ensures bad_trace { (trace report content : List ℕ) (line : ℕ) (why : TraceWhy) → asked (texts words.now) ≡ Some (to_check trace report)
         → S.told shelf.old trace ≡ Some content → result ≡ Status.BadTrace line why → scenario_in content ≡ Err (line, why) }
     ensures load { (number : ℕ) → asked (texts words.now) ≡ Some (to_load number)
-        → IsLoadAnswer result (generated number) (K.written sink.old) (K.written sink.new) }
+        → IsLoadAnswer (IsAdvisedRun (seats (λ b. says b) (λ b. misses b) (λ b. creed b) panel.old) panel.old.missed panel.new.missed)
+        result (generated number) (K.written sink.old) (K.written sink.new) }
+    ensures parts { (name content : List ℕ) → asked (texts words.now) ≡ Some (to_parts name)
+        → S.told shelf.old name ≡ Some content
+        → IsPartsPromised result (scenario_in content) (K.written sink.old) (K.written sink.new) }
     ensures silent { IsSilent result (K.written sink.old) (K.written sink.new) }
     ensures check_silent { (trace report : List ℕ) → asked (texts words.now) ≡ Some (to_check trace report)
         → result ≢ Status.Done → result ≢ Status.WriteFault → K.written sink.new ≡ K.written sink.old }
@@ -110,24 +86,36 @@ pub fn run<S: Shelf, K: Sink>(
     ensures loads { (number : ℕ) → asked (texts words.now) ≡ Some (to_load number)
         → ¬ Rose (K.faults sink.old) (K.faults sink.new)
         → (result ≡ Status.Done) ⊎ (result ≡ Status.NoMemory) }
+    ensures parts_complete { (name content : List ℕ) (t : Scenario) → asked (texts words.now) ≡ Some (to_parts name)
+        → S.told shelf.old name ≡ Some content → scenario_in content ≡ Ok t
+        → ¬ Rose (S.faults shelf.old name) (S.faults shelf.new name)
+        → ¬ Rose (K.faults sink.old) (K.faults sink.new)
+        → (result ≡ Status.Done) ⊎ (result ≡ Status.NoMemory) }
     ensures refuses { (a : Asked) (name content : List ℕ) (line : ℕ) (why : TraceWhy) → asked (texts words.now) ≡ Some a
         → trace_of a ≡ Some name → S.told shelf.old name ≡ Some content → scenario_in content ≡ Err (line, why)
         → ¬ Rose (S.faults shelf.old name) (S.faults shelf.new name)
         → (result ≡ Status.BadTrace line why) ⊎ (result ≡ Status.NoMemory) }
     ensures same { S.told shelf.new ≡ S.told shelf.old }
+    ensures creeds { creeds_of (seats (λ b. says b) (λ b. misses b) (λ b. creed b) panel.new) ≡ creeds_of (seats (λ b. says b) (λ b. misses b) (λ b. creed b) panel.old) }
+    ensures unasked { (trace report : List ℕ) → asked (texts words.now) ≡ Some (to_check trace report)
+        → (seats (λ b. says b) (λ b. misses b) (λ b. creed b) panel.new ≡ seats (λ b. says b) (λ b. misses b) (λ b. creed b) panel.old) × (panel.new.missed ≡ panel.old.missed) }
+    ensures parts_unasked { (name : List ℕ) → asked (texts words.now) ≡ Some (to_parts name)
+        → (seats (λ b. says b) (λ b. misses b) (λ b. creed b) panel.new ≡ seats (λ b. says b) (λ b. misses b) (λ b. creed b) panel.old) × (panel.new.missed ≡ panel.old.missed) }
     ensures later_reads { (other : List ℕ) → S.faults shelf.old other ≤ S.faults shelf.new other }
     ensures later_writes { K.faults sink.old ≤ K.faults sink.new }
+    ensures later_misses { panel.old.missed ≤ panel.new.missed }
 {
     match asked(words) {
-        Some(Request::Plan { trace }) => run_plan(alloc, trace, shelf, sink),
+        Some(Request::Plan { trace }) => run_plan(alloc, trace, shelf, sink, panel),
         Some(Request::Check { trace, report }) => run_check(alloc, trace, report, shelf, sink),
-        Some(Request::Load { number }) => run_load(alloc, number, sink),
+        Some(Request::Load { number }) => run_load(alloc, number, sink, panel),
+        Some(Request::Parts { trace }) => run_parts(alloc, trace, shelf, sink),
         None => Status::Usage,
     }
 }
 
-// The status of a trace that is not read.
-fn status_of(fault: TraceFault) -> Status
+/// The status of a trace that is not read.
+pub(crate) fn status_of(fault: TraceFault) -> Status
     ensures { result ≡ status_of fault }
 {
     match fault {
@@ -137,13 +125,22 @@ fn status_of(fault: TraceFault) -> Status
     }
 }
 
-/// Plans the trace that a name holds and writes its report: each cycle by one send once it is planned, and then the summary by
-/// one more.
-pub fn run_plan<S: Shelf, K: Sink>(alloc: Global, name: &str, shelf: &mut S, sink: &mut K) -> Status
+/// Plans the trace that a name holds and writes its report: each cycle by one send once the panel was asked and it is planned, and then
+/// the summary by one more.
+pub fn run_plan<S: Shelf, K: Sink>(
+    alloc: Global,
+    name: &str,
+    shelf: &mut S,
+    sink: &mut K,
+    panel: &mut Panel,
+) -> Status
     ensures usage { result ≢ Status.Usage }
     ensures refused { (line : ℕ) (why : Why) → result ≢ Status.Refused line why }
     ensures promise { (content : List ℕ) → S.told shelf.old name.now ≡ Some content
         → IsPromised result (scenario_in content) (K.written sink.old) (K.written sink.new) }
+    ensures advised { (content : List ℕ) → S.told shelf.old name.now ≡ Some content
+        → IsPromisedOf (IsAdvisedRun (seats (λ b. says b) (λ b. misses b) (λ b. creed b) panel.old) panel.old.missed panel.new.missed)
+        result (scenario_in content) (K.written sink.old) (K.written sink.new) }
     ensures silent { IsSilent result (K.written sink.old) (K.written sink.new) }
     ensures read { result ≡ Status.ReadFault
         → Rose (S.faults shelf.old name.now) (S.faults shelf.new name.now) }
@@ -159,10 +156,12 @@ pub fn run_plan<S: Shelf, K: Sink>(alloc: Global, name: &str, shelf: &mut S, sin
         → (result ≡ Status.BadTrace line why) ⊎ (result ≡ Status.NoMemory) }
     ensures same { S.told shelf.new ≡ S.told shelf.old }
     ensures later_reads { (other : List ℕ) → S.faults shelf.old other ≤ S.faults shelf.new other }
+    ensures creeds { creeds_of (seats (λ b. says b) (λ b. misses b) (λ b. creed b) panel.new) ≡ creeds_of (seats (λ b. says b) (λ b. misses b) (λ b. creed b) panel.old) }
     ensures later_writes { K.faults sink.old ≤ K.faults sink.new }
+    ensures later_misses { panel.old.missed ≤ panel.new.missed }
 {
     match read_trace(alloc, shelf, name) {
-        Ok(trace) => run_cycles(alloc, &trace, sink),
+        Ok(trace) => run_cycles(alloc, &trace, sink, panel),
         Err(fault) => status_of(fault),
     }
 }

@@ -1,4 +1,6 @@
-use Rattle.std.proofs.Common.{◌≡◌, ◌∙◌, ap, sym, subst, ◌<◌, length, All, []}
+use Rattle.std.proofs.Common.{◌≡◌, ◌∙◌, ap, sym, subst, ◌<◌, length, All}
+use Rattle.tetri_advice.specs.Sitting.{seats}
+use Rattle.tetri_advice.proofs.SeatLaws.{given_lawful}
 use Rattle.tetri_claims.specs.Good.{BoundsEveryLawful}
 use Rattle.tetri_report.specs.Block.{block}
 use Rattle.tetri_space.specs.Space.{Bid, Space, space}
@@ -12,11 +14,12 @@ use Rattle.tetri_trace.specs.Scenario.{scenario}
 use Rattle.tetri_judge.specs.PlanOf.{planned}
 use Rattle.tetri_plan.specs.Chosen.{IsChosen}
 use Rattle.tetri_run.specs.Cycle.{IsPlanFor, instance_at}
+use Rattle.tetri_run.specs.Advised.{IsAdvice}
 use Rattle.tetri_run.proofs.PrintLemmas.{cycle_printable}
 use Rattle.tetri_run.proofs.slot.ready_slot.Goals as goal
 
 pub print_cycle-requires : goal.print_cycle-requires
-print_cycle-requires c =
+print_cycle-requires g c =
     let t = scenario c.args.trace.now in
     let is = c.in_ok-inst.ensures.instance in
     cycle_printable t (space c.in_ok-inst.inst) c.in_ok-carry.carry (block c.in_ok-told.told.cycle) t.header.budget
@@ -29,19 +32,27 @@ print_cycle-requires c =
     c.in_ok-told.ensures.plan c.in_ok-told.ensures.printable
 
 pub prepare-requires-clause-lawful : goal.prepare-requires-clause-lawful
-prepare-requires-clause-lawful c = c.in_ok-told.ensures.plan.honest.lawful
+prepare-requires-clause-lawful g c = c.in_ok-told.ensures.plan.honest.lawful
 
 pub prepare-requires-clause-thrifty : goal.prepare-requires-clause-thrifty
-prepare-requires-clause-thrifty c = c.in_ok-told.ensures.plan.honest.thrifty
+prepare-requires-clause-thrifty g c = c.in_ok-told.ensures.plan.honest.thrifty
 
 pub returns-clause-ready : goal.returns-clause-ready
-returns-clause-ready c =
+returns-clause-ready g c =
     let t = scenario c.args.trace.now in
     let s = c.args.state.now in
     let b = block c.in_ok-told.told.cycle in
     let carry = c.in_ok-carry.carry in
+    let sat = seats g.A.Advisor.says g.A.Advisor.misses g.A.Advisor.creed in
+    let sits = sat c.args.panel.now in
+    let before = c.args.panel.now.missed in
+    let sat' = sat c.told_cycle.new.panel in
+    let now = c.told_cycle.new.panel.missed in
+    let chosen = c.in_ok-told.ensures.chosen in
+    let given = chosen.0 in
     let begun = c.in_ok-happened.ensures.state in
     let is : space c.in_ok-inst.inst ≡ instance_at t s = c.in_ok-inst.ensures.instance ∙ ap (instance_of t) begun in
+    let advice : IsAdvice sits before sat' now (instance_at t s) given = subst (λ (i : Space). IsAdvice sits before sat' now i given) is chosen.1 in
     record {
       block = b;
       planned = record {
@@ -53,7 +64,10 @@ returns-clause-ready c =
           plan = subst (λ (i : Space). IsPlanFor i t.header.budget carry b) is c.in_ok-told.ensures.plan;
         };
         bounded = subst (λ (i : Space). BoundsEveryLawful i b.bound) is c.in_ok-told.ensures.bounded;
-        chosen = subst (λ (i : Space). IsChosen i carry [] t.header.budget (planned b)) is c.in_ok-told.ensures.chosen;
+        given = given;
+        may = advice;
+        lawful = given_lawful (instance_at t s) sits advice.heard given advice.consulted.asked_sits advice.consulted.asked;
+        chosen = subst (λ (i : Space). IsChosen i carry given t.header.budget (planned b)) is chosen.2;
         ordered = c.in_ok-told.ensures.ordered;
         printable = c.in_ok-told.ensures.printable;
         in_range = c.in_ok-text.ensures.in_range;
