@@ -2,10 +2,11 @@
 //!
 //! A table is a text of sections. What stands before the first line that begins with `== ` is a comment; that line names the
 //! section's kind, and the lines below it are its text, blank lines at the end left out. The README lists the kinds. An argument
-//! that ends with `.jsonl` is a trace, and the report beside it is the one that is planned for it. One that ends with `.report` is a
-//! report that a check accepts.
+//! that ends with `.jsonl` is a trace, and the report beside it is the one that `tetri` plans for it, with its two advisors. One that
+//! ends with `.report` is a report that a check accepts.
 #![tactic(auto)]
 
+mod devices;
 mod runs;
 mod table;
 

@@ -2,33 +2,48 @@
 ghost use Rattle.std.specs.Prelude.{◌<◌};
 
 use std::alloc::{AllocError, Global};
+use tetri_advice::{Advisor, Panel};
+use tetri_greedy::{ByDeadline, ByWorth};
 use tetri_io::{MemShelf, MemSink};
 use tetri_run::{Status, Why, conclude, run, say};
 use tetri_tables::{Given, Tally, edited, halves};
 use tetri_trace::{Field, TraceWhy};
 
-// How a run is served: the bytes of a read and of a write at most, the bytes that there is room for, and the reads and writes
-// that fail.
+/// How a run is served: the names of its advisors, the bytes of a read and of a write at most, the bytes that there is room for, and
+/// the reads and writes that fail.
 #[derive(Drop)]
-struct Service {
-    read_most: usize,
-    write_most: usize,
-    room: usize,
-    reads: Vec<u64>,
-    writes: Vec<u64>,
+pub struct Service<'a> {
+    pub advisors: &'a str,
+    pub read_most: usize,
+    pub write_most: usize,
+    pub room: usize,
+    pub reads: Vec<u64>,
+    pub writes: Vec<u64>,
     ghost reads_some: { 0 < read_most },
     ghost writes_some: { 0 < write_most },
 }
 
-impl Service {
-    fn new(alloc: Global) -> Service {
+impl<'a> Service<'a> {
+    /// Of short pieces, with room enough, and nothing that fails.
+    pub fn new(alloc: Global, advisors: &'a str) -> Service<'a> {
         Service {
+            advisors,
             read_most: 64,
             write_most: 7,
             room: 4_000_000,
             reads: Vec::new(alloc),
             writes: Vec::new(alloc),
         }
+    }
+
+    /// Of words as `read 1; write 2; piece 64; width 7; room 100`.
+    pub fn of(alloc: Global, advisors: &'a str, limits: &str) -> Result<Service<'a>, AllocError> {
+        let mut service = Service::new(alloc, advisors);
+        for limit in limits.split("; ") {
+            let (word, number) = limit.split_once(' ').unwrap_or((limit, ""));
+            service.set(word, number.parse::<u64>().unwrap_or(0))?;
+        }
+        Ok(service)
     }
 
     // Takes a word of a row.
@@ -46,11 +61,11 @@ impl Service {
     }
 }
 
-// What was written, and what is said of the status.
+/// What was written, and what is said of the status.
 #[derive(Drop)]
-struct Outcome {
-    written: String,
-    said: String,
+pub struct Outcome {
+    pub written: String,
+    pub said: String,
 }
 
 fn text_of(alloc: Global, bytes: &[u8]) -> Result<String, AllocError> {
@@ -80,44 +95,73 @@ fn said_of(alloc: Global, status: &Status) -> Result<String, AllocError> {
     }
 }
 
-fn run_words(
+/// Runs the words with the advisors that are named, in this order: `deadline` and `worth`.
+pub fn run_words(
     alloc: Global,
     given: &Given,
-    service: &Service,
+    service: &Service<'_>,
     line: &str,
 ) -> Result<Outcome, AllocError> {
+    let mut panel = Panel::new(alloc);
+    for name in service.advisors.split(',') {
+        if name == "deadline" {
+            let one: Box<dyn Advisor> = Box::new(alloc, ByDeadline::new())?;
+            if panel.seat(one).is_err() {
+                return Err(AllocError);
+            }
+        }
+        if name == "worth" {
+            let one: Box<dyn Advisor> = Box::new(alloc, ByWorth::new())?;
+            if panel.seat(one).is_err() {
+                return Err(AllocError);
+            }
+        }
+    }
     let mut shelf = MemShelf::new(alloc, service.read_most, &service.reads)?;
     shelf.put("trace", given.trace.as_bytes())?;
     shelf.put("report", given.report.as_bytes())?;
     let mut sink = MemSink::new(alloc, service.write_most, service.room, &service.writes)?;
     let words = words_of(alloc, line)?;
-    let status = run(alloc, words.as_slice(), &mut shelf, &mut sink);
+    let status = run(alloc, words.as_slice(), &mut shelf, &mut sink, &mut panel);
     Ok(Outcome {
         written: text_of(alloc, sink.written())?,
         said: said_of(alloc, &status)?,
     })
 }
 
-// What a run writes and says, one behind the other.
-fn answer(alloc: Global, given: &Given, line: &str) -> Result<String, AllocError> {
-    let outcome = run_words(alloc, given, &Service::new(alloc), line)?;
+// What a run with these advisors writes and says, one behind the other.
+fn answer(alloc: Global, given: &Given, advisors: &str, line: &str) -> Result<String, AllocError> {
+    let outcome = run_words(alloc, given, &Service::new(alloc, advisors), line)?;
     format!(in alloc; "{}{}", outcome.written, outcome.said)
 }
 
 fn check_answer(alloc: Global, given: &Given) -> Result<String, AllocError> {
-    let answer = answer(alloc, given, "check trace report")?;
+    let answer = answer(alloc, given, "", "check trace report")?;
     String::from_str(alloc, answer.as_str().trim_end_matches('\n'))
 }
 
-/// The trace is planned, and its report is the text, which is then accepted by a check.
-pub fn plan(
+/// The trace is planned part by part, and its report is the text.
+pub fn parts(
     alloc: Global,
-    given: &mut Given,
+    given: &Given,
     tally: &mut Tally,
     body: &str,
 ) -> Result<(), AllocError> {
     let wanted = format!(in alloc; "{body}\n")?;
-    let found = answer(alloc, given, "plan trace")?;
+    let found = answer(alloc, given, "", "parts trace")?;
+    tally.expect(given.trace.as_str(), found.as_str(), wanted.as_str())
+}
+
+/// The trace is planned with these advisors, and its report is the text, which is then accepted by a check.
+pub fn plan(
+    alloc: Global,
+    given: &mut Given,
+    tally: &mut Tally,
+    advisors: &str,
+    body: &str,
+) -> Result<(), AllocError> {
+    let wanted = format!(in alloc; "{body}\n")?;
+    let found = answer(alloc, given, advisors, "plan trace")?;
     tally.expect(given.trace.as_str(), found.as_str(), wanted.as_str())?;
     given.report = wanted;
     accepted(alloc, given, tally)
@@ -142,7 +186,7 @@ pub fn no_plan(
     tally: &mut Tally,
     wanted: &str,
 ) -> Result<(), AllocError> {
-    let found = answer(alloc, given, "plan trace")?;
+    let found = answer(alloc, given, "", "plan trace")?;
     tally.expect(given.trace.as_str(), found.as_str(), wanted)
 }
 
@@ -175,22 +219,19 @@ pub fn forged(
     Ok(())
 }
 
-/// Rows `WORDS; WORD NUMBER; .. => SAID; WRITTEN`: what a run of the words says and writes, with `|` for a line feed, where
-/// reads and writes of these numbers fail.
+/// Rows `WORDS; WORD NUMBER; .. => SAID; WRITTEN`: what a run of the words with these advisors says and writes, with `|` for a line
+/// feed, where reads and writes of these numbers fail.
 pub fn failing(
     alloc: Global,
     given: &Given,
     tally: &mut Tally,
+    advisors: &str,
     body: &str,
 ) -> Result<(), AllocError> {
     for row in body.lines() {
         let (how, wanted) = halves(row);
         let (words, limits) = how.split_once("; ").unwrap_or((how, ""));
-        let mut service = Service::new(alloc);
-        for limit in limits.split("; ") {
-            let (word, number) = limit.split_once(' ').unwrap_or((limit, ""));
-            service.set(word, number.parse::<u64>().unwrap_or(0))?;
-        }
+        let service = Service::of(alloc, advisors, limits)?;
         let outcome = run_words(alloc, given, &service, words)?;
         let mut found = format!(in alloc; "{}; ", outcome.said)?;
         for line in outcome.written.as_str().split_inclusive('\n') {

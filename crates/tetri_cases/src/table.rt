@@ -1,5 +1,5 @@
 // The sections of a table.
-use crate::runs;
+use crate::{devices, runs};
 use std::alloc::{AllocError, Global};
 use tetri_tables::{Given, Tally, expand_text, sections_of};
 
@@ -15,22 +15,35 @@ fn judge_section(
     }
     let (word, more) = kind.split_once(": ").unwrap_or((kind, ""));
     match word {
-        "plan" => runs::plan(alloc, given, tally, body),
+        "plan" => runs::plan(alloc, given, tally, more, body),
         "made plan" => {
             let body = expand_text(alloc, body)?;
-            runs::plan(alloc, given, tally, body.as_str().trim_end_matches('\n'))
+            runs::plan(
+                alloc,
+                given,
+                tally,
+                more,
+                body.as_str().trim_end_matches('\n'),
+            )
+        }
+        "made parts" => {
+            let body = expand_text(alloc, body)?;
+            runs::parts(alloc, given, tally, body.as_str().trim_end_matches('\n'))
         }
         "no plan" => runs::no_plan(alloc, given, tally, more),
         "check" => runs::check(alloc, given, tally, more),
         "forged" => runs::forged(alloc, given, tally, body),
-        "failing" => runs::failing(alloc, given, tally, body),
+        "failing" => runs::failing(alloc, given, tally, more, body),
+        "each read" => devices::each_read(alloc, given, tally, more, body),
+        "each write" => devices::each_write(alloc, given, tally, more, body),
+        "each cut" => devices::each_cut(alloc, given, tally),
         "words" => runs::words(alloc, tally, body),
         "endings" => runs::endings(alloc, tally, body),
         _ => tally.expect("a section", kind, "a known kind"),
     }
 }
 
-/// Judges a trace with a report that a check accepts, and that is planned for it where this is said.
+/// Judges a trace with a report that a check accepts, and that is planned for it by the program's own advisors where this is said.
 pub fn judge_example(
     alloc: Global,
     trace: String,
@@ -42,7 +55,7 @@ pub fn judge_example(
     let mut tally = Tally::new(alloc);
     if is_planned {
         let body = report.as_str().trim_end_matches('\n');
-        runs::plan(alloc, &mut given, &mut tally, body)?;
+        runs::plan(alloc, &mut given, &mut tally, "deadline,worth", body)?;
     } else {
         given.report = report;
         runs::accepted(alloc, &given, &mut tally)?;

@@ -2,6 +2,7 @@
 //! cases there were. The README lists the kinds of sections.
 #![tactic(auto)]
 
+mod judged;
 mod reports;
 mod table;
 mod traces;

@@ -1,5 +1,5 @@
 // The sections of a table.
-use crate::{reports, traces};
+use crate::{judged, reports, traces};
 use std::alloc::{AllocError, Global};
 use tetri_tables::{Given, Tally, sections_of};
 
@@ -13,7 +13,9 @@ fn judge_section(
     if given.take(alloc, kind, body)? {
         return Ok(());
     }
-    match kind {
+    let (word, more) = kind.split_once(": ").unwrap_or((kind, ""));
+    match word {
+        "judged" => judged::judged(alloc, given, tally, more),
         "first faults" => traces::first_faults(alloc, given, tally, body),
         "changed headers" => traces::changed_headers(alloc, given, tally, body),
         "changed jobs" => traces::changed_jobs(alloc, given, tally, body),

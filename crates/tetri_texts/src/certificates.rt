@@ -2,7 +2,7 @@
 use std::alloc::{AllocError, Global};
 use tetri_base::Items;
 use tetri_cert::{Certificate, Mark, count_nodes, print, print_mark, read_mark};
-use tetri_tables::{Tally, expand};
+use tetri_tables::{Tally, expand, expand_text};
 
 // The mark of a line as it prints, or why there is none.
 fn told(alloc: Global, line: &[u8]) -> Result<String, AllocError> {
@@ -18,9 +18,10 @@ fn told(alloc: Global, line: &[u8]) -> Result<String, AllocError> {
 
 /// Each line is that of a mark, and prints so.
 pub fn marks(alloc: Global, tally: &mut Tally, body: &str) -> Result<(), AllocError> {
-    for line in body.lines() {
+    for row in body.lines() {
+        let line = expand_text(alloc, row)?;
         let found = told(alloc, line.as_bytes())?;
-        tally.expect("a mark", found.as_str(), line)?;
+        tally.expect("a mark", found.as_str(), line.as_str())?;
     }
     Ok(())
 }

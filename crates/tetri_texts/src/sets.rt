@@ -3,7 +3,7 @@ use crate::texts::fault_told;
 use std::alloc::{AllocError, Global};
 use tetri_cluster::{Cluster, Sets};
 use tetri_parse::{read_expr, read_set};
-use tetri_tables::{Given, Tally, answer, expand, halves};
+use tetri_tables::{Given, Tally, answer, expand, expand_text, halves};
 
 // The number and the nodes of what a text says.
 fn told(
@@ -63,7 +63,8 @@ pub fn sets(alloc: Global, given: &Given, tally: &mut Tally, body: &str) -> Resu
     for row in body.lines() {
         let (what, wanted) = halves(row);
         let found = row_told(alloc, &trace.cluster, &mut sets, what)?;
-        tally.expect(row, found.as_str(), wanted)?;
+        let wanted = expand_text(alloc, wanted)?;
+        tally.expect(row, found.as_str(), wanted.as_str())?;
     }
     Ok(())
 }

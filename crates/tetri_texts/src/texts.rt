@@ -4,7 +4,7 @@ ghost use Rattle.std.specs.Prelude.{◌≤◌};
 use std::alloc::{AllocError, Global};
 use tetri_cluster::{Cluster, Sets};
 use tetri_parse::{ParseFault, print_expr, read_expr};
-use tetri_tables::{Given, Tally, answer, expand, halves, tell_expr, worded};
+use tetri_tables::{Given, Tally, answer, expand, expand_text, halves, tell_expr, worded};
 
 /// The words of a fault: how many bytes stand before it, and its cause.
 pub fn fault_told(alloc: Global, fault: ParseFault) -> Result<String, AllocError> {
@@ -62,7 +62,8 @@ pub fn texts(
         if wanted == "read" && found.as_str().contains("nCk(") {
             tally.expect(row, "read", wanted)?;
         } else {
-            tally.expect(row, found.as_str(), wanted)?;
+            let wanted = expand_text(alloc, wanted)?;
+            tally.expect(row, found.as_str(), wanted.as_str())?;
         }
     }
     Ok(())
@@ -94,10 +95,11 @@ fn expect_printed(
     requires { arrival ≤ 10000 }
 {
     let (text, wanted) = halves(row);
-    let once = printed(alloc, text.as_bytes(), arrival, cluster)?;
+    let wanted = expand_text(alloc, wanted)?;
+    let once = printed(alloc, &expand(alloc, text)?, arrival, cluster)?;
     let twice = printed(alloc, &once, arrival, cluster)?;
-    tally.expect(row, str::from_utf8(&once).unwrap_or(""), wanted)?;
-    tally.expect(row, str::from_utf8(&twice).unwrap_or(""), wanted)
+    tally.expect(row, str::from_utf8(&once).unwrap_or(""), wanted.as_str())?;
+    tally.expect(row, str::from_utf8(&twice).unwrap_or(""), wanted.as_str())
 }
 
 /// Rows `TEXT => PRINTED`: how what a text says is printed, over the nodes of the trace, whatever the arrival. The printed

@@ -1,23 +1,21 @@
 // Cycles of a run over a trace: what happens, what is carried and launched, what runs, and what is told of each instance.
-ghost use Rattle.std.specs.Prelude.{◌≡◌, ◌<◌, IsTrue, OnOk};
+ghost use Rattle.std.specs.Prelude.{◌<◌, OnOk};
 ghost use Rattle.tetri_space.specs.Sound.{IsSound as IsSoundSpace};
 ghost use Rattle.tetri_space.specs.Space.{space};
-ghost use Rattle.tetri_space.specs.Trimmed.{IsThriftyForAll};
-ghost use Rattle.tetri_state.specs.Planning.{instance_of};
 ghost use Rattle.tetri_state.specs.Reached as moment;
 ghost use Rattle.tetri_state.specs.Reached.{IsReached};
 ghost use Rattle.tetri_trace.specs.Scenario.{scenario};
 ghost use Rattle.tetri_trace.specs.Sound.{IsSound};
 
-use crate::instances;
+use crate::parts;
 use std::alloc::{AllocError, Global};
-use tetri_space::{Instance, lawful};
+use tetri_space::Instance;
 use tetri_state::{
     Happened, PieceId, State, jobs_of_a_run_are_known, no_two_running_pieces_share_a_node,
     nodes_of_running_pieces_are_taken, running_pieces_run_on_unless_told,
 };
-use tetri_strl::{Allotment, waste};
-use tetri_tables::{Tally, answer, grants_in, grants_told, halves};
+use tetri_strl::Allotment;
+use tetri_tables::{Tally, answer, expand_text, grants_told, halves, launch, plan_of};
 use tetri_trace::Trace;
 
 // What is seen at the beginning of a cycle.
@@ -25,18 +23,6 @@ use tetri_trace::Trace;
 struct Seen {
     happened: Happened,
     carry: Allotment,
-}
-
-fn is_thrifty(inst: &Instance, a: &Allotment) -> bool
-    requires { IsSoundSpace (space inst.now) }
-    ensures { IsTrue result → IsThriftyForAll (space inst.entry.now) a.now }
-{
-    for offer in &inst.jobs {
-        if waste(&offer.expr, offer.job, a).is_some() {
-            return false;
-        }
-    }
-    true
 }
 
 fn pieces_told(out: &mut String, word: &str, pieces: &[PieceId]) -> Result<(), AllocError> {
@@ -73,7 +59,7 @@ fn told(alloc: Global, inst: &Instance, seen: &Seen, what: &str) -> Result<Strin
         "busy" => format!(in alloc; "{:?}", inst.busy_until),
         "drained" => format!(in alloc; "{:?}", inst.drained),
         "carry" => grants_told(alloc, seen.carry.as_slice()),
-        _ => instances::told(alloc, inst, word, rest),
+        _ => parts::told(alloc, inst, word, rest),
     }
 }
 
@@ -90,50 +76,12 @@ fn expect_rows(
     for row in rows.lines() {
         let (what, wanted) = halves(row);
         if !what.starts_with("plan") {
-            let found = told(alloc, inst, seen, what)?;
-            tally.expect(row, found.as_str(), wanted)?;
+            let what = expand_text(alloc, what)?;
+            let found = told(alloc, inst, seen, what.as_str())?;
+            let wanted = expand_text(alloc, wanted)?;
+            tally.expect(row, found.as_str(), wanted.as_str())?;
         }
     }
-    Ok(())
-}
-
-// The grants that are planned, and what they are to launch.
-fn plan_of(rows: &str) -> (&str, &str) {
-    for row in rows.lines() {
-        let (what, wanted) = halves(row);
-        if let Some(grants) = what.strip_prefix("plan ") {
-            return (grants, wanted);
-        }
-    }
-    ("", "[]")
-}
-
-fn launch(
-    alloc: Global,
-    tally: &mut Tally,
-    trace: &Trace,
-    state: &mut State,
-    inst: &Instance,
-    rows: &str,
-) -> Result<(), AllocError>
-    requires sound { IsSound (scenario trace.now) }
-    requires reached { IsReached (scenario trace.now) moment.begun state.old }
-    requires instance { space inst.now ≡ instance_of (scenario trace.now) state.old }
-    requires instance_sound { IsSoundSpace (space inst.now) }
-    ensures { OnOk result (IsReached (scenario trace.entry.now) moment.between state.new) }
-{
-    let (grants, wanted) = plan_of(rows);
-    let plan = grants_in(alloc, grants)?;
-    if lawful(inst, &plan).is_err() || !is_thrifty(inst, &plan) {
-        tally.expect(grants, "not lawful, or not thrifty", "a plan")?;
-        return Err(AllocError);
-    }
-    let prepared = state.prepare(alloc, trace, inst, &plan)?;
-    let launched = format!(in alloc; "{:?}", prepared.launched())?;
-    tally.expect(grants, launched.as_str(), wanted)?;
-    let kept = grants_told(alloc, prepared.grants().as_slice())?;
-    tally.expect("the last plan", kept.as_str(), grants)?;
-    state.apply(prepared);
     Ok(())
 }
 
@@ -156,7 +104,8 @@ fn cycle(
     let inst = state.instance(alloc, trace)?;
     let carry = state.carry(alloc, trace, &inst)?;
     expect_rows(alloc, tally, &inst, &Seen { happened, carry }, rows)?;
-    launch(alloc, tally, trace, state, &inst, rows)
+    let (grants, launched) = plan_of(rows);
+    launch(alloc, tally, trace, state, &inst, grants, launched)
 }
 
 fn piece_told(alloc: Global, state: &State, place: usize) -> Result<String, AllocError> {
@@ -221,7 +170,7 @@ fn run(alloc: Global, tally: &mut Tally, trace: &Trace, body: &str) -> Result<()
 /// Rows of a run over the trace, a block for each cycle with a blank line behind it. In a block stand what `happened`, how many
 /// jobs are `pending`, until when each node is `busy`, which are `drained`, what is the `carry`, rows of the instance, and
 /// `plan GRANTS => [LAUNCHED JOBS]`; without the last no grant is planned. A block that begins with `now` tells of the state
-/// between two cycles.
+/// between two cycles. All rows may have repetitions.
 pub fn cycles(alloc: Global, trace: &str, tally: &mut Tally, body: &str) -> Result<(), AllocError> {
     match answer(alloc, trace.as_bytes())? {
         Ok(trace) => run(alloc, tally, &trace, body),

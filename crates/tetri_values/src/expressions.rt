@@ -9,7 +9,7 @@ use tetri_strl::{
     Expr, aligned, copy_expr, copy_grants, idle_leaves, prune, thrifty_grants_start_together,
     top_in, trim, waste, waste_among, worth, worth_among,
 };
-use tetri_tables::{Tally, answer, grants_in, grants_told, halves, tell_expr};
+use tetri_tables::{Tally, answer, expand, expand_text, grants_in, grants_told, halves, tell_expr};
 
 // The job whose grants count.
 const JOB: u32 = 1;
@@ -89,8 +89,10 @@ fn expect_rows(alloc: Global, tally: &mut Tally, e: &Expr, body: &str) -> Result
     thrifty_grants_start_together(e);
     for row in body.lines() {
         let (what, wanted) = halves(row);
-        let found = told(alloc, e, what)?;
-        tally.expect(row, found.as_str(), wanted)?;
+        let what = expand_text(alloc, what)?;
+        let wanted = expand_text(alloc, wanted)?;
+        let found = told(alloc, e, what.as_str())?;
+        tally.expect(row, found.as_str(), wanted.as_str())?;
     }
     Ok(())
 }
@@ -109,8 +111,9 @@ pub fn expression(
         return tally.expect("a trace", "refused", "read");
     };
     let mut sets = Sets::new(alloc);
-    match read_expr(alloc, text.as_bytes(), 1, 0, &trace.cluster, &mut sets) {
+    let text = expand(alloc, text)?;
+    match read_expr(alloc, &text, 1, 0, &trace.cluster, &mut sets) {
         Ok(e) => expect_rows(alloc, tally, &e, body),
-        Err(_) => tally.expect(text, "refused", "read"),
+        Err(_) => tally.expect("an expression", "refused", "read"),
     }
 }

@@ -8,6 +8,7 @@ mod expressions;
 mod fractions;
 mod instances;
 mod node_sets;
+mod parts;
 mod programs;
 mod runs_of_programs;
 mod table;

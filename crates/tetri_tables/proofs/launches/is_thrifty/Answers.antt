@@ -5,7 +5,7 @@ use Rattle.tetri_strl.specs.Thrifty.{IsThriftyFor}
 use Rattle.tetri_space.specs.Sound.{IsSoundBid}
 use Rattle.tetri_space.specs.Space.{Bid, bid, space}
 use Rattle.tetri_space.proofs.BidLemmas.{bid_has}
-use Rattle.tetri_values.proofs.cycles.is_thrifty.Goals as goal
+use Rattle.tetri_tables.proofs.launches.is_thrifty.Goals as goal
 
 none_is : {X : Type 0} (o : Option X) → is_some o ≡ false → o ≡ None
 none_is None e = refl
