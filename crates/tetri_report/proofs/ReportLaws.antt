@@ -1,5 +1,5 @@
 -- What holds of reports, for the crates above.
-use Rattle.std.proofs.Common.{◌≡◌, ℕ, ◌<◌, ◌≤◌, List, [], ◌∷◌, ◌++◌, length, take, zero, suc, refl, sym, ap, arith, All, ◌⊎◌, ⊎_elim, inl, inr}
+use Rattle.std.proofs.Common.{◌≡◌, ℕ, ◌<◌, ◌≤◌, List, [], ◌∷◌, ◌++◌, length, take, zero, suc, refl, ap, arith, All, ◌⊎◌, ⊎_elim, inl, inr}
 use Rattle.std.specs.Prelude.{Ok, flat_map, slice_get}
 use Rattle.tetri_io.specs.Lines.{lines_from}
 use Rattle.tetri_state.specs.Begin.{Occurrences}
@@ -9,12 +9,14 @@ use Rattle.tetri_report.specs.Block.{Block}
 use Rattle.tetri_report.specs.BlockLines.{occurrences_in}
 use Rattle.tetri_report.specs.Differences.{DifferFirstAt, corrected}
 use Rattle.tetri_report.specs.Printable.{IsInRange, IsPrintable, IsSummaryInRange}
-use Rattle.tetri_report.specs.Reading.{report_in}
+use Rattle.tetri_report.specs.Reading.{Reading, behind_line, line_answer, opened, report_in}
+use Rattle.tetri_report.specs.Strips.{BeginsBare, Telling, answer_told, bare, certificate_with, strip_behind, told_answer}
 use Rattle.tetri_report.specs.Text.{cycle_text, summary_text}
 use Rattle.tetri_report.specs.declared.cycle.Summary.{Summary}
 use Rattle.tetri_report.proofs.DifferLemmas.{nothing_else}
 use Rattle.tetri_report.proofs.ReadReports.{report_back}
 use Rattle.tetri_report.proofs.ShortLines.{lines_short}
+use Rattle.tetri_report.proofs.StripLemmas.{bare_behind, begins_bare_behind, certificate_behind, line_as_told, opened_begins_bare, told_bare}
 
 -- a printed report reads back
 pub printed_reads_back : (t : Scenario) → IsSound t → (bs : List Block) (s : Summary) → All (IsPrintable t) bs → All IsInRange bs → IsSummaryInRange s →
@@ -57,3 +59,23 @@ differ_once {X} xs ys j k first second = by_order (compared j k)
     by_order (inl lt) = absurd (first.there (same_before xs ys j k lt second.before))
     by_order (inr (inl same)) = same
     by_order (inr (inr gt)) = absurd (second.there (same_before xs ys k j gt first.before))
+
+-- Reading without certificates tells what reading with them does, and the certificates line by line.
+pub told_of_bare : (t : Scenario) (r : Reading) (line : List ℕ) → told_answer t (bare r) line ≡ told_answer t r line
+told_of_bare t r line = told_bare t r line
+
+pub strip_of_bare : (t : Scenario) (r : Reading) (line : List ℕ) → strip_behind t (bare r) line ≡ bare (behind_line t r line)
+strip_of_bare t r line = bare_behind t r line
+
+pub line_is_told : (t : Scenario) (r : Reading) (line : List ℕ) → line_answer t r line ≡ answer_told r.block.certificate (told_answer t r line)
+line_is_told t r line = line_as_told t r line
+
+pub certificate_is_told : (t : Scenario) (r : Reading) (line : List ℕ) (told : Telling) → BeginsBare r → told_answer t r line ≡ Ok told →
+    (behind_line t r line).block.certificate ≡ certificate_with r.block.certificate told
+certificate_is_told t r line told begins answer = certificate_behind t r line told begins answer
+
+pub begins_bare_on : (t : Scenario) (r : Reading) (line : List ℕ) → BeginsBare r → BeginsBare (behind_line t r line)
+begins_bare_on t r line begins = begins_bare_behind t r line begins
+
+pub begins_bare_first : BeginsBare opened
+begins_bare_first = opened_begins_bare

@@ -4,8 +4,8 @@ use Rattle.tetri_report.specs.Block.{Block, block}
 use Rattle.tetri_report.specs.Reading.{Reading}
 use Rattle.tetri_report.specs.declared.cycle.Cycle.{Cycle}
 use Rattle.tetri_report.specs.declared.cycle.Summary.{Summary}
-use Rattle.tetri_report.specs.declared.blocks.ReportFault.{ReportFault}
-use Rattle.tetri_report.specs.declared.blocks.ReportFault.TheVariants.{Malformed, NoMemory}
+use Rattle.tetri_report.specs.declared.fault.ReportFault.{ReportFault}
+use Rattle.tetri_report.specs.declared.fault.ReportFault.TheVariants.{Malformed, NoMemory}
 
 -- What was returned, seen by view, is what the definition answers, unless memory ran out.
 abbrev pub Answers : {X Y : Type 0} → (X → Y) → Result X ReportFault → Result Y ℕ → Type 0

@@ -1,8 +1,9 @@
 -- Where the lines of a cycle differ from others first.
 use Rattle.std.specs.Prelude.{◌≡◌, ◌≢◌, ◌≤◌, ℕ, List, ◌∷◌, length, take, slice_get, Option, Some, None}
+use Rattle.tetri_cert.specs.declared.certificate.Certificate.{Certificate}
 use Rattle.tetri_state.specs.Begin.{Occurrences}
 use Rattle.tetri_report.specs.Block.{Block}
-use Rattle.tetri_report.specs.BlockLines.{block_lines, event_lines}
+use Rattle.tetri_report.specs.BlockLines.{block_lines, certificate_lines, event_lines}
 use Rattle.tetri_report.specs.declared.line.PlanLine.{PlanLine}
 use Rattle.tetri_report.specs.declared.line.ReportLine.{ReportLine}
 use Rattle.tetri_report.specs.declared.line.ReportLine.TheVariants as lines
@@ -40,3 +41,7 @@ corrected b number o starts launched = record b {
   starts = starts;
   launched = launched;
 }
+
+-- It holds of each certificate that has so many lines.
+abbrev pub ForCertificates : ℕ → (Certificate → Type 0) → Type 0
+ForCertificates count holds = (c : Certificate) → length (certificate_lines c) ≡ count → holds c

@@ -6,3 +6,4 @@ pub mod BlockLines
 pub mod Differences
 pub mod Reading
 pub mod Answers
+pub mod Strips

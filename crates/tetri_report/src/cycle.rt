@@ -20,6 +20,20 @@ pub struct Cycle {
     pub launched: Vec<u32>,
 }
 
+/// A cycle without its certificate, which may be far longer than all else.
+#[derive(Drop)]
+pub struct Head {
+    pub number: u32,
+    pub happened: Happened,
+    pub value: u64,
+    pub bound: u64,
+    pub mark: PlanMark,
+    pub nodes: u32,
+    pub grants: Allotment,
+    pub starts: Vec<u32>,
+    pub launched: Vec<u32>,
+}
+
 /// A run in numbers: its cycles, the jobs that were launched, that ended, that were cancelled and that
 /// expired, the worth of the launched jobs, and the cycles whose plan is optimal.
 #[derive(Clone, Copy, Debug, PartialEq, Eq)]

@@ -1,12 +1,12 @@
 // Where a cycle tells something else than a run has there.
-ghost use Rattle.std.specs.Prelude.{◌≡◌, ◌<◌, ◌≤◌, ◌^◌, length, IfSome};
-ghost use Rattle.tetri_report.specs.Block.{block};
-ghost use Rattle.tetri_report.specs.BlockLines.{certificate_lines, count_events, end_place, plan_place};
-ghost use Rattle.tetri_report.specs.Differences.{IsDifference, IsEventDifference, IsLineDifference, corrected};
+ghost use Rattle.std.specs.Prelude.{◌≡◌, ◌+◌, ◌<◌, ◌≤◌, ◌^◌, length, IfSome};
+ghost use Rattle.tetri_cert.specs.declared.certificate.Certificate.{Certificate};
+ghost use Rattle.tetri_report.specs.Block.{headed};
+ghost use Rattle.tetri_report.specs.BlockLines.{certificate_lines, count_events, end_place};
+ghost use Rattle.tetri_report.specs.Differences.{ForCertificates, IsDifference, IsEventDifference, IsLineDifference, corrected};
 ghost use Rattle.tetri_state.specs.Begin.{occurrences};
 
-use crate::cycle::Cycle;
-use tetri_cert::Certificate;
+use crate::cycle::Head;
 use tetri_state::{Happened, PieceId};
 
 // The first place at which two lists of numbers differ.
@@ -69,27 +69,16 @@ fn first_other_event(told: &Happened, expected: &Happened) -> Option<u64>
     None
 }
 
-/// The place of the `plan` line among the lines of a cycle.
-pub fn plan_place(cycle: &Cycle) -> u64
-    requires { plan_place (block cycle.now) < 2 ^ 64 }
-    ensures { result ≡ plan_place (block cycle.now) }
+/// The place of the `plan` line among the lines of a cycle at whose beginning this happened.
+pub fn plan_place_behind(happened: &Happened) -> u64
+    requires { 1 + count_events (occurrences happened.now) < 2 ^ 64 }
+    ensures { result ≡ 1 + count_events (occurrences happened.now) }
 {
-    let happened = &cycle.happened;
     let pieces = happened.ended.len() as u64 + happened.over.len() as u64;
     let jobs = happened.cancelled.len() as u64
         + happened.failed.len() as u64
         + happened.expired.len() as u64;
     1 + pieces + jobs
-}
-
-// How many lines a certificate has.
-fn certificate_len(certificate: &Certificate) -> u64
-    ensures { result ≡ length (certificate_lines certificate.now) }
-{
-    match certificate {
-        Certificate::Tops { .. } => 1,
-        Certificate::Tree(marks) => marks.as_slice().len() as u64,
-    }
 }
 
 /// What a run has beside the plan of a cycle: its number, the events of its slot, by grant the slot at which it starts, and
@@ -102,31 +91,30 @@ pub struct Expected<'a> {
     pub launched: &'a [u32],
 }
 
-/// The place of the first line of a cycle that differs from the one that a run has there, and none where all are the same. Places
-/// count from the `cycle` line, which has the place 0; where a line is missing it is that of the line which stands there instead,
-/// perhaps the one behind the cycle.
-pub fn first_other_line(cycle: &Cycle, expected: Expected) -> Option<u64>
-    requires few { end_place (block cycle.now) < 2 ^ 64 }
-    requires starts { length cycle.now.starts.items ≡ length cycle.now.grants }
-    requires as_many { length expected.starts.now ≡ length cycle.now.grants }
-    ensures first { IsLineDifference (block cycle.entry.now)
-        (corrected (block cycle.entry.now) expected.entry.number (occurrences expected.entry.happened.now) expected.entry.starts.now
-        expected.entry.launched.now) result }
-    ensures within { IfSome result (λ place. place ≤ end_place (block cycle.entry.now)) }
+/// The place of the first line of a cycle that differs from the one that a run has there, and none where all are the same, by the
+/// cycle's head and the number of its certificate's lines. Places count from the `cycle` line, which has the place 0; where a line is
+/// missing it is that of the line which stands there instead, perhaps the one behind the cycle.
+pub fn first_other_line_by_head(head: &Head, certificate: u64, expected: Expected) -> Option<u64>
+    requires few { (c : Certificate) × (length (certificate_lines c) ≡ certificate) × (end_place (headed head.now c) < 2 ^ 64) }
+    requires starts { length head.now.starts.items ≡ length head.now.grants }
+    requires as_many { length expected.starts.now ≡ length head.now.grants }
+    ensures first { ForCertificates certificate (λ c. IsLineDifference (headed head.entry.now c)
+        (corrected (headed head.entry.now c) expected.entry.number (occurrences expected.entry.happened.now) expected.entry.starts.now
+        expected.entry.launched.now) result) }
+    ensures within { ForCertificates certificate (λ c. IfSome result (λ place. place ≤ end_place (headed head.entry.now c))) }
 {
-    if cycle.number != expected.number {
+    if head.number != expected.number {
         return Some(0);
     }
-    if let Some(place) = first_other_event(&cycle.happened, expected.happened) {
+    if let Some(place) = first_other_event(&head.happened, expected.happened) {
         return Some(1 + place);
     }
-    let grants = plan_place(cycle) + 1;
-    if let Some(place) = first_difference(&cycle.starts, expected.starts) {
+    let grants = plan_place_behind(&head.happened) + 1;
+    if let Some(place) = first_difference(&head.starts, expected.starts) {
         return Some(grants + place as u64);
     }
-    let certificate = grants + cycle.grants.as_slice().len() as u64;
-    let launches = certificate + certificate_len(&cycle.certificate);
-    match first_difference(&cycle.launched, expected.launched) {
+    let launches = grants + head.grants.as_slice().len() as u64 + certificate;
+    match first_difference(&head.launched, expected.launched) {
         Some(place) => Some(launches + place as u64),
         None => None,
     }

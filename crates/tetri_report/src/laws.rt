@@ -1,9 +1,11 @@
-// What is printed reads back, from lines that are short.
-ghost use Rattle.std.specs.Prelude.{◌≡◌, ◌≤◌, ◌++◌, All, List, Ok, flat_map, length};
+// What is printed reads back, from lines that are short, and certificates are told line by line.
+ghost use Rattle.std.specs.Prelude.{◌≡◌, ◌≤◌, ◌++◌, All, List, ℕ, Ok, flat_map, length};
+ghost use Rattle.tetri_cert.specs.declared.certificate.Certificate.TheVariants.{Tops};
 ghost use Rattle.tetri_io.specs.Lines.{lines_from};
 ghost use Rattle.tetri_report.specs.Block.{Block};
 ghost use Rattle.tetri_report.specs.Printable.{IsInRange, IsPrintable, IsSummaryInRange};
-ghost use Rattle.tetri_report.specs.Reading.{report_in};
+ghost use Rattle.tetri_report.specs.Reading.{Reading, behind_line, end_answer, line_answer, opened, report_in};
+ghost use Rattle.tetri_report.specs.Strips.{BeginsBare, Telling, answer_told, bare, certificate_with, report_told, strip_behind, told_answer, told_in};
 ghost use Rattle.tetri_report.specs.declared.cycle.Summary.{Summary};
 ghost use Rattle.tetri_report.specs.Text.{cycle_text, summary_text};
 ghost use Rattle.tetri_trace.specs.Scenario.{Scenario};
@@ -19,4 +21,23 @@ pub fn printed_lines_are_short()
 pub fn printed_reports_read_back()
     ensures { (t : Scenario) (bs : List Block) (s : Summary) → IsSound t → All (IsPrintable t) bs → All IsInRange bs
         → IsSummaryInRange s → report_in t (flat_map (cycle_text t) bs ++ summary_text s) ≡ Ok (bs, s) }
+{}
+
+/// What a line answers and leaves where no certificate is kept: the same as where it is, with the certificate left out. A block that
+/// is ended is the one that was read, with the certificate that was told before.
+pub fn strips_read_as_blocks()
+    ensures told { (t : Scenario) (r : Reading) (line : List ℕ) → told_answer t (bare r) line ≡ told_answer t r line }
+    ensures answer { (t : Scenario) (r : Reading) (line : List ℕ) → line_answer t r line ≡ answer_told r.block.certificate (told_answer t r line) }
+    ensures left { (t : Scenario) (r : Reading) (line : List ℕ) → strip_behind t (bare r) line ≡ bare (behind_line t r line) }
+    ensures end { (r : Reading) → end_answer (bare r) ≡ end_answer r }
+{}
+
+/// The certificate of the block that is being read is what its lines told until then, in order; and a report is what its lines tell,
+/// each block with the certificate that was told since it began.
+pub fn certificates_are_told()
+    ensures none { BeginsBare opened }
+    ensures line { (t : Scenario) (r : Reading) (line : List ℕ) (told : Telling) → BeginsBare r → told_answer t r line ≡ Ok told
+        → (behind_line t r line).block.certificate ≡ certificate_with r.block.certificate told }
+    ensures kept { (t : Scenario) (r : Reading) (line : List ℕ) → BeginsBare r → BeginsBare (behind_line t r line) }
+    ensures report { (t : Scenario) (bytes : List ℕ) → report_in t bytes ≡ report_told (Tops 0 0) (told_in t bytes) }
 {}

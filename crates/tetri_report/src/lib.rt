@@ -4,18 +4,27 @@
 mod blocks;
 mod cycle;
 mod differences;
+mod fault;
 mod laws;
 mod line;
 mod lines;
 mod print;
 mod ranges;
 mod read;
+mod stages;
+mod strips;
 mod summary;
 
-pub use blocks::{Blocks, ReportFault};
-pub use cycle::{Cycle, Summary};
-pub use differences::{Expected, first_other_line, plan_place};
-pub use laws::{printed_lines_are_short, printed_reports_read_back};
+pub use blocks::Blocks;
+pub use cycle::{Cycle, Head, Summary};
+pub use differences::{Expected, first_other_line_by_head, plan_place_behind};
+pub use fault::ReportFault;
+pub use laws::{
+    certificates_are_told, printed_lines_are_short, printed_reports_read_back,
+    strips_read_as_blocks,
+};
+pub use line::PlanLine;
 pub use lines::name_of;
 pub use print::{print_cycle, print_events, print_launches, print_plan};
+pub use strips::{Strips, Told};
 pub use summary::print_summary;
