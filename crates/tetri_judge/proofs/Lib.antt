@@ -1,3 +1,4 @@
 pub mod WastedLemmas
 pub mod VerdictLaws
 pub mod PlaceLemmas
+pub mod SeenLemmas

@@ -11,7 +11,7 @@ use Rattle.tetri_cert.specs.declared.certificate.Certificate.TheVariants.{Tops, 
 use Rattle.tetri_cert.specs.declared.faults.TreeWhy.{TreeWhy}
 use Rattle.tetri_cert.proofs.FaultLemmas.{faults_name_nodes}
 use Rattle.tetri_report.specs.Block.{Block}
-use Rattle.tetri_report.specs.BlockLines.{certificate_lines, end_place}
+use Rattle.tetri_report.specs.BlockLines.{certificate_lines, end_place, plan_place}
 use Rattle.tetri_report.specs.declared.line.ReportLine.TheVariants as lines
 use Rattle.tetri_space.specs.Space.{Bid, Space}
 use Rattle.tetri_judge.specs.Places.{place_of}
@@ -69,3 +69,15 @@ place_within i carried budget b verdicts.NoMemory shown = absurd shown
 pub verdict_within : (i : Space) (carried budget : ℕ) (b : Block) (v : Verdict) → (v ≡ verdicts.NoMemory) ⊎ IsFirstFailed i carried budget (planned b) v → place_of b v ≤ end_place b
 verdict_within i carried budget b v (inl e) = subst (λ w. place_of b w ≤ end_place b) (sym e) (omega arith)
 verdict_within i carried budget b v (inr failed) = place_within i carried budget b v failed.fails
+
+-- no line that is refused stands before the plan
+pub plan_first : (b : Block) (v : Verdict) → plan_place b ≤ place_of b v
+plan_first b (verdicts.Unlawful u) = omega arith
+plan_first b (verdicts.WrongValue printed found) = omega arith
+plan_first b (verdicts.WasteGrant place) = omega arith
+plan_first b (verdicts.BelowCarry printed carry) = omega arith
+plan_first b (verdicts.BadTree node why) = omega arith
+plan_first b (verdicts.Past node column) = omega arith
+plan_first b (verdicts.WrongBound printed found) = omega arith
+plan_first b verdicts.WrongMark = omega arith
+plan_first b verdicts.NoMemory = omega arith

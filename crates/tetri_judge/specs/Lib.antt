@@ -3,3 +3,4 @@ pub mod Wasted
 pub mod Verdict
 pub mod Answers
 pub mod Places
+pub mod Seen

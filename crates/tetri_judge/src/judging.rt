@@ -1,80 +1,150 @@
 // The judge of one cycle.
 ghost use Rattle.std.specs.Prelude.{◌≡◌, ◌≤◌, ◌⊎◌, IfErr, OnOk, Ok, Err};
+ghost use Rattle.tetri_cert.specs.declared.certificate.Certificate.{Certificate};
 ghost use Rattle.tetri_claims.specs.Certified.{IsCertified};
 ghost use Rattle.tetri_claims.specs.Good.{IsGood, IsHonest};
 ghost use Rattle.tetri_judge.specs.Answers.{AnswersGrants};
 ghost use Rattle.tetri_judge.specs.Places.{place_of};
+ghost use Rattle.tetri_judge.specs.PlanOf.{planned, planned_as};
+ghost use Rattle.tetri_judge.specs.Seen.{Tells};
 ghost use Rattle.tetri_judge.specs.Verdict.{IsVerdict, PassesBefore, proper};
 ghost use Rattle.tetri_report.specs.Block.{block};
 ghost use Rattle.tetri_report.specs.BlockLines.{end_place};
-ghost use Rattle.tetri_judge.specs.PlanOf.{planned};
+ghost use Rattle.tetri_report.specs.Block.{headed};
 ghost use Rattle.tetri_space.specs.Sound.{IsSound};
 ghost use Rattle.tetri_space.specs.Space.{space};
 
 use crate::certificate::{bound_of, is_rightly_marked};
+use crate::seen::Seen;
+use crate::tree_walk::see;
 use crate::verdict::Verdict;
 use crate::wasted::first_wasted;
 use std::alloc::Global;
-use tetri_report::Cycle;
+use tetri_report::{Cycle, Head, PlanLine};
 use tetri_space::{Instance, lawful, total};
+use tetri_strl::Allotment;
 
 // The tests of the grants.
-fn test_grants(inst: &Instance, carry: u64, c: &Cycle) -> Result<(), Verdict>
+fn test_grants(
+    inst: &Instance,
+    carry: u64,
+    plan: PlanLine,
+    grants: &Allotment,
+) -> Result<(), Verdict>
     requires { IsSound (space inst.now) }
-    ensures { AnswersGrants result (space inst.entry.now) carry (planned (block c.now)) }
+    ensures { (c : Certificate) → AnswersGrants result (space inst.entry.now) carry (planned_as plan grants.now c) }
 {
-    if let Err(unlawful) = lawful(inst, &c.grants) {
+    if let Err(unlawful) = lawful(inst, grants) {
         return Err(Verdict::Unlawful(unlawful));
     }
-    let found = total(inst, &c.grants);
-    if found != c.value {
+    let found = total(inst, grants);
+    if found != plan.value {
         return Err(Verdict::WrongValue {
-            printed: c.value,
+            printed: plan.value,
             found,
         });
     }
-    if let Some(place) = first_wasted(inst, &c.grants) {
+    if let Some(place) = first_wasted(inst, grants) {
         return Err(Verdict::WasteGrant(place));
     }
-    if c.value < carry {
+    if plan.value < carry {
         return Err(Verdict::BelowCarry {
-            printed: c.value,
+            printed: plan.value,
             carry,
         });
     }
     Ok(())
 }
 
-// The tests of the certificate, its bound and the mark, for a plan that passes those of its grants.
+// The tests of the certificate that was seen, its bound and the mark, for a plan that passes those of its grants.
 fn test_certificate(
     alloc: Global,
     inst: &Instance,
     carry: u64,
     budget: u32,
-    c: &Cycle,
+    plan: PlanLine,
+    grants: &Allotment,
+    seen: &Seen,
 ) -> Result<(), Verdict>
     requires sound { IsSound (space inst.now) }
-    requires granted { PassesBefore (space inst.now) carry budget (planned (block c.now)) proper }
-    ensures { IsVerdict (space inst.entry.now) carry budget (planned (block c.now)) result }
+    requires granted { (c : Certificate) → PassesBefore (space inst.now) carry budget (planned_as plan grants.now c) proper }
+    ensures { (c : Certificate) → Tells (space inst.entry.now) c seen.now
+        → IsVerdict (space inst.entry.now) carry budget (planned_as plan grants.entry.now c) result }
 {
-    let found = match bound_of(alloc, inst, &c.certificate) {
+    let found = match bound_of(alloc, inst, seen) {
         Ok(found) => found,
         Err(verdict) => return Err(verdict),
     };
-    if found != c.bound {
+    if found != plan.bound {
         return Err(Verdict::WrongBound {
-            printed: c.bound,
+            printed: plan.bound,
             found,
         });
     }
-    if !is_rightly_marked(budget, c) {
+    if !is_rightly_marked(budget, plan, seen) {
         return Err(Verdict::WrongMark);
     }
     Ok(())
 }
 
+// All tests of a plan whose certificate was seen so.
+fn test_plan(
+    alloc: Global,
+    inst: &Instance,
+    carry: u64,
+    budget: u32,
+    plan: PlanLine,
+    grants: &Allotment,
+    seen: &Seen,
+) -> Result<(), Verdict>
+    requires { IsSound (space inst.now) }
+    ensures { (c : Certificate) → Tells (space inst.entry.now) c seen.now
+        → IsVerdict (space inst.entry.now) carry budget (planned_as plan grants.entry.now c) result }
+{
+    match test_grants(inst, carry, plan, grants) {
+        Ok(()) => {}
+        Err(verdict) => return Err(verdict),
+    }
+    test_certificate(alloc, inst, carry, budget, plan, grants, seen)
+}
+
+/// Whether the plan of a cycle is good for the instance, worth at least `carry`, and certified for the budget, where its certificate
+/// was seen so; if not, the first test that it fails. It trusts nothing that the cycle says, and uses neither a search nor the
+/// simplex method.
+pub fn judge_seen(
+    alloc: Global,
+    inst: &Instance,
+    carry: u64,
+    budget: u32,
+    head: &Head,
+    seen: &Seen,
+) -> Result<(), Verdict>
+    requires { IsSound (space inst.now) }
+    ensures verdict { (c : Certificate) → Tells (space inst.entry.now) c seen.now
+        → IsVerdict (space inst.entry.now) carry budget (planned (headed head.now c)) result }
+    ensures good { (c : Certificate) → Tells (space inst.entry.now) c seen.now
+        → OnOk result (IsGood (space inst.entry.now) carry (planned (headed head.now c))
+        × IsCertified (space inst.entry.now) budget (planned (headed head.now c))) }
+    ensures complete { (c : Certificate) → Tells (space inst.entry.now) c seen.now
+        → IsHonest (space inst.entry.now) carry (planned (headed head.now c))
+        → IsCertified (space inst.entry.now) budget (planned (headed head.now c)) → (result ≡ Ok tt) ⊎ (result ≡ Err Verdict.NoMemory) }
+    ensures within { (c : Certificate) → Tells (space inst.entry.now) c seen.now
+        → IfErr result (λ v. place_of (headed head.now c) v ≤ end_place (headed head.now c)) }
+{
+    let plan = PlanLine {
+        value: head.value,
+        bound: head.bound,
+        mark: head.mark,
+        nodes: head.nodes,
+    };
+    match test_plan(alloc, inst, carry, budget, plan, &head.grants, seen) {
+        Ok(()) => Ok(()),
+        Err(verdict) => Err(verdict),
+    }
+}
+
 /// Whether the plan of a cycle is good for the instance, worth at least `carry`, and certified for the budget; if not, the first
-/// test that it fails. It trusts nothing that the cycle says, and uses neither a search nor the simplex method.
+/// test that it fails. It walks over the certificate, and then judges what it saw as `judge_seen` does.
 pub fn judge(
     alloc: Global,
     inst: &Instance,
@@ -90,11 +160,16 @@ pub fn judge(
         → IsCertified (space inst.entry.now) budget (planned (block c.now)) → (result ≡ Ok tt) ⊎ (result ≡ Err Verdict.NoMemory) }
     ensures within { IfErr result (λ v. place_of (block c.now) v ≤ end_place (block c.now)) }
 {
-    match test_grants(inst, carry, c) {
-        Ok(()) => {}
-        Err(verdict) => return Err(verdict),
-    }
-    match test_certificate(alloc, inst, carry, budget, c) {
+    let Ok(seen) = see(alloc, inst, &c.certificate) else {
+        return Err(Verdict::NoMemory);
+    };
+    let plan = PlanLine {
+        value: c.value,
+        bound: c.bound,
+        mark: c.mark,
+        nodes: c.nodes,
+    };
+    match test_plan(alloc, inst, carry, budget, plan, &c.grants, &seen) {
         Ok(()) => Ok(()),
         Err(verdict) => Err(verdict),
     }

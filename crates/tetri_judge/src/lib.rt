@@ -5,10 +5,14 @@ mod certificate;
 mod judging;
 mod laws;
 mod places;
+mod seen;
+mod tree_walk;
 mod verdict;
 mod wasted;
 
-pub use judging::judge;
+pub use judging::{judge, judge_seen};
 pub use laws::plans_have_one_verdict;
 pub use places::place_of;
+pub use seen::Seen;
+pub use tree_walk::TreeWalk;
 pub use verdict::Verdict;
