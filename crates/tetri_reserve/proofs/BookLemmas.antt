@@ -19,11 +19,13 @@ use Rattle.tetri_space.proofs.SpanLemmas.{each_of}
 use Rattle.tetri_split.specs.Restricted.{restricted}
 use Rattle.tetri_plan.specs.declared.planning.Plan.{Plan}
 use Rattle.tetri_reserve.specs.Answers.{EachAnswer, IsAnswer, IsAnswered, booked, carried, carried_on, grants_of, is_booked}
-use Rattle.tetri_reserve.specs.Book.{kept_on}
+use Rattle.tetri_reserve.specs.Book.{IsBook, IsShallow, kept_on}
+use Rattle.tetri_reserve.specs.Meaning.{IsTrue}
 use Rattle.tetri_reserve.specs.Wanted.{wanted, with_bid}
 use Rattle.tetri_reserve.specs.declared.answer.Answer.{Answer}
 use Rattle.tetri_reserve.specs.declared.answer.AnswerKind.{AnswerKind}
-use Rattle.tetri_reserve.proofs.WantedLemmas.{IsShallow, lawful_more, none_kept, shallow_more, sound_more, thrifty_more, total_le, wanted_more, wanted_none}
+use Rattle.tetri_reserve.proofs.MeaningLemmas.{is_true}
+use Rattle.tetri_reserve.proofs.WantedLemmas.{lawful_more, none_kept, shallow_more, sound_more, thrifty_more, total_le, wanted_more, wanted_none}
 
 -- ---- lists of answers
 module _ (P : List Answer → Bid → Answer → Type 0) where
@@ -82,17 +84,12 @@ next_offer s os i o sound are lt is =
       later = each_of (λ (c : Bid). o.job < c.job) (drop (i + 1) s.bids) (subst (λ bs. All (λ (c : Bid). o.job < c.job) (drop (i + 1) bs)) (sym are) (later_jobs os i o up lt is));
     }
 
--- What the book is behind the answers for the first jobs: it wants the booked jobs, and carries the grants that serve them.
-pub record IsBook (s : Space) (budget i : ℕ) (answers : List Answer) (w : Space) (carry : List Grant) : Type 0 where
-  pub jobs : List ℕ
-  pub jobs_are : jobs ≡ booked answers
-  pub wanted_is : w ≡ wanted s jobs
-  pub carry_is : carry ≡ carried answers
-  pub answered : EachAnswer (IsAnswer s budget) [] (take i s.bids) answers
-  pub later : Each (λ n. Each (λ (b : Bid). n < b.job) (drop i s.bids)) jobs
-  pub shallow : All IsShallow (restricted (has jobs) s).bids
-  pub lawful : IsLawful (wanted s jobs) carry
-  pub thrifty : IsThriftyForAll (wanted s jobs) carry
+pub job_pending : (bs : List Bid) (b : Bid) → Contains bs b → Contains (map (λ (c : Bid). c.job) bs) b.job
+job_pending bs b at = (
+  at.0,
+  omega (arith, at.1, length-map bs (λ (c : Bid). c.job)),
+  get_or-map (λ (c : Bid). c.job) bs at.0 b b.job at.1 ∙ ap (λ (c : Bid). c.job) at.2,
+)
 
 pub first_book : (s : Space) (budget : ℕ) (w : Space) (carry : List Grant) → w ≡ record s { bids = [] } → carry ≡ [] → IsBook s budget 0 [] w carry
 first_book s budget w carry w_is carry_is = record {
@@ -101,6 +98,7 @@ first_book s budget w carry w_is carry_is = record {
   wanted_is = w_is ∙ sym (wanted_none s);
   carry_is = carry_is;
   answered = tt;
+  meaning = tt;
   later = tt;
   shallow = All-same IsShallow _ _ (none_kept s.bids) (All-nil IsShallow);
   lawful = subst (IsLawful (wanted s [])) (sym carry_is) (record { grants = All-nil (IsLawfulGrant (wanted s [])); apart = λ j k d lt within. absurd (omega (arith, within)) });
@@ -138,7 +136,7 @@ module _ (s : Space) (budget i : ℕ) (answers : List Answer) (w : Space) (carry
 
   module _ (a : Answer) (v : Space) (held : List Grant) (job : a.job ≡ b.job) (answered : IsAnswered (with_bid w b) (depth b.expr) carry budget a.kind a.plan)
       (v_is : v ≡ kept_on w b a) (held_is : held ≡ carried_on carry a) where
-    is_answer : IsAnswer s budget answers b a
+    pub is_answer : IsAnswer s budget answers b a
     is_answer = record {
       job = job;
       answered =
@@ -150,6 +148,11 @@ module _ (s : Space) (budget i : ℕ) (answers : List Answer) (w : Space) (carry
     all_answered =
         subst (λ bs. EachAnswer (IsAnswer s budget) [] bs (answers ++ a ∷ [])) (sym next.front)
         (one_more_answer (IsAnswer s budget) [] (take i s.bids) answers b a is.answered is_answer)
+
+    all_true : EachAnswer (IsTrue s budget) [] (take (i + 1) s.bids) (answers ++ a ∷ [])
+    all_true =
+        subst (λ bs. EachAnswer (IsTrue s budget) [] bs (answers ++ a ∷ [])) (sym next.front)
+        (one_more_answer (IsTrue s budget) [] (take i s.bids) answers b a is.meaning (is_true s budget answers b a is_answer))
 
     carried_is : held ≡ carried (answers ++ a ∷ [])
     carried_is = held_is ∙ ap (λ (g : List Grant). carried_on g a) is.carry_is ∙ sym (fold_push carried_on [] answers a)
@@ -164,6 +167,7 @@ module _ (s : Space) (budget i : ℕ) (answers : List Answer) (w : Space) (carry
           wanted_is = v_is ∙ ap {B = Space} (λ t. cond t (with_bid w b) w) e ∙ asked_is;
           carry_is = carried_is;
           answered = all_answered;
+          meaning = all_true;
           later = Each-append (λ n. Each (λ (c : Bid). n < c.job) (drop (i + 1) s.bids)) is.jobs (b.job ∷ []) still_later (next.later, tt);
           shallow = shallow_more s is.jobs b below sound next.pending is.shallow plan.shallow;
           lawful = subst (IsLawful (wanted s asked)) (sym grants) (subst (λ (x : Space). IsLawful x (grants_of a.plan)) asked_is plan.lawful);
@@ -179,6 +183,7 @@ module _ (s : Space) (budget i : ℕ) (answers : List Answer) (w : Space) (carry
           wanted_is = v_is ∙ ap {B = Space} (λ t. cond t (with_bid w b) w) e ∙ is.wanted_is;
           carry_is = carried_is;
           answered = all_answered;
+          meaning = all_true;
           later = still_later;
           shallow = is.shallow;
           lawful = subst (IsLawful (wanted s is.jobs)) (sym grants) is.lawful;

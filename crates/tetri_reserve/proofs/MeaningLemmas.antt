@@ -68,13 +68,13 @@ module _ (s : Space) (jobs : List ℕ) (levels budget : ℕ) (carry : List Grant
   undecided kind None h e = let deep = h.1 in absurd cc
   undecided kind (Some p) h e = let n = says p kind Undecided e h.2 in h.1.short (omega (arith, n.0, n.1))
 
+pub is_true : (s : Space) (budget : ℕ) (earlier : List Answer) (b : Bid) (a : Answer) → IsAnswer s budget earlier b a → IsTrue s budget earlier b a
+is_true s budget earlier b a h = record {
+  lawful = lawful s _ _ budget _ a.kind a.plan h.answered;
+  admitted = admitted s _ _ budget _ a.kind a.plan h.answered;
+  refused = refused s _ _ budget _ a.kind a.plan h.answered;
+  undecided = undecided s _ _ budget _ a.kind a.plan h.answered;
+}
+
 pub answers_are_true : AnswersAreTrue
-answers_are_true s budget answers h = each_answer (IsAnswer s budget) (IsTrue s budget) is_true [] s.bids answers h
-  where
-    is_true : (earlier : List Answer) (b : Bid) (a : Answer) → IsAnswer s budget earlier b a → IsTrue s budget earlier b a
-    is_true earlier b a h = record {
-      lawful = lawful s _ _ budget _ a.kind a.plan h.answered;
-      admitted = admitted s _ _ budget _ a.kind a.plan h.answered;
-      refused = refused s _ _ budget _ a.kind a.plan h.answered;
-      undecided = undecided s _ _ budget _ a.kind a.plan h.answered;
-    }
+answers_are_true s budget answers h = each_answer (IsAnswer s budget) (IsTrue s budget) (is_true s budget) [] s.bids answers h

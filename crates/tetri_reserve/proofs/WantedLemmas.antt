@@ -26,6 +26,7 @@ use Rattle.tetri_space.proofs.SpanLemmas.{all_of, each_of}
 use Rattle.tetri_split.specs.Restricted.{grants_to, restricted}
 use Rattle.tetri_split.proofs.RestrictedLaws.{grants_name_kept, lawful-kept, lawful-whole, sound-kept}
 use Rattle.tetri_split.proofs.RestrictingLemmas.{found_list, job_more}
+use Rattle.tetri_reserve.specs.Book.{IsShallow}
 use Rattle.tetri_reserve.specs.Wanted.{each_wanted, wanted, wanted_bid, with_bid}
 
 -- ---- other bids with the same leaves
@@ -157,9 +158,6 @@ all_ascend bs up i j d lt within =
     let first = ap (λ (c : Bid). c.job) (get_or-map wanted_bid bs i d d (omega arith)) in
     let second = ap (λ (c : Bid). c.job) (get_or-map wanted_bid bs j d d inside) in
     omega (arith, up i j d lt inside, first, second)
-
-abbrev pub IsShallow : Bid → Type 0
-IsShallow b = depth b.expr < 64
 
 -- where no expression is 64 deep, the instance of wanted jobs is sound
 pub each_wanted_sound : (s : Space) → IsSound s → All IsShallow s.bids → IsSound (each_wanted s)

@@ -21,8 +21,8 @@ pub fn admit(alloc: Global, inst: &Instance, budget: u32) -> Result<Vec<Answer>,
 {
     let mut book = Book::new(alloc, inst)?;
     let mut answers = Vec::new(alloc);
-    for offer in &inst.jobs {
-        let answer = book.answer(alloc, offer, budget)?;
+    for place in 0..inst.jobs.len() {
+        let answer = book.answer_next(alloc, inst, place, budget)?;
         answers.push(answer)?;
     }
     Ok(answers)

@@ -1,5 +1,5 @@
 // The jobs that are booked.
-ghost use Rattle.std.specs.Prelude.{◌≡◌, ◌<◌, ◌≤◌, [], List, length, IfOk, OnOk, if◌then◌else◌};
+ghost use Rattle.std.specs.Prelude.{◌≡◌, ◌<◌, ◌≤◌, ◌+◌, ℕ, [], ◌∷◌, ◌++◌, List, Contains, length, IfOk, OnOk, if◌then◌else◌};
 ghost use Rattle.tetri_strl.specs.declared.grants.Grant.{Grant};
 ghost use Rattle.tetri_strl.specs.Tree.{tree};
 ghost use Rattle.tetri_strl.specs.WellMade.{depth};
@@ -8,9 +8,11 @@ ghost use Rattle.tetri_space.specs.Sound.{IsSound};
 ghost use Rattle.tetri_space.specs.Space.{Bid, Space, bid, space};
 ghost use Rattle.tetri_space.specs.Total.{total_in};
 ghost use Rattle.tetri_space.specs.Trimmed.{IsThriftyForAll};
-ghost use Rattle.tetri_reserve.specs.Answers.{IsAnswered, IsPlanOf, Says, carried_on, is_booked};
+ghost use Rattle.tetri_split.specs.Parts.{jobs_in};
+ghost use Rattle.tetri_reserve.specs.Answers.{IsAnswered, IsPlanOf, Says, carried_on, grants_of, is_booked};
+ghost use Rattle.tetri_reserve.specs.Book.{IsBook, IsBookAt, kept_on};
 ghost use Rattle.tetri_reserve.specs.Wanted.{wanted_bid, with_bid};
-ghost use Rattle.tetri_reserve.specs.Book.{kept_on};
+ghost use Rattle.tetri_reserve.specs.declared.answer.Answer.{Answer};
 
 use crate::answer::{Answer, AnswerKind};
 use crate::depths::depth_of;
@@ -20,16 +22,26 @@ use tetri_plan::{Plan, choose};
 use tetri_space::{Instance, Offer};
 use tetri_strl::{Allotment, Expr, copy_expr, copy_grants};
 
-// The booked jobs as an instance, each worth 1 where it is worth something, and the grants that serve them.
+/// The jobs of an instance that are booked, while its jobs are answered for one after another.
 #[derive(Drop)]
 pub struct Book {
+    /// The instance with the booked jobs alone, each worth 1 where it is worth something, and else 0.
     pub wanted: Instance,
+    /// The grants that serve them, by job and leaf.
     pub carry: Allotment,
 }
 
 impl Book {
-    // No booked jobs, of an instance.
+    /// The book of an instance before the first answer, where no job is booked. Its only error is want of memory.
     pub fn new(alloc: Global, inst: &Instance) -> Result<Book, AllocError>
+        ensures { IfOk result (λ book. (budget : ℕ) → IsBook (space inst.entry.now) budget 0 [] (space book.wanted) book.carry) }
+    {
+        let book = Book::empty(alloc, inst)?;
+        Ok(book)
+    }
+
+    // No booked jobs, of an instance.
+    fn empty(alloc: Global, inst: &Instance) -> Result<Book, AllocError>
         ensures wanted { IfOk result (λ book. space book.wanted ≡ record (space inst.entry.now) { bids = [] }) }
         ensures carry { IfOk result (λ book. book.carry ≡ []) }
     {
@@ -78,12 +90,7 @@ impl Book {
     }
 
     // Answers whether one more job can be served together with the booked ones, and books it where it can.
-    pub fn answer(
-        &mut self,
-        alloc: Global,
-        offer: &Offer,
-        budget: u32,
-    ) -> Result<Answer, AllocError>
+    fn answer(&mut self, alloc: Global, offer: &Offer, budget: u32) -> Result<Answer, AllocError>
         requires shallow { depth (tree offer.now.expr) ≤ 64 }
         requires sound { depth (tree offer.now.expr) < 64 → IsSound (with_bid (space self.old.wanted) (bid offer.now)) }
         requires lawful { IsLawful (with_bid (space self.old.wanted) (bid offer.now)) self.old.carry }
@@ -111,6 +118,28 @@ impl Book {
             kind,
             plan: Some(plan),
         })
+    }
+
+    /// Answers for the job at this place of the instance, behind answers for all jobs before it, whether it can be served together with
+    /// the booked ones, and books it where it can. Its only error is want of memory, and then the book is of no use.
+    pub fn answer_next(
+        &mut self,
+        alloc: Global,
+        inst: &Instance,
+        place: usize,
+        budget: u32,
+    ) -> Result<Answer, AllocError>
+        requires sound { IsSound (space inst.now) }
+        requires within { place < length (space inst.now).bids }
+        requires book { IsBookAt (space inst.now) budget place (space self.old.wanted) self.old.carry }
+        ensures pending { IfOk result (λ a. Contains (jobs_in (space inst.entry.now).bids) a.job) }
+        ensures lawful { IfOk result (λ a. IsLawful (space inst.entry.now) (grants_of a.plan)) }
+        ensures book { IfOk result (λ a. (answers : List Answer)
+            → IsBook (space inst.entry.now) budget place answers (space self.old.wanted) self.old.carry
+            → IsBook (space inst.entry.now) budget (place + 1) (answers ++ a ∷ []) (space self.new.wanted) self.new.carry) }
+    {
+        let answer = self.answer(alloc, &inst.jobs[place], budget)?;
+        Ok(answer)
     }
 }
 

@@ -9,4 +9,5 @@ mod laws;
 
 pub use admitting::admit;
 pub use answer::{Answer, AnswerKind};
+pub use book::Book;
 pub use laws::{answers_are_true, totals_count_wanted_jobs};
