@@ -32,6 +32,7 @@ use Rattle.tetri_run.proofs.RunLemmas.{append_known-nil, run_of, run_reaches}
 use Rattle.tetri_run.specs.Progress.{RanSlot, RanSlots, StoppedBetween, StoppedInSlot}
 use Rattle.tetri_run.specs.declared.cycles.RunTally.{RunTally}
 use Rattle.tetri_run.specs.declared.slot.SlotTally.{SlotTally}
+use Rattle.tetri_run.specs.declared.telling.Telling.{Telling}
 
 -- ---- lists that may be given
 -- what was planned with lists that may be given so was planned with lists that may be given otherwise
@@ -154,10 +155,10 @@ module _ (t : Scenario) (sound : IsSound t) where
     }
 
 -- ---- a run with a panel, as it grows
-module _ (t : Scenario) (sat : List Seat) (start : ℕ) where
+module _ (telling : Telling) (t : Scenario) (sat : List Seat) (start : ℕ) where
   -- a count of misses that did not fall
-  pub ran_on : (slots : ℕ) (s : Snapshot) (tally : RunTally) (before now : ℕ) (bytes written : Option (List ℕ)) → before ≤ now → RanSlots (Heard sat start before) t slots s tally bytes written →
-      RanSlots (Heard sat start now) t slots s tally bytes written
+  pub ran_on : (slots : ℕ) (s : Snapshot) (tally : RunTally) (before now : ℕ) (bytes written : Option (List ℕ)) → before ≤ now →
+      RanSlots telling (Heard sat start before) t slots s tally bytes written → RanSlots telling (Heard sat start now) t slots s tally bytes written
   ran_on slots s tally before now bytes written later ran = record {
     past = ran.past;
     run = run_heard_on t sat start before now ran.past later ran.run;
@@ -165,25 +166,31 @@ module _ (t : Scenario) (sat : List Seat) (start : ℕ) where
     state = ran.state;
     worth = ran.worth;
     optimal = ran.optimal;
+    text = ran.text;
+    told = ran.told;
     written = ran.written;
   }
 
   module _ (old : Snapshot) (sits sat' : List Seat) (before now : ℕ) (still : StillSit sat old.now sits) (later : start ≤ before) where
-    pub slot_heard : (new : Snapshot) (tally : SlotTally) (bytes written : Option (List ℕ)) → RanSlot (IsAdvice sits before sat' now) t old new tally bytes written →
-        RanSlot (Heard sat start now) t old new tally bytes written
+    pub slot_heard : (new : Snapshot) (tally : SlotTally) (bytes written : Option (List ℕ)) → RanSlot telling (IsAdvice sits before sat' now) t old new tally bytes written →
+        RanSlot telling (Heard sat start now) t old new tally bytes written
     slot_heard new tally bytes written ran = record {
       block = ran.block;
       planned = cycle_heard t old ran.block sat sits sat' start before now still later ran.planned;
       state = ran.state;
       worth = ran.worth;
       optimal = ran.optimal;
+      text = ran.text;
+      told = ran.told;
       written = ran.written;
     }
 
-    pub stop_heard : (bytes written : Option (List ℕ)) → StoppedInSlot (IsAdvice sits before sat' now) t old bytes written → StoppedInSlot (Heard sat start now) t old bytes written
+    pub stop_heard : (bytes written : Option (List ℕ)) → StoppedInSlot telling (IsAdvice sits before sat' now) t old bytes written → StoppedInSlot telling (Heard sat start now) t old bytes written
     stop_heard bytes written stop = record {
       block = stop.block;
       planned = cycle_heard t old stop.block sat sits sat' start before now still later stop.planned;
+      text = stop.text;
+      told = stop.told;
       written = stop.written;
     }
 
@@ -191,5 +198,5 @@ module _ (t : Scenario) (sat : List Seat) (start : ℕ) where
   all_sit = record { creeds = refl; fewer = omega arith; first = λ e. refl }
 
   -- no slot was run
-  pub stopped_at_first : IsSound t → (bytes : Option (List ℕ)) → StoppedBetween (IsAdvisedRun sat start start) t bytes bytes
-  stopped_at_first sound bytes = record { past = []; run = advised_run t sound sat start start [] tt; written = sym (append_known-nil bytes) }
+  pub stopped_at_first : IsSound t → (bytes : Option (List ℕ)) → StoppedBetween telling (IsAdvisedRun sat start start) t bytes bytes
+  stopped_at_first sound bytes = record { past = []; run = advised_run t sound sat start start [] tt; text = []; told = refl; written = sym (append_known-nil bytes) }

@@ -8,9 +8,9 @@ use Rattle.std.proofs.lemmas.List.Elements.{All-append, All-cons, All-map, All-n
 use Rattle.tetri_report.specs.Block.{Block}
 use Rattle.tetri_report.specs.Printable.{IsInRange, IsPrintable, IsSummaryInRange}
 use Rattle.tetri_report.specs.Reading.{report_in}
-use Rattle.tetri_report.specs.declared.cycle.Summary.{Summary}
-use Rattle.tetri_io.proofs.Known.{append_known-append}
-use Rattle.tetri_run.specs.Progress.{RanAll, WroteReport}
+use Rattle.tetri_run.specs.Progress.{WroteReport, WroteRun}
+use Rattle.tetri_run.specs.Telling.{AreTold}
+use Rattle.tetri_run.specs.declared.telling.Telling.TheVariants.{Report}
 use Rattle.tetri_report.specs.Text.{cycle_text, summary_text}
 use Rattle.tetri_report.proofs.ReportLaws.{printed_is_short, printed_reads_back}
 use Rattle.tetri_space.specs.Space.{Space}
@@ -77,18 +77,21 @@ module _ (M : Space → List (List Grant) → Type 0) (t : Scenario) (sound : Is
     short = run_lines_short past run small;
   }
 
+-- the texts of cycles that are told by their blocks are the lines of all cycles
+cycles_told : (t : Scenario) (past : List Block) (text : List ℕ) → AreTold Report t past text → text ≡ cycles_text t past
+cycles_told t [] text told = told
+cycles_told t (b ∷ past) text (front, (own, (e, (told, is)))) = e ∙ ap (λ l. l ++ own) (cycles_told t past front told) ∙ ap (λ l. cycles_text t past ++ l) is
+
 -- the report of such a run
 pub wrote_report : (M : Space → List (List Grant) → Type 0) (IsSuch : Scenario → List Block → Type 0) (t : Scenario) → IsSound t →
-    ((past : List Block) → IsSuch t past → IsPlannedRun M t past) → (m : Summary) (before middle now : Option (List ℕ)) → RanAll IsSuch t m before middle → IsSummaryInRange m →
-    now ≡ append_known middle (summary_text m) → WroteReport IsSuch t before now
-wrote_report M IsSuch t sound planned m before middle now ran small e =
+    ((past : List Block) → IsSuch t past → IsPlannedRun M t past) → (before now : Option (List ℕ)) → WroteRun Report IsSuch t before now → WroteReport IsSuch t before now
+wrote_report M IsSuch t sound planned before now ran =
     let run = planned ran.past ran.run in
     record {
       past = ran.past;
       run = ran.run;
       whole = ran.whole;
-      written = e ∙ ap (λ k. append_known k (summary_text m)) ran.written ∙ append_known-append before (cycles_text t ran.past) (summary_text m)
-          ∙ ap (λ (s : Summary). append_known before (cycles_text t ran.past ++ summary_text s)) ran.counted;
-      reads = run_reads_back M t sound ran.past run (subst IsSummaryInRange ran.counted small);
-      accepted = run_accepted M t sound ran.past run ran.whole (subst IsSummaryInRange ran.counted small);
+      written = ran.written ∙ ap (λ l. append_known before (l ++ summary_text (summary_of t ran.past))) (cycles_told t ran.past ran.text ran.told);
+      reads = run_reads_back M t sound ran.past run ran.in_range;
+      accepted = run_accepted M t sound ran.past run ran.whole ran.in_range;
     }

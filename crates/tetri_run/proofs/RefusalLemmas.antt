@@ -1,30 +1,26 @@
 -- A report is refused at one line and for one cause.
-use Rattle.std.proofs.Common.{◌≡◌, ℕ, ◌+◌, ◌<◌, ◌≤◌, List, [], ◌∷◌, length, sym, ap, ◌∙◌, refl, subst, arith, inl, inr, ⊎_elim}
-use Rattle.std.specs.Prelude.{Option, Some, None, Result, Ok, Err}
-use Rattle.tetri_strl.specs.declared.grants.Grant.{Grant}
+use Rattle.std.proofs.Common.{◌≡◌, ℕ, ◌+◌, ◌<◌, List, [], ◌∷◌, sym, ap, ◌∙◌, refl, subst, arith, ⊎_elim}
+use Rattle.std.specs.Prelude.{Option, Some, Result, Ok, Err}
 use Rattle.tetri_judge.specs.Places.{place_of}
 use Rattle.tetri_judge.specs.PlanOf.{planned}
-use Rattle.tetri_judge.specs.Verdict.{IsFirstFailed, Passes, Test}
-use Rattle.tetri_judge.specs.declared.verdict.Verdict.{Verdict}
+use Rattle.tetri_judge.specs.Verdict.{IsFirstFailed}
 use Rattle.tetri_judge.proofs.VerdictLaws.{one_verdict, passing_is_not_refused}
 use Rattle.tetri_report.specs.Block.{Block}
 use Rattle.tetri_report.specs.BlockLines.{block_lines}
-use Rattle.tetri_report.specs.Reading.{end_answer, line_answer}
+use Rattle.tetri_report.specs.Reading.{line_answer}
 use Rattle.tetri_report.specs.declared.cycle.Summary.{Summary}
 use Rattle.tetri_report.proofs.ReportLaws.{differ_once}
 use Rattle.tetri_space.specs.Total.{total_in}
-use Rattle.tetri_state.specs.Planning.{IsCarry}
 use Rattle.tetri_state.specs.Reached.{IsReached, between}
 use Rattle.tetri_state.specs.Snapshot.{Snapshot}
 use Rattle.tetri_trace.specs.Scenario.{Scenario}
 use Rattle.tetri_trace.specs.Sound.{IsSound}
-use Rattle.tetri_run.specs.Check.{Checking, ComesTo, IsInPlace, IsPassed, IsRefused, IsRefusedAt, IsRight, IsShort, checked_behind, faulty, lines_in, malformed, out_of_place, too_long, unchecked}
+use Rattle.tetri_run.specs.Check.{Checking, ComesTo, IsInPlace, IsPassed, IsRefused, IsRefusedAt, IsRight, checked_behind, faulty, lines_in, malformed, out_of_place, too_long, unchecked}
 use Rattle.tetri_run.specs.Checked.{IsInOrder}
 use Rattle.tetri_run.specs.Cycle.{instance_at}
 use Rattle.tetri_run.specs.Faulty.{IsFaulty, corrected_at, planned_badly, told_badly, why_of}
 use Rattle.tetri_run.specs.Run.{IsRun, state_behind}
 use Rattle.tetri_run.specs.declared.why.Why.{Why}
-use Rattle.tetri_run.specs.declared.why.Why.TheVariants as whys
 use Rattle.tetri_run.proofs.CheckLemmas.{carry_same, instance_good, ok_not_err, ok_same, right_is_not_faulty, run_on}
 use Rattle.tetri_run.proofs.RunLemmas.{now_behind, run_reaches}
 use Rattle.tetri_run.proofs.StepLemmas.{in_order_on, not_closed, unchecked_in_order}

@@ -1,6 +1,6 @@
 -- How a check goes on by a line.
-use Rattle.std.proofs.Common.{◌≡◌, ◌≢◌, ℕ, ◌+◌, ◌^◌, ◌<◌, ◌≤◌, ◌==◌, List, [], ◌∷◌, ◌++◌, length, map, drop, Bool, true, false, not, cond, min, nat_eq, refl, sym, ap, ◌∙◌, subst, arith, inl, inr, ◌⊎◌, ⊎_elim}
-use Rattle.std.specs.Prelude.{◌&&◌, ◌↔◌, Option, Some, None, Result, Ok, Err, slice_get}
+use Rattle.std.proofs.Common.{◌≡◌, ◌≢◌, ℕ, ◌+◌, ◌^◌, ◌<◌, ◌≤◌, ◌==◌, List, [], ◌∷◌, ◌++◌, length, map, drop, Bool, true, false, not, cond, nat_eq, refl, sym, ap, ◌∙◌, subst, arith, inl, inr, ◌⊎◌}
+use Rattle.std.specs.Prelude.{◌&&◌, ◌↔◌, Option, Some, None, Result, Ok, Err}
 use Rattle.tetri_cert.specs.declared.certificate.Certificate.{Certificate}
 use Rattle.tetri_cert.specs.declared.certificate.Certificate.TheVariants.{Tops, Tree}
 use Rattle.tetri_cert.specs.declared.marks.Mark.{Mark}
@@ -11,33 +11,45 @@ use Rattle.std.proofs.lemmas.Bool.Decides.{nat_tests}
 use Rattle.std.proofs.lemmas.List.{drop_all, length-append, length-map}
 use Rattle.tetri_io.specs.Lines.{line_of, lines_from, onto}
 use Rattle.tetri_io.proofs.Lines.{line_of-le, first_line}
-use Rattle.tetri_report.specs.Block.{Block}
+use Rattle.tetri_base.specs.ResultSteps.{◌>>=◌}
+use Rattle.tetri_report.specs.Block.{Block, headed}
 use Rattle.tetri_report.specs.BlockLines.{certificate_lines, end_place, events}
+use Rattle.tetri_judge.specs.Places.{place_of}
 use Rattle.tetri_judge.specs.PlanOf.{planned}
+use Rattle.tetri_judge.specs.Seen.{Tells, WalksTree}
+use Rattle.tetri_judge.specs.declared.seen.Seen.{Seen}
+use Rattle.tetri_judge.specs.declared.seen.Seen.TheVariants as seen
+use Rattle.tetri_judge.specs.declared.tree_walk.TreeWalk.{TreeWalk}
 use Rattle.tetri_report.specs.Answers as report
-use Rattle.tetri_report.specs.declared.blocks.ReportFault.{ReportFault}
-use Rattle.tetri_report.specs.declared.blocks.ReportFault.TheVariants as faults
-use Rattle.tetri_state.specs.After.{after}
+use Rattle.tetri_report.specs.Line.{line_in}
+use Rattle.tetri_report.specs.Strips.{AnswersTold, BeginsBare, Telling, bare, block_told, certificate_with, ended_or_more, strip_behind, telling_of, told_answer, told_by}
+use Rattle.tetri_report.specs.Strips as telling
+use Rattle.tetri_report.specs.declared.cycle.Head.{Head}
+use Rattle.tetri_report.proofs.ReportLaws.{begins_bare_first, begins_bare_on, certificate_is_told, line_is_told, strip_of_bare, told_of_bare}
+use Rattle.tetri_report.specs.declared.fault.ReportFault.{ReportFault}
+use Rattle.tetri_report.specs.declared.fault.ReportFault.TheVariants as faults
 use Rattle.tetri_state.specs.Begin.{begin}
-use Rattle.tetri_state.specs.Launch.{worth_launched}
-use Rattle.tetri_space.specs.Space.{Bid, Space}
-use Rattle.tetri_report.specs.Reading.{Reading, behind_line, block_before, end_answer, is_certified, line_answer, opened, with_line, with_node, with_read}
+use Rattle.tetri_space.specs.Space.{Space, space}
+use Rattle.tetri_report.specs.Reading.{Reading, behind_line, block_before, end_answer, is_certified, line_answer, onto_blocks, opened, with_line, with_node, with_read}
 use Rattle.tetri_report.specs.Reading as reading
 use Rattle.tetri_report.specs.declared.cycle.Summary.{Summary}
 use Rattle.tetri_report.specs.declared.line.ReportLine.{ReportLine}
 use Rattle.tetri_report.specs.declared.line.ReportLine.TheVariants as lines
 use Rattle.tetri_report.specs.declared.line.Stage.{Stage}
 use Rattle.tetri_report.specs.declared.line.Stage.TheVariants as stages
-use Rattle.tetri_state.specs.Reached.{IsReached, between}
+use Rattle.tetri_state.specs.Reached.{IsReached, begun, between}
+use Rattle.tetri_state.proofs.ReachedLemmas.{begin_reached}
 use Rattle.tetri_state.specs.Snapshot.{Snapshot}
 use Rattle.tetri_trace.specs.Scenario.{Scenario}
-use Rattle.tetri_run.specs.Check.{Checking, ComesTo, EndsAs, FitsRun, IsInPlace, IsPassed, IsRefused, IsRight, IsShort, checked_behind, faulty, first_behind, malformed, out_of_place, too_long}
-use Rattle.tetri_run.specs.Checked.{AnswersEnded, AnswersLine, AnswersPlace, AnswersPlan, AnswersReport, AnswersVerdict, IsAt, IsBehind, IsFed, IsInOrder, WentOn, halt_of}
-use Rattle.tetri_run.specs.Cycle.{IsCycle, instance_at}
-use Rattle.tetri_run.specs.Faulty.{IsFaulty, why_of}
-use Rattle.tetri_run.specs.Progress.{summary_at}
-use Rattle.tetri_run.specs.Run.{IsRun, optimal_cycles, state_behind, summary_of, worth_of_run}
+use Rattle.tetri_run.specs.Check.{Checking, ComesTo, EndsAs, FitsRun, IsInPlace, IsPassed, IsRefused, IsShort, checked_behind, faulty, first_behind, malformed, out_of_place, too_long}
+use Rattle.tetri_run.specs.Checked.{AnswersCycle, AnswersLine, AnswersPlace, AnswersPlan, AnswersReport, AnswersTaken, AnswersVerdict, CountsRun, HasBegun, IsAt, IsBehind, IsDone, IsFed, IsInOrder, IsTaken, IsViewOf, Keeps, Sees, SeesSome, halt_of}
+use Rattle.tetri_run.specs.Faulty.{why_of}
+use Rattle.tetri_run.specs.Run.{IsRun, optimal_cycles, state_behind, worth_of_run}
 use Rattle.tetri_run.specs.declared.check.Progress.{Progress}
+use Rattle.tetri_run.specs.declared.sight.BegunSlot.{BegunSlot}
+use Rattle.tetri_run.specs.declared.sight.Sight.{Sight}
+use Rattle.tetri_run.specs.declared.sight.Sight.TheVariants as sights
+use Rattle.tetri_run.specs.declared.slot.SlotTally.{SlotTally}
 use Rattle.tetri_run.specs.declared.halt.CheckHalt.{CheckHalt}
 use Rattle.tetri_run.specs.declared.halt.CheckHalt.TheVariants.{Refused, ReadFault, NoMemory}
 use Rattle.tetri_run.specs.declared.why.Why.{Why}
@@ -118,6 +130,13 @@ first_is c l = by_test (reading.ends_block l && is_certified c.reading.stage)
     by_test true = refl
     by_test false = refl
 
+first_numbered : (first : ℕ) (r : Reading) (l : ReportLine) → 1 ≤ first → 1 ≤ first_after first r l
+first_numbered first r l some = by_test (reading.ends_block l && is_certified r.stage)
+  where
+    by_test : (b : Bool) → 1 ≤ cond b (r.lines + 1) first
+    by_test true = omega arith
+    by_test false = some
+
 pub in_order_on : (t : Scenario) (c : Checking) (line : List ℕ) (ended : Option Block) → line_answer t c.reading line ≡ Ok ended → IsInOrder c.first c.reading →
     IsInOrder (first_behind c ended) (behind_line t c.reading line)
 in_order_on t c line ended answer is =
@@ -128,13 +147,22 @@ in_order_on t c line ended answer is =
     (subst (IsInOrder (first_after c.first c.reading l)) (sym read.behind)
     (record {
       sane = refl;
+      numbered = first_numbered c.first c.reading l is.numbered;
       paged = pages c.first c.reading l is.paged;
       starts = starts_on c.reading.block l is.starts;
       closed = λ s e. closes l s e;
+      begins = subst BeginsBare read.behind (begins_bare_on t c.reading line is.begins);
     }))
 
 pub unchecked_in_order : IsInOrder 1 opened
-unchecked_in_order = record { sane = refl; paged = omega arith; starts = refl; closed = λ s e. absurd (no_summary s e) }
+unchecked_in_order = record {
+  sane = refl;
+  numbered = omega arith;
+  paged = omega arith;
+  starts = refl;
+  closed = λ s e. absurd (no_summary s e);
+  begins = begins_bare_first;
+}
   where
     no_summary : (s : Summary) → None ≡ Some s → ⊥
     no_summary s e = absurd cc
@@ -160,12 +188,20 @@ ended_is t r line b answer =
     by_test true e = cc
     by_test false e = absurd cc
 
--- the state behind cycles of a run is reached
-pub behind_reached : (t : Scenario) (past : List Block) (p : Progress) → IsBehind t past p.state p.tally → IsReached t between p.state
-behind_reached t past p is = subst (IsReached t between) (sym is.state) (run_reaches t past is.run)
+-- What is seen of a certificate.
 
-pub behind_now : (t : Scenario) (past : List Block) (p : Progress) → IsBehind t past p.state p.tally → p.state.now ≡ length past
-behind_now t past p is = ap (λ (s : Snapshot). s.now) is.state ∙ now_behind t past
+-- the slot is the one behind the run, whether it has begun or not
+pub sees_now : (t : Scenario) (last now : Snapshot) (c : Certificate) (sight : Sight) → Sees t last c now sight → now.now ≡ last.now
+sees_now t last now c (sights.Tops columns rows) sees = ap (λ (s : Snapshot). s.now) sees.0
+sees_now t last now c (sights.Tree slot walk count) sees = ap (λ (s : Snapshot). s.now) sees.0.state
+
+-- where tops are seen, or nothing, the slot has not begun
+pub sees_tops : (t : Scenario) (last now : Snapshot) (c : Certificate) (sight : Sight) (columns rows : ℕ) → Sees t last c now sight → c ≡ Tops columns rows → now ≡ last
+sees_tops t last now c (sights.Tops m n) columns rows sees e = sees.0
+sees_tops t last now c (sights.Tree slot walk count) columns rows sees e = absurd (tops_or_tree (sym e ∙ sees.1.1))
+  where
+    tops_or_tree : {marks : List Mark} → Tops columns rows ≡ Tree marks → ⊥
+    tops_or_tree e = absurd cc
 
 -- a verdict without a cause is want of memory
 pub no_cause : (v : Verdict) → why_of v ≡ None → v ≡ verdicts.NoMemory
@@ -178,6 +214,22 @@ no_cause (verdicts.Past node column) e = absurd cc
 no_cause (verdicts.WrongBound printed found) e = absurd cc
 no_cause verdicts.WrongMark e = absurd cc
 no_cause verdicts.NoMemory e = refl
+
+-- the line of a verdict does not depend on the certificate
+pub refused_within : (head : Head) (c d : Certificate) (v : Verdict) (first : ℕ) → place_of (headed head c) v ≤ end_place (headed head c) → first + end_place (headed head c) < 2 ^ 64 →
+    first + place_of (headed head d) v < 2 ^ 64
+refused_within head c d v first within few = omega (arith, within, few, same v)
+  where
+    same : (w : Verdict) → place_of (headed head d) w ≡ place_of (headed head c) w
+    same (verdicts.Unlawful u) = refl
+    same (verdicts.WrongValue printed found) = refl
+    same (verdicts.WasteGrant place) = refl
+    same (verdicts.BelowCarry printed carry) = refl
+    same (verdicts.BadTree node why) = refl
+    same (verdicts.Past node column) = refl
+    same (verdicts.WrongBound printed found) = refl
+    same verdicts.WrongMark = refl
+    same verdicts.NoMemory = refl
 
 -- what a verdict ends the check with is what the tests of the plan answer
 pub plan_answer : (i : Space) (carried budget first : ℕ) (b : Block) (v : Verdict) (halt : CheckHalt) → (v ≡ verdicts.NoMemory) ⊎ IsFirstFailed i carried budget (planned b) v →
@@ -255,9 +307,18 @@ summary_tested m s e = ap (summaries_equal m) (sym e) ∙ itself
     itself =
         one m.cycles _ (one m.launched _ (one m.ended _ (one m.cancelled _ (one m.expired _ (one m.worth _ (equal_tested m.optimal m.optimal refl))))))
 
--- what is added up are the numbers of the run
-pub summary_counts : (t : Scenario) (past : List Block) (p : Progress) → IsBehind t past p.state p.tally → summary_at p.state p.tally ≡ summary_of t past
-summary_counts t past p is = summary_is t past p.state p.tally is.state is.worth is.optimal
+-- what is kept are the numbers of the run
+pub keeps_counts : (t : Scenario) (c : Checking) (p : Progress) → Keeps t c p → CountsRun t c.past p
+keeps_counts t c p keeps = record {
+  run = keeps.behind.run;
+  now = sees_now t (state_behind t c.past) p.state c.reading.block.certificate p.sight keeps.sight ∙ now_behind t c.past;
+  counted = λ s told. summary_is t c.past p.state p.tally (at_rest s (ap (λ (r : Reading). r.summary) (sym keeps.reading) ∙ told)) keeps.behind.worth keeps.behind.optimal;
+}
+  where
+    at_rest : (s : Summary) → c.reading.summary ≡ Some s → p.state ≡ state_behind t c.past
+    at_rest s told =
+        let none : is_certified c.reading.stage ≡ false = ap is_certified (keeps.in_order.closed s told) in
+        sees_tops t (state_behind t c.past) p.state c.reading.block.certificate p.sight 0 0 keeps.sight (keeps.in_order.begins none)
 
 -- Going on by a line.
 
@@ -266,136 +327,229 @@ lines_more : (t : Scenario) (r : Reading) (line : List ℕ) (ended : Option Bloc
 lines_more t r line ended answer = ap (λ (q : Reading). q.lines) (read_line t r line ended answer).behind
 
 -- reading a line leaves what is kept of the run
-pub fed : (t : Scenario) (c : Checking) (p q : Progress) (line : List ℕ) (ended : Option Block) → IsAt t c p → IsShort line → line_answer t p.blocks line ≡ Ok ended →
-    q.blocks ≡ behind_line t p.blocks line → q.state ≡ p.state → q.first ≡ p.first → q.tally ≡ p.tally → IsFed t c q line ended
-fed t c p q line ended at short reads blocks state first tally = record {
+pub fed : (t : Scenario) (c : Checking) (p q : Progress) (line : List ℕ) (told : Telling) → IsAt t c p → IsShort line → told_answer t p.strips line ≡ Ok told →
+    q.strips ≡ strip_behind t p.strips line → q.state ≡ p.state → q.sight ≡ p.sight → q.first ≡ p.first → q.tally ≡ p.tally → IsFed t c q line told
+fed t c p q line told at short tells strips state sight first tally = record {
   short = short;
-  behind = subst (λ s. IsBehind t c.past s q.tally) (sym state) (subst (IsBehind t c.past p.state) (sym tally) at.behind);
-  first = first ∙ at.first;
-  in_order = at.in_order;
+  behind = subst (IsBehind t c.past) (sym tally) at.keeps.behind;
+  sight = subst (λ s. Sees t (state_behind t c.past) c.reading.block.certificate s q.sight) (sym state)
+      (subst (Sees t (state_behind t c.past) c.reading.block.certificate p.state) (sym sight) at.keeps.sight);
+  first = first ∙ at.keeps.first;
+  in_order = at.keeps.in_order;
   in_place = at.in_place;
-  reads = subst (λ r. line_answer t r line ≡ Ok ended) at.reading reads;
-  blocks = blocks ∙ ap (λ r. behind_line t r line) at.reading;
+  tells = sym (told_of_bare t c.reading line) ∙ ap (λ r. told_answer t r line) (sym at.keeps.reading) ∙ tells;
+  strips = strips ∙ ap (λ r. strip_behind t r line) at.keeps.reading ∙ strip_of_bare t c.reading line;
 }
 
 -- a line that is none refuses itself
 pub fault_refused : (t : Scenario) (c : Checking) (p new : Progress) (line : List ℕ) (fault : ReportFault) → IsAt t c p → IsShort line →
-    report.AnswersLine (Err fault) (line_answer t p.blocks line) → AnswersLine {U = Unit {0}} (Err (halt_of fault)) t c new line
-fault_refused t c p new line (faults.Malformed number) at short answer = malformed number short (subst (λ r. line_answer t r line ≡ Err number) at.reading answer)
+    AnswersTold (Err fault) (told_answer t p.strips line) → AnswersLine {U = Unit {0}} (Err (halt_of fault)) t c new line
+fault_refused t c p new line (faults.Malformed number) at short answer =
+    malformed number short
+    (line_is_told t c.reading line
+    ∙ ap (λ (a : Result Telling ℕ). a >>= λ x. Ok (block_told c.reading.block.certificate x))
+    (sym (told_of_bare t c.reading line) ∙ ap (λ r. told_answer t r line) (sym at.keeps.reading) ∙ answer))
 fault_refused t c p new line faults.NoMemory at short answer = tt
 
-module _ (t : Scenario) (c : Checking) (p : Progress) (line : List ℕ) where
-  -- before a cycle is checked
-  module _ (b : Block) (is : IsFed t c p line (Some b)) where
-    pub fed_reached : IsReached t between p.state
-    fed_reached = behind_reached t c.past p is.behind
+-- no fault of a report's text is one of reading
+pub text_read : {T : Type 0} (fault : ReportFault) (h : CheckHalt) → h ≡ halt_of fault → ◌≡◌ {A = Result T CheckHalt} (Err h) (Err ReadFault) → ⊥
+text_read (faults.Malformed line) h e is = cc
+text_read faults.NoMemory h e is = cc
 
-    pub fed_in_run : p.state.now < t.header.until
-    fed_in_run = omega (arith, behind_now t c.past p is.behind, not_closed t c line (Some b) is.reads is.in_order is.in_place)
+-- Tops are told where no certificate has begun.
 
-    same_block : b ≡ c.reading.block
-    same_block = ended_is t c.reading line b is.reads
+planned_uncertified : (g : Stage) → reading.is_planned g ≡ true → is_certified g ≡ false
+planned_uncertified stages.Planned e = refl
+planned_uncertified stages.Tree e = absurd (true_not_false e refl)
+planned_uncertified stages.Certified e = absurd (true_not_false e refl)
+planned_uncertified stages.Opened e = refl
+planned_uncertified stages.Begun e = refl
+planned_uncertified stages.Ends e = refl
+planned_uncertified stages.Cancels e = refl
+planned_uncertified stages.Fails e = refl
+planned_uncertified stages.Overs e = refl
+planned_uncertified stages.Expires e = refl
+planned_uncertified stages.Closed e = refl
 
-    -- its lines are among those that were read
-    pub fed_few : c.first + told_lines b ≤ c.reading.lines + 2
-    fed_few = subst (λ d. c.first + told_lines d ≤ c.reading.lines + 2) (sym same_block) is.in_order.paged
+not_tops : (columns rows : ℕ) (b : Bool) (d : Block) → ended_or_more (cond b (Some d) None) ≡ telling.tops columns rows → ⊥
+not_tops columns rows true d e = absurd cc
+not_tops columns rows false d e = absurd cc
 
-    pub fed_starts : length b.starts ≡ length b.grants
-    fed_starts = subst (λ (d : Block). length d.starts ≡ length d.grants) (sym same_block) is.in_order.starts
+told_tops : (r : Reading) (l : ReportLine) (columns rows : ℕ) → reading.may_follow r.stage l ≡ true → told_by r l ≡ telling.tops columns rows → is_certified r.stage ≡ false
+told_tops r (lines.Tops m n) columns rows fits e = planned_uncertified r.stage fits
+told_tops r (lines.Cycle number) columns rows fits e = absurd (not_tops columns rows (is_certified r.stage) r.block e)
+told_tops r (lines.Summary s) columns rows fits e = absurd (not_tops columns rows (is_certified r.stage) r.block e)
+told_tops r (lines.End piece) columns rows fits e = absurd cc
+told_tops r (lines.Cancel job) columns rows fits e = absurd cc
+told_tops r (lines.Fail job) columns rows fits e = absurd cc
+told_tops r (lines.Over piece) columns rows fits e = absurd cc
+told_tops r (lines.Expire job) columns rows fits e = absurd cc
+told_tops r (lines.Plan p) columns rows fits e = absurd cc
+told_tops r (lines.Grant grant start) columns rows fits e = absurd cc
+told_tops r (lines.Node mark) columns rows fits e = absurd cc
+told_tops r (lines.Launch job) columns rows fits e = absurd cc
 
-    pub fed_small : t.header.until ≤ 10000 → (p.tally.worth < 2 ^ 127) × (p.tally.optimal < 2 ^ 63)
-    fed_small few =
-        let within = not_closed t c line (Some b) is.reads is.in_order is.in_place in
-        (omega (arith, few, within, is.behind.small_worth), omega (arith, few, within, is.behind.small_optimal))
+tops_first : (t : Scenario) (r : Reading) (line : List ℕ) (columns rows : ℕ) → told_answer t r line ≡ Ok (telling.tops columns rows) → is_certified r.stage ≡ false
+tops_first t r line columns rows answer = by_fault r.fault (line_in t line) answer
+  where
+    same : {x y : Telling} → ◌≡◌ {A = Result Telling ℕ} (Ok x) (Ok y) → x ≡ y
+    same e = cc
 
-    -- a cycle that is not one of the run refuses one of its lines
-    pub cycle_refused : (q new : Progress) (number : ℕ) (h : CheckHalt) → AnswersEnded {U = Unit {0}} (Err h) t p q number b → AnswersLine {U = Unit {0}} (Err h) t c new line
-    cycle_refused q new number (Refused at why) found =
-        subst (λ n. IsRefused t c line n why) (sym (found.1 ∙ ap (λ n. n + found.0) is.first))
-        (faulty b found.0 why is.short is.reads (subst (λ s. IsFaulty t s b found.0 why) is.behind.state found.2))
-    cycle_refused q new number ReadFault found = absurd found
-    cycle_refused q new number NoMemory found = tt
+    by_test : (l : ReportLine) (b : Bool) → reading.may_follow r.stage l ≡ b → telling_of r (cond b (Some l) None) ≡ Ok (telling.tops columns rows) → is_certified r.stage ≡ false
+    by_test l true fits e = told_tops r l columns rows fits (same e)
+    by_test l false fits e = absurd cc
 
-    -- the run has one cycle more
-    pub behind_more : (q : Progress) (number : ℕ) → WentOn t p q number b → IsBehind t (b ∷ c.past) q.state q.tally
-    behind_more q number on =
-        let here = is.behind.state in
-        let worth : on.slot.worth ≡ worth_launched (instance_at t (state_behind t c.past)) b.grants = on.done.worth ∙ ap (λ s. worth_launched (instance_at t s) b.grants) here in
-        record {
-          run = (subst (λ (s : Snapshot). s.now < t.header.until) here fed_in_run, subst (λ s. IsCycle t s b) here on.done.cycle, is.behind.run);
-          state = on.done.state ∙ ap (λ s. after t (begin t s) b.grants) here;
-          worth = on.worth ∙ ap (λ n. n + on.slot.worth) is.behind.worth ∙ ap (λ n. worth_of_run t c.past + n) worth;
-          optimal = on.optimal ∙ ap (λ n. n + on.slot.optimal) is.behind.optimal ∙ ap (λ n. optimal_cycles c.past + n) on.done.optimal;
-          small_worth = omega (arith, on.worth, on.small, is.behind.small_worth);
-          small_optimal = omega (arith, on.optimal, on.most, is.behind.small_optimal);
-        }
+    by_fault : (f : Option ℕ) (o : Option ReportLine) → reading.unless_refused f (λ n. Err n) (telling_of r (reading.fitting r.stage o)) ≡ Ok (telling.tops columns rows) →
+        is_certified r.stage ≡ false
+    by_fault (Some n) o e = absurd cc
+    by_fault None None e = absurd cc
+    by_fault None (Some l) e = by_test l (reading.may_follow r.stage l) refl e
 
-    right_here : (q : Progress) (number : ℕ) → WentOn t p q number b → IsRight t c (Some b)
-    right_here q number on = subst (λ s. IsCycle t s b) is.behind.state on.done.cycle
+-- A line that was read, and told this.
+module _ (t : Scenario) (c : Checking) (p : Progress) (line : List ℕ) (told : Telling) (is : IsFed t c p line told) where
+  fed_reads : line_answer t c.reading line ≡ Ok (block_told c.reading.block.certificate told)
+  fed_reads = line_is_told t c.reading line ∙ ap (λ (a : Result Telling ℕ). a >>= λ x. Ok (block_told c.reading.block.certificate x)) is.tells
 
-    place_here : (q : Progress) (number : ℕ) → WentOn t p q number b → q.blocks ≡ behind_line t c.reading line
-    place_here q number on = on.blocks ∙ is.blocks
+  fed_certificate : (behind_line t c.reading line).block.certificate ≡ certificate_with c.reading.block.certificate told
+  fed_certificate = certificate_is_told t c.reading line told is.in_order.begins is.tells
 
-    -- the line that ended it has its place, or is refused
-    pub cycle_passed : (q : Progress) (number : ℕ) → number ≡ c.reading.lines + 1 → WentOn t p q number b → FitsRun t (b ∷ c.past) q.blocks.summary →
-        (behind : Checking) × IsPassed t c line behind × IsAt t behind q
-    cycle_passed q number counted on fits =
-        let place = subst (λ (r : Reading). FitsRun t (b ∷ c.past) r.summary) (place_here q number on) fits in (
-          checked_behind t c line (Some b),
-          record { short = is.short; ended = Some b; reads = is.reads; right = right_here q number on; in_place = place; is = refl },
-          record {
-            behind = behind_more q number on;
-            reading = place_here q number on;
-            first = on.first ∙ counted;
-            in_order = in_order_on t c line (Some b) is.reads is.in_order;
-            in_place = place;
-          },
-        )
+  pub fed_lines : p.strips.lines ≡ c.reading.lines + 1
+  fed_lines = ap (λ (r : Reading). r.lines) is.strips ∙ lines_more t c.reading line _ fed_reads
 
-    pub cycle_misplaced : (q new : Progress) (number : ℕ) → number ≡ c.reading.lines + 1 → WentOn t p q number b → (h : CheckHalt) → (h ≡ Refused number WrongEvents) →
-        (FitsRun t (b ∷ c.past) q.blocks.summary → ⊥) → AnswersLine {U = Unit {0}} (Err h) t c new line
-    cycle_misplaced q new number counted on h is_halt misfit =
-        subst (λ k. AnswersLine {U = Unit {0}} (Err k) t c new line) (sym is_halt)
-        (subst (λ n. IsRefused t c line n WrongEvents) (sym counted)
-        (out_of_place (Some b) is.short is.reads (right_here q number on)
-        (λ place. misfit (subst (λ (r : Reading). FitsRun t (b ∷ c.past) r.summary) (sym (place_here q number on)) place))))
+  -- the slot is one of the run
+  pub fed_reached : IsReached t between (state_behind t c.past)
+  fed_reached = run_reaches t c.past is.behind.run
 
-    pub cycle_placed : (q : Progress) (number : ℕ) → number ≡ p.blocks.lines → WentOn t p q number b → (r : Result (Unit {0}) CheckHalt) →
-        AnswersPlace r t (b ∷ c.past) q.blocks.summary number → AnswersLine r t c q line
-    cycle_placed q number counted on (Ok u) fits = cycle_passed q number (counted ∙ ap (λ (r : Reading). r.lines) is.blocks ∙ lines_more t c.reading line (Some b) is.reads) on fits
-    cycle_placed q number counted on (Err h) misfits =
-        cycle_misplaced q q number (counted ∙ ap (λ (r : Reading). r.lines) is.blocks ∙ lines_more t c.reading line (Some b) is.reads) on h misfits.0 misfits.1
+  pub fed_in_run : (state_behind t c.past).now < t.header.until
+  fed_in_run = omega (arith, now_behind t c.past, not_closed t c line _ fed_reads is.in_order is.in_place)
 
-  -- a line within a block, or the summary by itself
-  module _ (is : IsFed t c p line None) where
-    pub line_passed : FitsRun t c.past p.blocks.summary → (behind : Checking) × IsPassed t c line behind × IsAt t behind p
-    line_passed fits =
-        let place = subst (λ (r : Reading). FitsRun t c.past r.summary) is.blocks fits in (
-          checked_behind t c line None,
-          record { short = is.short; ended = None; reads = is.reads; right = tt; in_place = place; is = refl },
-          record { behind = is.behind; reading = is.blocks; first = is.first; in_order = in_order_on t c line None is.reads is.in_order; in_place = place },
-        )
+  pub fed_begins : IsReached t begun (begin t (state_behind t c.past))
+  fed_begins = begin_reached t (state_behind t c.past) fed_reached fed_in_run
 
-    pub line_misplaced : (new : Progress) (number : ℕ) → number ≡ c.reading.lines + 1 → (h : CheckHalt) → (h ≡ Refused number WrongEvents) → (FitsRun t c.past p.blocks.summary → ⊥) →
-        AnswersLine {U = Unit {0}} (Err h) t c new line
-    line_misplaced new number counted h is_halt misfit =
-        subst (λ k. AnswersLine {U = Unit {0}} (Err k) t c new line) (sym is_halt)
-        (subst (λ n. IsRefused t c line n WrongEvents) (sym counted)
-        (out_of_place None is.short is.reads tt (λ place. misfit (subst (λ (r : Reading). FitsRun t c.past r.summary) (sym is.blocks) place))))
+  pub fed_sees : (number : ℕ) → number ≡ p.strips.lines → number < 2 ^ 63 → SeesSome t p.state p.sight (2 ^ 63)
+  fed_sees number counted few = record {
+    last = state_behind t c.past;
+    certificate = c.reading.block.certificate;
+    reached = fed_reached;
+    in_run = fed_in_run;
+    sees = is.sight;
+    few = omega (arith, is.in_order.paged, is.in_order.numbered, fed_lines, counted, few);
+  }
 
-    pub line_placed : (number : ℕ) → number ≡ p.blocks.lines → (r : Result (Unit {0}) CheckHalt) → AnswersPlace r t c.past p.blocks.summary number → AnswersLine r t c p line
-    line_placed number counted (Ok u) fits = line_passed fits
-    line_placed number counted (Err h) misfits =
-        line_misplaced p number (counted ∙ ap (λ (r : Reading). r.lines) is.blocks ∙ lines_more t c.reading line None is.reads) h misfits.0 misfits.1
+  -- a line that ends no cycle was taken, once what it told is seen
+  pub taken_on : (new : Progress) → block_told c.reading.block.certificate told ≡ None → new.tally ≡ p.tally → new.strips ≡ p.strips → new.first ≡ p.first →
+      Sees t (state_behind t c.past) (certificate_with c.reading.block.certificate told) new.state new.sight → IsTaken t c line new
+  taken_on new none tally strips first sees =
+      let reads : line_answer t c.reading line ≡ Ok None = fed_reads ∙ ap Ok none in
+      record {
+        ended = None;
+        short = is.short;
+        reads = reads;
+        right = tt;
+        keeps = record {
+          behind = subst (IsBehind t c.past) (sym tally) is.behind;
+          sight = subst (λ d. Sees t (state_behind t c.past) d new.state new.sight) (sym fed_certificate) sees;
+          reading = strips ∙ is.strips;
+          first = first ∙ is.first;
+          in_order = in_order_on t c line None reads is.in_order;
+        };
+      }
+
+-- where tops are told the slot has not begun
+pub tops_told : (t : Scenario) (c : Checking) (p : Progress) (line : List ℕ) (columns rows : ℕ) → IsFed t c p line (telling.tops columns rows) → p.state ≡ state_behind t c.past
+tops_told t c p line columns rows is =
+    sees_tops t (state_behind t c.past) p.state c.reading.block.certificate p.sight 0 0 is.sight
+    (is.in_order.begins (tops_first t c.reading line columns rows is.tells))
+
+-- A line that ended the cycle of this head.
+module _ (t : Scenario) (c : Checking) (p : Progress) (line : List ℕ) (head : Head) (is : IsFed t c p line (telling.ended (headed head (Tops 0 0)))) where
+  abbrev ended : Block
+  ended = headed head c.reading.block.certificate
+
+  ended_reads : line_answer t c.reading line ≡ Ok (Some ended)
+  ended_reads = fed_reads t c p line _ is
+
+  same_block : ended ≡ c.reading.block
+  same_block = ended_is t c.reading line ended ended_reads
+
+  -- its lines are among those that were read
+  pub fed_few : (number : ℕ) → number ≡ p.strips.lines → number < 2 ^ 63 → p.first + end_place ended < 2 ^ 64
+  fed_few number counted few =
+      let paged : c.first + told_lines ended ≤ c.reading.lines + 2 = subst (λ d. c.first + told_lines d ≤ c.reading.lines + 2) (sym same_block) is.in_order.paged in
+      omega (arith, paged, is.first, fed_lines t c p line _ is, counted, few)
+
+  pub fed_starts : length head.starts.items ≡ length head.grants
+  fed_starts = subst (λ (d : Block). length d.starts ≡ length d.grants) (sym same_block) is.in_order.starts
+
+  pub fed_small : t.header.until ≤ 10000 → (p.tally.worth < 2 ^ 127) × (p.tally.optimal < 2 ^ 63)
+  fed_small few =
+      let within = not_closed t c line (Some ended) ended_reads is.in_order is.in_place in
+      (omega (arith, few, within, is.behind.small_worth), omega (arith, few, within, is.behind.small_optimal))
+
+  -- a cycle that is not one of the run refuses one of its lines
+  pub cycle_refused : (new : Progress) (state : Snapshot) (h : CheckHalt) → AnswersCycle (Err h) t (state_behind t c.past) state p.first ended →
+      AnswersTaken {U = Unit {0}} (Err h) t c new line
+  cycle_refused new state (Refused at why) found =
+      subst (λ n. IsRefused t c line n why) (sym (found.1 ∙ ap (λ n. n + found.0) is.first)) (faulty ended found.0 why is.short ended_reads found.2)
+  cycle_refused new state ReadFault found = absurd found
+  cycle_refused new state NoMemory found = tt
+
+  -- the run has one cycle more
+  module _ (new : Progress) (slot : SlotTally) (done : IsDone t (state_behind t c.past) new.state ended slot) (small : slot.worth < 2 ^ 64) (most : slot.optimal ≤ 1)
+      (worth : new.tally.worth ≡ p.tally.worth + slot.worth) (optimal : new.tally.optimal ≡ p.tally.optimal + slot.optimal) where
+    behind_more : IsBehind t (ended ∷ c.past) new.tally
+    behind_more = record {
+      run = (fed_in_run t c p line _ is, done.cycle, is.behind.run);
+      worth = worth ∙ ap (λ n. n + slot.worth) is.behind.worth ∙ ap (λ n. worth_of_run t c.past + n) done.worth;
+      optimal = optimal ∙ ap (λ n. n + slot.optimal) is.behind.optimal ∙ ap (λ n. optimal_cycles c.past + n) done.optimal;
+      small_worth = omega (arith, worth, small, is.behind.small_worth);
+      small_optimal = omega (arith, optimal, most, is.behind.small_optimal);
+    }
+
+    pub cycle_taken : new.sight ≡ sights.Tops 0 0 → new.strips ≡ p.strips → new.first ≡ p.strips.lines → IsTaken t c line new
+    cycle_taken unseen strips first = record {
+      ended = Some ended;
+      short = is.short;
+      reads = ended_reads;
+      right = done.cycle;
+      keeps = record {
+        behind = behind_more;
+        sight = subst (Sees t (state_behind t (ended ∷ c.past)) (behind_line t c.reading line).block.certificate new.state) (sym unseen) (done.state, fed_certificate t c p line _ is);
+        reading = strips ∙ is.strips;
+        first = first ∙ fed_lines t c p line _ is;
+        in_order = in_order_on t c line (Some ended) ended_reads is.in_order;
+      };
+    }
+
+-- a line that was taken has its place, or is refused
+pub placed : (t : Scenario) (c : Checking) (line : List ℕ) (new : Progress) (number : ℕ) (taken : IsTaken t c line new) → number ≡ c.reading.lines + 1 →
+    (r : Result (Unit {0}) CheckHalt) → AnswersPlace r t (onto_blocks taken.ended c.past) new.strips.summary number → AnswersLine r t c new line
+placed t c line new number taken counted (Ok u) fits =
+    let place = subst (FitsRun t (onto_blocks taken.ended c.past)) (ap (λ (r : Reading). r.summary) taken.keeps.reading) fits in (
+      checked_behind t c line taken.ended,
+      record { short = taken.short; ended = taken.ended; reads = taken.reads; right = taken.right; in_place = place; is = refl },
+      record { keeps = taken.keeps; in_place = place },
+    )
+placed t c line new number taken counted (Err h) misfits =
+    subst (λ k. AnswersLine {U = Unit {0}} (Err k) t c new line) (sym misfits.0)
+    (subst (λ n. IsRefused t c line n WrongEvents) (sym counted)
+    (out_of_place taken.ended taken.short taken.reads taken.right
+    (λ place. misfits.1 (subst (FitsRun t (onto_blocks taken.ended c.past)) (sym (ap (λ (r : Reading). r.summary) taken.keeps.reading)) place))))
+
+-- what taking a line refuses, the line refuses
+pub not_taken : (t : Scenario) (c : Checking) (line : List ℕ) (new : Progress) (h : CheckHalt) → AnswersTaken {U = Unit {0}} (Err h) t c new line → AnswersLine {U = Unit {0}} (Err h) t c new line
+not_taken t c line new (Refused number why) refused = refused
+not_taken t c line new ReadFault refused = refused
+not_taken t c line new NoMemory refused = refused
 
 -- The lines of a report, one after the other.
 
-pub passed_lines : (t : Scenario) (c d : Checking) (p q : Progress) (line : List ℕ) → IsAt t c p → IsPassed t c line d → IsAt t d q → q.blocks.lines ≡ p.blocks.lines + 1
+pub passed_lines : (t : Scenario) (c d : Checking) (p q : Progress) (line : List ℕ) → IsAt t c p → IsPassed t c line d → IsAt t d q → q.strips.lines ≡ p.strips.lines + 1
 passed_lines t c d p q line at passed on =
-    ap (λ (r : Reading). r.lines) on.reading
+    ap (λ (r : Reading). r.lines) on.keeps.reading
     ∙ ap (λ (e : Checking). e.reading.lines) passed.is
     ∙ lines_more t c.reading line passed.ended passed.reads
-    ∙ ap (λ (r : Reading). r.lines + 1) (sym at.reading)
+    ∙ ap (λ (r : Reading). r.lines + 1) (sym at.keeps.reading)
 
 abbrev texts_from : ℕ → List ℕ → List (List ℕ)
 texts_from at bytes = map (λ l. l.0) (lines_from at bytes)
@@ -417,13 +571,13 @@ some_line at (x ∷ xs) h =
     onto_some (l ∷ ls) = (((x ∷ []) ++ l.0, l.1), ls, refl)
 
 -- the next line has too many bytes
-pub comes_too_long : (t : Scenario) (c : Checking) (p : Progress) (content : List ℕ) (offset number : ℕ) → IsAt t c p → number ≡ p.blocks.lines + 1 →
+pub comes_too_long : (t : Scenario) (c : Checking) (p : Progress) (content : List ℕ) (offset number : ℕ) → IsAt t c p → number ≡ p.strips.lines + 1 →
     1048576 < length (line_of (drop offset content)) → ComesTo t c (texts_from offset (drop offset content)) (Err (number, LineTooLong))
 comes_too_long t c p content offset number at counted long =
     let found = some_line offset (drop offset content) (omega (arith, long, line_of-le (drop offset content))) in
     let first = first_line offset (drop offset content) found.0.0 found.0.1 found.1 found.2 in
     subst (λ ls. ComesTo t c (map (λ l. l.0) ls) (Err (number, LineTooLong))) (sym found.2)
-    (inl (subst (λ n. IsRefused t c found.0.0 n LineTooLong) (sym (counted ∙ ap (λ (r : Reading). r.lines + 1) at.reading)) (too_long (omega (arith, long, ap length first.bytes_are)))))
+    (inl (subst (λ n. IsRefused t c found.0.0 n LineTooLong) (sym (counted ∙ ap (λ (r : Reading). r.lines + 1) at.keeps.reading)) (too_long (omega (arith, long, ap length first.bytes_are)))))
 
 -- no byte is left
 none_left : (content : List ℕ) (offset : ℕ) → length content ≤ offset → texts_from offset (drop offset content) ≡ []
@@ -433,14 +587,15 @@ pub comes_to_end : (t : Scenario) (c : Checking) (content : List ℕ) (offset : 
     ComesTo t c (texts_from offset (drop offset content)) outcome
 comes_to_end t c content offset outcome past ends = subst (λ ls. ComesTo t c ls outcome) (sym (none_left content offset past)) ends
 
-pub end_accepted : (t : Scenario) (c : Checking) (p : Progress) (cycles : ℕ) (s : Summary) → IsAt t c p → cycles ≡ p.state.now → end_answer p.blocks ≡ Ok s → EndsAs t c (Ok cycles)
-end_accepted t c p cycles s at counted ends = (counted ∙ behind_now t c.past p at.behind, (s, subst (λ r. end_answer r ≡ Ok s) at.reading ends))
+pub end_accepted : (t : Scenario) (c : Checking) (p : Progress) (cycles : ℕ) (s : Summary) → IsAt t c p → cycles ≡ p.state.now → end_answer p.strips ≡ Ok s → EndsAs t c (Ok cycles)
+end_accepted t c p cycles s at counted ends =
+    (counted ∙ (keeps_counts t c p at.keeps).now, (s, subst (λ r. end_answer r ≡ Ok s) at.keeps.reading ends))
 
 pub end_refused : (t : Scenario) (c : Checking) (p : Progress) (content : List ℕ) (offset : ℕ) (fault : ReportFault) → IsAt t c p → length content ≤ offset →
-    report.AnswersEnd (Err fault) (end_answer p.blocks) → (Comes : Result ℕ (ℕ × Why) → Type 0) →
+    report.AnswersEnd (Err fault) (end_answer p.strips) → (Comes : Result ℕ (ℕ × Why) → Type 0) →
     ((outcome : Result ℕ (ℕ × Why)) → ComesTo t c (texts_from offset (drop offset content)) outcome → Comes outcome) → AnswersReport (Err (halt_of fault)) Comes
 end_refused t c p content offset (faults.Malformed number) at past ends Comes goes =
-    goes (Err (number, Malformed)) (comes_to_end t c content offset (Err (number, Malformed)) past (refl, subst (λ r. end_answer r ≡ Err number) at.reading ends))
+    goes (Err (number, Malformed)) (comes_to_end t c content offset (Err (number, Malformed)) past (refl, subst (λ r. end_answer r ≡ Err number) at.keeps.reading ends))
 end_refused t c p content offset faults.NoMemory at past ends Comes goes = tt
 
 -- a line that refuses ends the check of further lines
@@ -449,3 +604,54 @@ pub line_ends : (t : Scenario) (c : Checking) (new : Progress) (line : List ℕ)
 line_ends t c new line rest (Refused number why) refused Comes goes = goes (Err (number, why)) (inl refused)
 line_ends t c new line rest ReadFault refused Comes goes = tt
 line_ends t c new line rest NoMemory refused Comes goes = tt
+
+-- Seeing a node, and what a cycle is judged by.
+
+module _ (t : Scenario) (now : Snapshot) where
+  -- before the first node the slot has not begun
+  pub unbegun : (columns rows most : ℕ) → SeesSome t now (sights.Tops columns rows) most → IsReached t between now × (now.now < t.header.until)
+  unbegun columns rows most some = (subst (IsReached t between) (sym some.sees.0) some.reached, subst (λ (s : Snapshot). s.now < t.header.until) (sym some.sees.0) some.in_run)
+
+  -- a walk over fewer marks than so many
+  pub walked : (slot : BegunSlot) (walk : TreeWalk) (count most : ℕ) → SeesSome t now (sights.Tree slot walk count) most →
+      ((s : Space) × (marks : List Mark) × WalksTree s marks walk) × (walk.fed < most) × (count < most)
+  walked slot walk count most some =
+      let few : length some.sees.1.0 < most = omega (arith, some.few, ap (λ c. length (certificate_lines c)) some.sees.1.1, length-map some.sees.1.0 lines.Node) in
+      ((space slot.inst, some.sees.1.0, some.sees.1.2), omega (arith, few, some.sees.1.2.fed), omega (arith, few, some.sees.1.3))
+
+  -- one node more
+  pub sees_first : (last new : Snapshot) (c : Certificate) (columns rows : ℕ) (slot : BegunSlot) (walk : TreeWalk) (m : Mark) → Sees t last c now (sights.Tops columns rows) →
+      HasBegun t now new slot → WalksTree (space slot.inst) (m ∷ []) walk → Sees t last (with_node c m) new (sights.Tree slot walk 1)
+  sees_first last new c columns rows slot walk m sees opening walks = (
+    subst (λ (s : Snapshot). HasBegun t s new slot) sees.0 opening,
+    (m ∷ [], ap (λ d. with_node d m) sees.1, walks, refl),
+  )
+
+  pub sees_next : (last : Snapshot) (c : Certificate) (slot : BegunSlot) (walk new : TreeWalk) (count : ℕ) (m : Mark) → Sees t last c now (sights.Tree slot walk count) →
+      ((s : Space) (marks : List Mark) → WalksTree s marks walk → WalksTree s (marks ++ m ∷ []) new) → Sees t last (with_node c m) now (sights.Tree slot new (count + 1))
+  sees_next last c slot walk new count m sees on = (
+    sees.0,
+    (
+      sees.1.0 ++ m ∷ [],
+      ap (λ d. with_node d m) sees.1.1,
+      on (space slot.inst) sees.1.0 sees.1.2,
+      omega (arith, sees.1.3, length-append sees.1.0 (m ∷ [])),
+    ),
+  )
+
+  -- once the cycle is whole
+  pub views_tops : (last new : Snapshot) (c : Certificate) (columns rows : ℕ) (slot : BegunSlot) → Sees t last c now (sights.Tops columns rows) → HasBegun t now new slot →
+      IsViewOf t last c new (record { slot = slot; seen = seen.Tops columns rows; lines = 1 })
+  views_tops last new c columns rows slot sees opening = record {
+    slot = subst (λ (s : Snapshot). HasBegun t s new slot) sees.0 opening;
+    tells = subst (λ d. Tells (space slot.inst) d (seen.Tops columns rows)) (sym sees.1) (refl, refl);
+    lines = ap (λ d. length (certificate_lines d)) sees.1;
+  }
+
+  pub views_tree : (last : Snapshot) (c : Certificate) (slot : BegunSlot) (walk : TreeWalk) (count : ℕ) (found : Seen) → Sees t last c now (sights.Tree slot walk count) →
+      ((s : Space) (marks : List Mark) → WalksTree s marks walk → Tells s (Tree marks) found) → IsViewOf t last c now (record { slot = slot; seen = found; lines = count })
+  views_tree last c slot walk count found sees told = record {
+    slot = sees.0;
+    tells = subst (λ d. Tells (space slot.inst) d found) (sym sees.1.1) (told (space slot.inst) sees.1.0 sees.1.2);
+    lines = ap (λ d. length (certificate_lines d)) sees.1.1 ∙ length-map sees.1.0 lines.Node ∙ sym sees.1.3;
+  }

@@ -5,9 +5,20 @@ use Rattle.tetri_report.specs.Block.{Block}
 use Rattle.tetri_trace.specs.Lines.{scenario_in}
 use Rattle.tetri_trace.specs.Scenario.{Scenario}
 use Rattle.tetri_trace.specs.declared.fault.TraceWhy.{TraceWhy}
+use Rattle.tetri_advice.specs.Heard.{Heard}
+use Rattle.tetri_advice.specs.Seat.{Seat}
+use Rattle.tetri_trace.specs.Sound.{IsSound}
+use Rattle.tetri_run.specs.Advised.{IsAdvisedRun}
 use Rattle.tetri_run.specs.Check.{IsAccepted}
-use Rattle.tetri_run.specs.Run.{NextText, cycle, summary}
-use Rattle.tetri_run.specs.Status.{IsCheckAnswer, IsCheckPromised, IsPromisedOf, IsRefusal}
+use Rattle.tetri_run.specs.Progress.{StoppedBetween, StoppedInText, WroteReport, WroteRun}
+use Rattle.tetri_run.specs.Promised.{IsPromisedBy}
+use Rattle.tetri_run.specs.Run.{AnyLists, IsPlannedRun}
+use Rattle.tetri_run.specs.Telling.{NextText, cycle, summary}
+use Rattle.tetri_run.specs.Status.{IsCheckAnswer, IsCheckPromised, IsPromised, IsPromisedOf, IsRefusal, IsRunAnswer}
+use Rattle.tetri_run.specs.declared.telling.Telling.{Telling}
+use Rattle.tetri_run.specs.declared.telling.Telling.TheVariants.{Report}
+use Rattle.tetri_run.proofs.AdvisedLemmas.{any_run}
+use Rattle.tetri_run.proofs.ReadBackLemmas.{wrote_report}
 use Rattle.tetri_run.specs.Words.{Asked, to_check, to_load}
 use Rattle.tetri_run.specs.declared.status.Status.{Status}
 use Rattle.tetri_run.specs.declared.status.Status.TheVariants.{Done, Refused, Usage, ReadFault, WriteFault, BadTrace, NoMemory}
@@ -53,8 +64,8 @@ same_names a b trace report o e f = (first (e ∙ f), second (e ∙ f))
 -- ---- a run
 -- a run that is such is such another one
 module _ (IsSuch IsOther : Scenario → List Block → Type 0) (other : (t : Scenario) (past : List Block) → IsSuch t past → IsOther t past) where
-  next_weakens : (t : Scenario) (past : List Block) (text : List ℕ) → NextText IsSuch t past text → NextText IsOther t past text
-  next_weakens t past _ (cycle b run) = cycle b (other t (b ∷ past) run)
+  next_weakens : (t : Scenario) (past : List Block) (text : List ℕ) → NextText Report IsSuch t past text → NextText Report IsOther t past text
+  next_weakens t past text (cycle b _ run told) = cycle b text (other t (b ∷ past) run) told
   next_weakens t past _ (summary whole) = summary whole
 
   pub promise_weakens : (status : Status) (trace : Result Scenario (ℕ × TraceWhy)) (before after : Option (List ℕ)) → IsPromisedOf IsSuch status trace before after →
@@ -72,6 +83,8 @@ module _ (IsSuch IsOther : Scenario → List Block → Type 0) (other : (t : Sce
         record {
           past = w.past;
           run = other promise.0 w.past w.run;
+          front = w.front;
+          told = w.told;
           text = w.text;
           next = next_weakens promise.0 w.past w.text w.next;
           part = w.part;
@@ -81,7 +94,17 @@ module _ (IsSuch IsOther : Scenario → List Block → Type 0) (other : (t : Sce
       )
   promise_weakens (BadTrace line why) trace before after promise = promise
   promise_weakens NoMemory trace before after promise =
-      ⊎_elim inl (λ stopped. inr (stopped.0, stopped.1, record { past = stopped.2.past; run = other stopped.0 stopped.2.past stopped.2.run; written = stopped.2.written })) promise
+      ⊎_elim inl (λ stopped. inr (
+        stopped.0,
+        stopped.1,
+        record {
+          past = stopped.2.past;
+          run = other stopped.0 stopped.2.past stopped.2.run;
+          text = stopped.2.text;
+          told = stopped.2.told;
+          written = stopped.2.written;
+        },
+      )) promise
 
 -- the words name one number
 pub same_number : (m n : ℕ) (o : Option Asked) → Some (to_load m) ≡ o → o ≡ Some (to_load n) → m ≡ n
@@ -89,3 +112,29 @@ same_number m n o e f = number_is (e ∙ f)
   where
     number_is : Some (to_load m) ≡ Some (to_load n) → m ≡ n
     number_is e = cc
+
+-- ---- what a run that is told answers
+-- of a trace that was read
+module _ (trace : Result Scenario (ℕ × TraceWhy)) (t : Scenario) (is : trace ≡ Ok t) where
+  pub answer_promised : (telling : Telling) (IsSuch : Scenario → List Block → Type 0) (Wrote : Scenario → Option (List ℕ) → Option (List ℕ) → Type 0) (status : Status)
+      (before after : Option (List ℕ)) → (WroteRun telling IsSuch t before after → Wrote t before after) → IsRunAnswer telling IsSuch status t before after →
+      IsPromisedBy Wrote (StoppedInText telling IsSuch) (StoppedBetween telling IsSuch) status trace before after
+  answer_promised telling IsSuch Wrote Done before after whole answer = (t, is, whole answer)
+  answer_promised telling IsSuch Wrote (Refused line why) before after whole answer = answer
+  answer_promised telling IsSuch Wrote Usage before after whole answer = tt
+  answer_promised telling IsSuch Wrote ReadFault before after whole answer = tt
+  answer_promised telling IsSuch Wrote WriteFault before after whole answer = (t, is, answer)
+  answer_promised telling IsSuch Wrote (BadTrace line why) before after whole answer = absurd answer
+  answer_promised telling IsSuch Wrote NoMemory before after whole answer = inr (t, is, answer)
+
+  -- the report of a run that a panel advised
+  module _ (sound : IsSound t) (sat : List Seat) (missed now : ℕ) (status : Status) (before after : Option (List ℕ))
+      (answer : IsRunAnswer Report (IsAdvisedRun sat missed now) status t before after) where
+    pub report_promised : IsPromisedOf (IsAdvisedRun sat missed now) status trace before after
+    report_promised =
+        answer_promised Report (IsAdvisedRun sat missed now) (WroteReport (IsAdvisedRun sat missed now)) status before after
+        (wrote_report (Heard sat missed now) (IsAdvisedRun sat missed now) t sound (λ past advised. advised.run) before after) answer
+
+    -- whatever lists were given
+    pub plan_promised : IsPromised status trace before after
+    plan_promised = promise_weakens (IsAdvisedRun sat missed now) (IsPlannedRun AnyLists) (any_run sat missed now) status trace before after report_promised

@@ -1,11 +1,14 @@
 pub mod Cycle
 pub mod Run
+pub mod Telling
 pub mod Advised
 pub mod Faulty
 pub mod Check
 pub mod Checked
 pub mod Progress
 pub mod Words
+pub mod Promised
 pub mod Status
 pub mod Ended
 pub mod ByParts
+pub mod Admitting

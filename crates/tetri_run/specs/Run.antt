@@ -93,8 +93,3 @@ cycles_text t (b ∷ past) = cycles_text t past ++ cycle_text t b
 -- the report of a run
 abbrev pub report_text : Scenario → List Block → List ℕ
 report_text t past = cycles_text t past ++ summary_text (summary_of t past)
-
--- The next text of the report of such a run: the cycle that follows, or the summary behind the last one.
-pub data NextText (IsSuch : Scenario → List Block → Type 0) (t : Scenario) (past : List Block) : List ℕ → Type 0 where
-  cycle : (b : Block) → IsSuch t (b ∷ past) → NextText IsSuch t past (cycle_text t b)
-  summary : length past ≡ t.header.until → NextText IsSuch t past (summary_text (summary_of t past))

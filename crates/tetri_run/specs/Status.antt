@@ -14,23 +14,35 @@ use Rattle.tetri_space.specs.declared.rules.Rule.TheVariants as rules
 use Rattle.tetri_trace.specs.declared.fault.TraceFault.{TraceFault}
 use Rattle.tetri_trace.specs.declared.fault.TraceFault.TheVariants as trace_faults
 use Rattle.tetri_run.specs.Check.{IsAccepted, IsAssured, IsRefusedAt}
-use Rattle.tetri_run.specs.Progress.{StoppedBetween, StoppedInSummary, StoppedInText, WroteReport, WroteSummary}
+use Rattle.tetri_run.specs.Progress.{StoppedBetween, StoppedInSummary, StoppedInText, WroteReport, WroteRun, WroteSummary}
+use Rattle.tetri_run.specs.Promised.{IsPromisedBy}
 use Rattle.tetri_run.specs.Run.{AnyLists, IsPlannedRun}
-use Rattle.tetri_run.specs.Words.{Asked, to_check, to_load, to_parts, to_plan}
+use Rattle.tetri_run.specs.Words.{Asked, to_admit, to_check, to_load, to_parts, to_plan, to_tight}
 use Rattle.tetri_run.specs.declared.why.Why.{Why}
 use Rattle.tetri_run.specs.declared.why.Why.TheVariants as refusals
 use Rattle.tetri_run.specs.declared.status.Status.{Status}
+use Rattle.tetri_run.specs.declared.telling.Telling.{Telling}
+use Rattle.tetri_run.specs.declared.telling.Telling.TheVariants.{Report, Tight}
 use Rattle.tetri_run.specs.declared.status.Status.TheVariants.{Done, Refused, Usage, ReadFault, WriteFault, BadTrace, NoMemory}
 
--- What a status says of planning the trace that was read by such a run, and of the written bytes before and after.
+-- What a status says of planning the trace that was read by such a run, whose report is written.
 abbrev pub IsPromisedOf : (Scenario → List Block → Type 0) → Status → Result Scenario (ℕ × TraceWhy) → Option (List ℕ) → Option (List ℕ) → Type 0
-IsPromisedOf IsSuch Done trace before after = (t : Scenario) × (trace ≡ Ok t) × WroteReport IsSuch t before after
-IsPromisedOf IsSuch (Refused line why) trace before after = ⊥
-IsPromisedOf IsSuch Usage trace before after = Unit {0}
-IsPromisedOf IsSuch ReadFault trace before after = Unit {0}
-IsPromisedOf IsSuch WriteFault trace before after = (t : Scenario) × (trace ≡ Ok t) × StoppedInText IsSuch t before after
-IsPromisedOf IsSuch (BadTrace line why) trace before after = trace ≡ Err (line, why)
-IsPromisedOf IsSuch NoMemory trace before after = (after ≡ before) ⊎ ((t : Scenario) × (trace ≡ Ok t) × StoppedBetween IsSuch t before after)
+IsPromisedOf IsSuch = IsPromisedBy (WroteReport IsSuch) (StoppedInText Report IsSuch) (StoppedBetween Report IsSuch)
+
+-- What a status says of planning the trace that was read by such a run, of which is written what cuts make of the bound of each cycle: the
+-- value of a cycle is attained by a lawful allotment, and no lawful allotment is worth more than the tightened bound.
+abbrev pub IsTightPromised : (Scenario → List Block → Type 0) → Status → Result Scenario (ℕ × TraceWhy) → Option (List ℕ) → Option (List ℕ) → Type 0
+IsTightPromised IsSuch = IsPromisedBy (WroteRun Tight IsSuch) (StoppedInText Tight IsSuch) (StoppedBetween Tight IsSuch)
+
+-- What such a run of a trace that is told so answers, of the written bytes before and after.
+abbrev pub IsRunAnswer : Telling → (Scenario → List Block → Type 0) → Status → Scenario → Option (List ℕ) → Option (List ℕ) → Type 0
+IsRunAnswer telling IsSuch Done t before after = WroteRun telling IsSuch t before after
+IsRunAnswer telling IsSuch (Refused line why) t before after = ⊥
+IsRunAnswer telling IsSuch Usage t before after = ⊥
+IsRunAnswer telling IsSuch ReadFault t before after = ⊥
+IsRunAnswer telling IsSuch WriteFault t before after = StoppedInText telling IsSuch t before after
+IsRunAnswer telling IsSuch (BadTrace line why) t before after = ⊥
+IsRunAnswer telling IsSuch NoMemory t before after = StoppedBetween telling IsSuch t before after
 
 -- The same of any run that this planner plans, whatever lists were given in its cycles.
 abbrev pub IsPromised : Status → Result Scenario (ℕ × TraceWhy) → Option (List ℕ) → Option (List ℕ) → Type 0
@@ -86,6 +98,8 @@ RoseOf (to_plan trace) before after = Rose (before trace) (after trace)
 RoseOf (to_check trace report) before after = Rose (before trace) (after trace) ⊎ Rose (before report) (after report)
 RoseOf (to_load number) before after = ⊥
 RoseOf (to_parts trace) before after = Rose (before trace) (after trace)
+RoseOf (to_tight trace) before after = Rose (before trace) (after trace)
+RoseOf (to_admit trace) before after = Rose (before trace) (after trace)
 
 -- the name of the trace that is read, if one is
 abbrev pub trace_of : Asked → Option (List ℕ)
@@ -93,6 +107,8 @@ trace_of (to_plan trace) = Some trace
 trace_of (to_check trace report) = Some trace
 trace_of (to_load number) = None
 trace_of (to_parts trace) = Some trace
+trace_of (to_tight trace) = Some trace
+trace_of (to_admit trace) = Some trace
 
 -- What such a run of a trace answers, for its summary alone, of the written bytes before and after.
 abbrev pub IsLoadAnswer : (Scenario → List Block → Type 0) → Status → Scenario → Option (List ℕ) → Option (List ℕ) → Type 0
@@ -172,7 +188,7 @@ refused_words line why = codes "refused: line " ++ decimal line ++ codes ": " ++
 abbrev pub status_words : Status → List ℕ
 status_words Done = codes ""
 status_words (Refused line why) = refused_words line why
-status_words Usage = codes "usage: tetri plan TRACE | check TRACE REPORT | load N | parts TRACE\n"
+status_words Usage = codes "usage: tetri plan TRACE | check TRACE REPORT | load N | parts TRACE | tight TRACE | admit TRACE\n"
 status_words ReadFault = codes "read fault\n"
 status_words WriteFault = codes "write fault\n"
 status_words (BadTrace line why) = bad_trace_words line why

@@ -1,33 +1,37 @@
 // The check of a report, line by line.
-ghost use Rattle.std.specs.Prelude.{◌≡◌, ◌↔◌, ◌+◌, ◌≤◌, ◌<◌, ◌^◌, List, ℕ, Some, IsErrOf, IsTrue, IfOk, length, option_map};
+ghost use Rattle.std.specs.Prelude.{◌≡◌, ◌↔◌, ◌+◌, ◌≤◌, ◌<◌, ◌^◌, List, ℕ, Some, IsErrOf, IsTrue, IfOk};
 ghost use Rattle.tetri_algebra.specs.Counts.{Rose};
-ghost use Rattle.tetri_report.specs.Block.{Block, block};
-ghost use Rattle.tetri_report.specs.BlockLines.{end_place};
+ghost use Rattle.tetri_cert.specs.declared.certificate.Certificate.TheVariants.{Tops};
+ghost use Rattle.tetri_report.specs.Block.{Block, headed};
+ghost use Rattle.tetri_report.specs.Strips as strips;
+ghost use Rattle.tetri_report.specs.Strips.{telling};
 ghost use Rattle.tetri_run.specs.Check.{Checking, ComesTo, FitsRun, IsShort, lines_in, unchecked};
-ghost use Rattle.tetri_run.specs.Checked.{AnswersEnded, AnswersLine, AnswersPlace, AnswersReport, IsAt, IsBehind, IsFed, halt_of};
-ghost use Rattle.tetri_state.specs.Reached.{IsReached, between};
+ghost use Rattle.tetri_run.specs.Checked.{AnswersLine, AnswersPlace, AnswersReport, AnswersTaken, CountsRun, IsAt, IsFed, halt_of};
 ghost use Rattle.tetri_trace.specs.Scenario.{scenario};
 ghost use Rattle.tetri_trace.specs.Sound.{IsSound};
 
 use crate::cycle_check::check_cycle;
 use crate::cycles::{RunTally, summary_at};
 use crate::halt::CheckHalt;
+use crate::sight::{Sight, see_node, view_of};
 use crate::why::Why;
 use std::alloc::{AllocError, Global};
-use tetri_io::{Line, LineFault, Shelf, read_line_at};
-use tetri_report::{Blocks, Cycle, ReportFault};
+use tetri_io::{Line, LineFault, LineReader, Shelf};
+use tetri_report::{Head, ReportFault, Strips, Told};
 use tetri_state::State;
 use tetri_trace::Trace;
 
 // No line of a report has more bytes.
 const LINE_MOST: usize = 1_048_576;
 
-/// How far the check of a report has come: the state behind the cycles that were accepted, what is read of the next one, the
-/// line at which that begins, and what is added up.
+/// How far the check of a report has come: the state behind the cycles that were accepted, which has begun the next slot where a tree
+/// is told of it, what is read of the next cycle and what is seen of its certificate, the line at which that cycle begins, and what is
+/// added up.
 #[derive(Drop)]
 pub(crate) struct Progress {
     pub(crate) state: State,
-    pub(crate) blocks: Blocks,
+    pub(crate) strips: Strips,
+    pub(crate) sight: Sight,
     pub(crate) first: u64,
     pub(crate) tally: RunTally,
 }
@@ -36,9 +40,15 @@ fn begin_check(alloc: Global, trace: &Trace) -> Result<Progress, AllocError>
     requires { IsSound (scenario trace.now) }
     ensures { IfOk result (IsAt (scenario trace.entry.now) unchecked) }
 {
+    let state = State::open(alloc, trace)?;
+    let strips = Strips::new(alloc);
     Ok(Progress {
-        state: State::open(alloc, trace)?,
-        blocks: Blocks::new(alloc),
+        state,
+        strips,
+        sight: Sight::Tops {
+            columns: 0,
+            rows: 0,
+        },
         first: 1,
         tally: RunTally {
             worth: 0,
@@ -53,31 +63,86 @@ fn end_cycle(
     trace: &Trace,
     progress: &mut Progress,
     number: u64,
-    cycle: &Cycle,
+    head: &Head,
 ) -> Result<(), CheckHalt>
     requires sound { IsSound (scenario trace.now) }
-    requires reached { IsReached (scenario trace.now) between progress.old.state }
-    requires in_run { progress.old.state.now < (scenario trace.now).header.until }
-    requires few { progress.old.first + end_place (block cycle.now) < 2 ^ 64 }
-    requires starts { length cycle.now.starts.items ≡ length cycle.now.grants }
-    requires small_worth { progress.old.tally.worth < 2 ^ 127 }
-    requires small_optimal { progress.old.tally.optimal < 2 ^ 63 }
-    ensures { AnswersEnded result (scenario trace.entry.now) progress.old progress.new number (block cycle.entry.now) }
+    requires fed { (c : Checking) × (line : List ℕ)
+        × IsFed (scenario trace.now) c progress.old line (strips.ended (headed head.now (Tops 0 0))) }
+    requires number { number ≡ progress.old.strips.lines }
+    requires few { number < 2 ^ 63 }
+    ensures { (c : Checking) (line : List ℕ)
+        → IsFed (scenario trace.entry.now) c progress.old line (strips.ended (headed head.entry.now (Tops 0 0)))
+        → AnswersTaken result (scenario trace.entry.now) c progress.new line }
 {
-    let slot = check_cycle(alloc, trace, &mut progress.state, progress.first, cycle)?;
-    progress.first = number;
-    progress.tally.worth += u128::from(slot.worth);
-    progress.tally.optimal += slot.optimal;
-    Ok(())
+    let unseen = Sight::Tops {
+        columns: 0,
+        rows: 0,
+    };
+    let sight = std::mem::replace(&mut progress.sight, unseen);
+    let view = view_of(alloc, trace, &mut progress.state, sight)?;
+    match check_cycle(
+        alloc,
+        trace,
+        &mut progress.state,
+        progress.first,
+        head,
+        &view,
+    ) {
+        Ok(slot) => {
+            progress.first = number;
+            progress.tally.worth += u128::from(slot.worth);
+            progress.tally.optimal += slot.optimal;
+            Ok(())
+        }
+        Err(halt) => Err(halt),
+    }
+}
+
+// Takes what the line told that was read, which has this number.
+fn take(
+    alloc: Global,
+    trace: &Trace,
+    progress: &mut Progress,
+    number: u64,
+    told: Told,
+) -> Result<(), CheckHalt>
+    requires sound { IsSound (scenario trace.now) }
+    requires fed { (c : Checking) × (line : List ℕ) × IsFed (scenario trace.now) c progress.old line (telling told) }
+    requires number { number ≡ progress.old.strips.lines }
+    requires few { number < 2 ^ 63 }
+    ensures { (c : Checking) (line : List ℕ) → IsFed (scenario trace.entry.now) c progress.old line (telling told)
+        → AnswersTaken result (scenario trace.entry.now) c progress.new line }
+{
+    match told {
+        Told::More => Ok(()),
+        Told::Tops { columns, rows } => {
+            progress.sight = Sight::Tops { columns, rows };
+            Ok(())
+        }
+        Told::Node(mark) => {
+            see_node(
+                alloc,
+                trace,
+                &mut progress.state,
+                &mut progress.sight,
+                &mark,
+            )?;
+            Ok(())
+        }
+        Told::Block(head) => match end_cycle(alloc, trace, progress, number, &head) {
+            Ok(()) => Ok(()),
+            Err(halt) => Err(halt),
+        },
+    }
 }
 
 // Whether the last line has a place in the run.
 fn is_in_place(trace: &Trace, progress: &Progress) -> bool
-    ensures { (past : List Block) → IsBehind (scenario trace.now) past progress.now.state progress.now.tally
-        → IsTrue result ↔ FitsRun (scenario trace.now) past progress.now.blocks.summary }
+    ensures { (past : List Block) → CountsRun (scenario trace.now) past progress.now
+        → IsTrue result ↔ FitsRun (scenario trace.now) past progress.now.strips.summary }
 {
     let ended = progress.state.now() == trace.header.until;
-    match progress.blocks.summary() {
+    match progress.strips.summary() {
         Some(summary) => ended && summary == summary_at(&progress.state, &progress.tally),
         None => !ended,
     }
@@ -85,8 +150,8 @@ fn is_in_place(trace: &Trace, progress: &Progress) -> bool
 
 // Refuses the last line, which has this number, where it has no place in the run.
 fn test_place(trace: &Trace, progress: &Progress, number: u64) -> Result<(), CheckHalt>
-    ensures { (past : List Block) → IsBehind (scenario trace.now) past progress.now.state progress.now.tally
-        → AnswersPlace result (scenario trace.now) past progress.now.blocks.summary number }
+    ensures { (past : List Block) → CountsRun (scenario trace.now) past progress.now
+        → AnswersPlace result (scenario trace.now) past progress.now.strips.summary number }
 {
     if is_in_place(trace, progress) {
         return Ok(());
@@ -110,27 +175,24 @@ fn halt_of(fault: ReportFault) -> CheckHalt
     }
 }
 
-// Goes on behind a line that was read, which has this number and ended this cycle, if it ended one.
+// Goes on behind a line that was read, which has this number and told this.
 fn go_on(
     alloc: Global,
     trace: &Trace,
     progress: &mut Progress,
     number: u64,
-    ended: Option<Cycle>,
+    told: Told,
 ) -> Result<(), CheckHalt>
     requires sound { IsSound (scenario trace.now) }
-    requires fed { (c : Checking) × (line : List ℕ) × IsFed (scenario trace.now) c progress.old line (option_map block ended) }
-    requires number { number ≡ progress.old.blocks.lines }
+    requires fed { (c : Checking) × (line : List ℕ) × IsFed (scenario trace.now) c progress.old line (telling told) }
+    requires number { number ≡ progress.old.strips.lines }
     requires few { number < 2 ^ 63 }
-    ensures { (c : Checking) (line : List ℕ) → IsFed (scenario trace.entry.now) c progress.old line (option_map block ended)
+    ensures { (c : Checking) (line : List ℕ) → IsFed (scenario trace.entry.now) c progress.old line (telling told)
         → AnswersLine result (scenario trace.entry.now) c progress.new line }
 {
-    match ended {
-        Some(cycle) => match end_cycle(alloc, trace, progress, number, &cycle) {
-            Ok(()) => test_place(trace, progress, number),
-            Err(halt) => Err(halt),
-        },
-        None => test_place(trace, progress, number),
+    match take(alloc, trace, progress, number, told) {
+        Ok(()) => test_place(trace, progress, number),
+        Err(halt) => Err(halt),
     }
 }
 
@@ -145,13 +207,13 @@ fn check_line(
     requires sound { IsSound (scenario trace.now) }
     requires at { (c : Checking) × IsAt (scenario trace.now) c progress.old }
     requires short { IsShort line.now }
-    requires number { number ≡ progress.old.blocks.lines + 1 }
+    requires number { number ≡ progress.old.strips.lines + 1 }
     requires few { number < 2 ^ 63 }
     ensures { (c : Checking) → IsAt (scenario trace.entry.now) c progress.old
         → AnswersLine result (scenario trace.entry.now) c progress.new line.now }
 {
-    match progress.blocks.feed(trace, line) {
-        Ok(ended) => go_on(alloc, trace, progress, number, ended),
+    match progress.strips.feed(trace, line) {
+        Ok(told) => go_on(alloc, trace, progress, number, told),
         Err(fault) => Err(halt_of(fault)),
     }
 }
@@ -171,17 +233,16 @@ pub(crate) fn check_report<S: Shelf>(
     ensures later { (other : List ℕ) → S.faults shelf.old other ≤ S.faults shelf.new other }
 {
     let mut progress = begin_check(alloc, trace)?;
+    let mut reader = LineReader::new(alloc)?;
     let mut number = 1u64;
-    let mut offset = 0u64;
     'lines: loop {
-        match read_line_at(alloc, shelf, name, offset, LINE_MOST) {
-            Ok(Line::Text { bytes, next }) => {
+        match reader.next_line(alloc, shelf, name, LINE_MOST) {
+            Ok(Line::Text { bytes, next: _next }) => {
                 match check_line(alloc, trace, &mut progress, number, &bytes) {
                     Ok(()) => {}
                     Err(halt) => return Err(halt),
                 }
                 number += 1;
-                offset = next;
             }
             Ok(Line::End) => break 'lines,
             Err(LineFault::TooLong) => {
@@ -195,7 +256,7 @@ pub(crate) fn check_report<S: Shelf>(
         }
     }
     let cycles = u64::from(progress.state.now());
-    match progress.blocks.finish() {
+    match progress.strips.finish() {
         Ok(_) => Ok(cycles),
         Err(fault) => Err(halt_of(fault)),
     }

@@ -1,20 +1,21 @@
 // The cycles of a run, one a slot.
-ghost use Rattle.std.specs.Prelude.{◌≡◌, ◌≢◌, ◌⊎◌, ◌≤◌, ◌<◌, ◌^◌, ℕ, Ok, Result, IfOk, IsErrOf, OnOk};
+ghost use Rattle.std.specs.Prelude.{◌≡◌, ◌≢◌, ◌⊎◌, ◌≤◌, ◌<◌, ◌^◌, ℕ, IfOk, IsErrOf, OnOk};
 ghost use Rattle.tetri_advice.specs.Seat.{creeds_of};
 ghost use Rattle.tetri_advice.specs.Sitting.{seats};
 ghost use Rattle.tetri_algebra.specs.Counts.{Rose};
 ghost use Rattle.tetri_report.specs.Printable.{IsSummaryInRange};
 ghost use Rattle.tetri_run.specs.Advised.{IsAdvisedRun};
-ghost use Rattle.tetri_run.specs.Progress.{RanAll, StoppedBetween, StoppedInText, WroteReport, summary_at};
-ghost use Rattle.tetri_run.specs.Status.{IsPromised, IsPromisedOf, IsSilent};
+ghost use Rattle.tetri_run.specs.Progress.{RanAll, StoppedBetween, StoppedInText, WroteRun, summary_at};
+ghost use Rattle.tetri_run.specs.Status.{IsRunAnswer, IsSilent};
 ghost use Rattle.tetri_run.specs.declared.why.Why.{Why};
-ghost use Rattle.tetri_trace.specs.Scenario.{Scenario, scenario};
+ghost use Rattle.tetri_trace.specs.Scenario.{scenario};
 ghost use Rattle.tetri_trace.specs.Sound.{IsSound};
 ghost use Rattle.tetri_trace.specs.declared.fault.TraceWhy.{TraceWhy};
 
 use crate::halt::Halt;
 use crate::slot::run_slot;
 use crate::status::Status;
+use crate::telling::Telling;
 use std::alloc::Global;
 use tetri_advice::{Advisor, PanelOf};
 use tetri_io::{Sink, send_all};
@@ -44,18 +45,19 @@ pub(crate) fn summary_at(state: &State, tally: &RunTally) -> Summary
     }
 }
 
-// Runs all slots, from the opening state on, each once the panel was asked.
+// Runs all slots, from the opening state on, each once the panel was asked, and tells each.
 pub(crate) fn run_slots<K: Sink, A: Advisor>(
     alloc: Global,
     trace: &Trace,
     sink: &mut K,
     panel: &mut PanelOf<A>,
+    telling: Telling,
 ) -> Result<Summary, Halt>
     requires { IsSound (scenario trace.now) }
-    ensures ok { IfOk result (λ summary. RanAll (IsAdvisedRun (seats A.says A.misses A.creed panel.old) panel.old.missed panel.new.missed) (scenario trace.entry.now) summary (K.written sink.old) (K.written sink.new)) }
+    ensures ok { IfOk result (λ summary. RanAll telling (IsAdvisedRun (seats A.says A.misses A.creed panel.old) panel.old.missed panel.new.missed) (scenario trace.entry.now) summary (K.written sink.old) (K.written sink.new)) }
     ensures small { IfOk result (λ summary. summary.worth < 2 ^ 127) }
-    ensures failed { IsErrOf result Halt.WriteFault → StoppedInText (IsAdvisedRun (seats A.says A.misses A.creed panel.old) panel.old.missed panel.new.missed) (scenario trace.entry.now) (K.written sink.old) (K.written sink.new) }
-    ensures memory { IsErrOf result Halt.NoMemory → StoppedBetween (IsAdvisedRun (seats A.says A.misses A.creed panel.old) panel.old.missed panel.new.missed) (scenario trace.entry.now) (K.written sink.old) (K.written sink.new) }
+    ensures failed { IsErrOf result Halt.WriteFault → StoppedInText telling (IsAdvisedRun (seats A.says A.misses A.creed panel.old) panel.old.missed panel.new.missed) (scenario trace.entry.now) (K.written sink.old) (K.written sink.new) }
+    ensures memory { IsErrOf result Halt.NoMemory → StoppedBetween telling (IsAdvisedRun (seats A.says A.misses A.creed panel.old) panel.old.missed panel.new.missed) (scenario trace.entry.now) (K.written sink.old) (K.written sink.new) }
     ensures write { IsErrOf result Halt.WriteFault → Rose (K.faults sink.old) (K.faults sink.new) }
     ensures later { K.faults sink.old ≤ K.faults sink.new }
     ensures creeds { creeds_of (seats A.says A.misses A.creed panel.new) ≡ creeds_of (seats A.says A.misses A.creed panel.old) }
@@ -67,7 +69,7 @@ pub(crate) fn run_slots<K: Sink, A: Advisor>(
         optimal: 0,
     };
     for number in 0..trace.header.until {
-        let slot = run_slot(alloc, trace, &mut state, sink, panel)?;
+        let slot = run_slot(alloc, trace, &mut state, sink, panel, telling)?;
         tally.worth += u128::from(slot.worth);
         tally.optimal += slot.optimal;
     }
@@ -91,36 +93,38 @@ pub(crate) fn summary_is_in_range(summary: &Summary)
     number_is_large(summary.optimal);
 }
 
-// Runs all slots, and then writes the summary.
+// Runs all slots and tells each, and then writes the summary.
 fn write_run<K: Sink, A: Advisor>(
     alloc: Global,
     trace: &Trace,
     sink: &mut K,
     panel: &mut PanelOf<A>,
+    telling: Telling,
 ) -> Result<(), Halt>
     requires { IsSound (scenario trace.now) }
-    ensures ok { OnOk result (WroteReport (IsAdvisedRun (seats A.says A.misses A.creed panel.old) panel.old.missed panel.new.missed) (scenario trace.entry.now) (K.written sink.old) (K.written sink.new)) }
-    ensures failed { IsErrOf result Halt.WriteFault → StoppedInText (IsAdvisedRun (seats A.says A.misses A.creed panel.old) panel.old.missed panel.new.missed) (scenario trace.entry.now) (K.written sink.old) (K.written sink.new) }
-    ensures memory { IsErrOf result Halt.NoMemory → StoppedBetween (IsAdvisedRun (seats A.says A.misses A.creed panel.old) panel.old.missed panel.new.missed) (scenario trace.entry.now) (K.written sink.old) (K.written sink.new) }
+    ensures ok { OnOk result (WroteRun telling (IsAdvisedRun (seats A.says A.misses A.creed panel.old) panel.old.missed panel.new.missed) (scenario trace.entry.now) (K.written sink.old) (K.written sink.new)) }
+    ensures failed { IsErrOf result Halt.WriteFault → StoppedInText telling (IsAdvisedRun (seats A.says A.misses A.creed panel.old) panel.old.missed panel.new.missed) (scenario trace.entry.now) (K.written sink.old) (K.written sink.new) }
+    ensures memory { IsErrOf result Halt.NoMemory → StoppedBetween telling (IsAdvisedRun (seats A.says A.misses A.creed panel.old) panel.old.missed panel.new.missed) (scenario trace.entry.now) (K.written sink.old) (K.written sink.new) }
     ensures write { IsErrOf result Halt.WriteFault → Rose (K.faults sink.old) (K.faults sink.new) }
     ensures later { K.faults sink.old ≤ K.faults sink.new }
     ensures creeds { creeds_of (seats A.says A.misses A.creed panel.new) ≡ creeds_of (seats A.says A.misses A.creed panel.old) }
     ensures later_misses { panel.old.missed ≤ panel.new.missed }
 {
-    let summary = run_slots(alloc, trace, sink, panel)?;
+    let summary = run_slots(alloc, trace, sink, panel, telling)?;
     summary_is_in_range(&summary);
     let text = print_summary(alloc, &summary)?;
     send_all(sink, &text)?;
     Ok(())
 }
 
-/// Runs a trace and writes its report: each cycle by one send once the panel was asked and it is planned, and then the summary by one
-/// more. A fault leaves whole cycles and a proper front of the next text, and want of memory whole cycles alone.
-pub(crate) fn run_cycles<K: Sink, A: Advisor>(
+/// Runs a trace and tells each cycle by one send once the panel was asked and it is planned, and then writes the summary by one more. A
+/// fault leaves whole texts and a proper front of the next one, and want of memory whole texts alone.
+pub(crate) fn run_told<K: Sink, A: Advisor>(
     alloc: Global,
     trace: &Trace,
     sink: &mut K,
     panel: &mut PanelOf<A>,
+    telling: Telling,
 ) -> Status
     requires { IsSound (scenario trace.now) }
     ensures usage { result ≢ Status.Usage }
@@ -128,18 +132,15 @@ pub(crate) fn run_cycles<K: Sink, A: Advisor>(
     ensures good_trace { (line : ℕ) (why : TraceWhy) → result ≢ Status.BadTrace line why }
     ensures read { result ≢ Status.ReadFault }
     ensures silent { IsSilent result (K.written sink.old) (K.written sink.new) }
-    ensures promise { (read : Result Scenario (ℕ × TraceWhy)) → read ≡ Ok (scenario trace.entry.now)
-        → IsPromised result read (K.written sink.old) (K.written sink.new) }
-    ensures advised { (read : Result Scenario (ℕ × TraceWhy)) → read ≡ Ok (scenario trace.entry.now)
-        → IsPromisedOf (IsAdvisedRun (seats A.says A.misses A.creed panel.old) panel.old.missed panel.new.missed)
-        result read (K.written sink.old) (K.written sink.new) }
+    ensures answer { IsRunAnswer telling (IsAdvisedRun (seats A.says A.misses A.creed panel.old) panel.old.missed panel.new.missed)
+        result (scenario trace.entry.now) (K.written sink.old) (K.written sink.new) }
     ensures write { result ≡ Status.WriteFault → Rose (K.faults sink.old) (K.faults sink.new) }
     ensures complete { ¬ Rose (K.faults sink.old) (K.faults sink.new) → (result ≡ Status.Done) ⊎ (result ≡ Status.NoMemory) }
     ensures later { K.faults sink.old ≤ K.faults sink.new }
     ensures creeds { creeds_of (seats A.says A.misses A.creed panel.new) ≡ creeds_of (seats A.says A.misses A.creed panel.old) }
     ensures later_misses { panel.old.missed ≤ panel.new.missed }
 {
-    match write_run(alloc, trace, sink, panel) {
+    match write_run(alloc, trace, sink, panel, telling) {
         Ok(()) => Status::Done,
         Err(Halt::WriteFault) => Status::WriteFault,
         Err(Halt::NoMemory) => Status::NoMemory,

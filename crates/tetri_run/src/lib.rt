@@ -2,6 +2,7 @@
 #![tactic(auto)]
 
 mod accepted;
+mod admit;
 mod check;
 mod cycle_check;
 mod cycles;
@@ -11,13 +12,17 @@ mod laws;
 mod load;
 mod parts;
 mod planner;
+mod sight;
 mod slot;
 mod spoken;
 mod status;
+mod telling;
+mod tight;
 mod top;
 mod why;
 mod words;
 
+pub use admit::run_admit;
 pub use ended::{conclude, exit_number, status_of_words};
 pub use laws::{
     pieces_of_runs_keep_their_nodes, planned_runs_are_one, reports_are_refused_once,
@@ -27,5 +32,6 @@ pub use load::run_load;
 pub use parts::run_parts;
 pub use spoken::{SayFault, say};
 pub use status::Status;
+pub use tight::run_tight;
 pub use top::{run, run_check, run_plan};
 pub use why::Why;

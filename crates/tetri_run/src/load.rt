@@ -15,6 +15,7 @@ ghost use Rattle.tetri_trace.specs.declared.fault.TraceWhy.{TraceWhy};
 use crate::cycles::{run_slots, summary_is_in_range};
 use crate::halt::Halt;
 use crate::status::Status;
+use crate::telling::Telling;
 use std::alloc::{AllocError, Global};
 use tetri_advice::{Advisor, Panel, PanelOf};
 use tetri_io::{Failed, Sink, send_all};
@@ -51,7 +52,7 @@ fn count_run<A: Advisor>(
     ensures later_misses { panel.old.missed ≤ panel.new.missed }
 {
     let mut blocks = Unkept;
-    match run_slots(alloc, trace, &mut blocks, panel) {
+    match run_slots(alloc, trace, &mut blocks, panel, Telling::Report) {
         Ok(summary) => Ok(summary),
         Err(Halt::NoMemory) => Err(AllocError),
         Err(Halt::WriteFault) => unreachable!(),

@@ -17,11 +17,11 @@ ghost use Rattle.tetri_trace.specs.Sound.{IsSound};
 
 use crate::halt::Halt;
 use crate::planner::{Told, told_cycle};
+use crate::telling::{Telling, told_text};
 use std::alloc::{AllocError, Global};
 use tetri_advice::{Advisor, PanelOf};
 use tetri_cert::PlanMark;
 use tetri_io::{Sink, send_all};
-use tetri_report::print_cycle;
 use tetri_state::{Prepared, State, jobs_of_a_run_are_known};
 use tetri_trace::Trace;
 
@@ -44,7 +44,7 @@ pub(crate) fn optimal_count(mark: PlanMark) -> u64
     }
 }
 
-/// A cycle that is ready: its lines, and what it launches.
+/// A cycle that is ready: the text that tells of it, and what it launches.
 #[derive(Drop)]
 pub(crate) struct Ready {
     pub(crate) text: Vec<u8>,
@@ -52,19 +52,20 @@ pub(crate) struct Ready {
     pub(crate) tally: SlotTally,
 }
 
-/// Plans the slot that begins in this state, once the panel was asked, and makes its lines and its launch ready. The slot has begun
-/// afterwards.
+/// Plans the slot that begins in this state, once the panel was asked, and makes the text that tells of it and its launch ready. The slot
+/// has begun afterwards.
 pub(crate) fn ready_slot<A: Advisor>(
     alloc: Global,
     trace: &Trace,
     state: &mut State,
     panel: &mut PanelOf<A>,
+    telling: Telling,
 ) -> Result<Ready, AllocError>
     requires sound { IsSound (scenario trace.now) }
     requires reached { IsReached (scenario trace.now) between state.old }
     requires in_run { state.old.now < (scenario trace.now).header.until }
     ensures begun { OnOk result (state.new ≡ begin (scenario trace.entry.now) state.old) }
-    ensures ready { IfOk result (IsReady (IsAdvice (seats A.says A.misses A.creed panel.old) panel.old.missed (seats A.says A.misses A.creed panel.new) panel.new.missed) (scenario trace.entry.now) state.old) }
+    ensures ready { IfOk result (IsReady telling (IsAdvice (seats A.says A.misses A.creed panel.old) panel.old.missed (seats A.says A.misses A.creed panel.new) panel.new.missed) (scenario trace.entry.now) state.old) }
     ensures most { IfOk result (λ r. r.tally.optimal ≤ 1) }
     ensures small { IfOk result (λ r. r.tally.worth < 2 ^ 64) }
     ensures creeds { creeds_of (seats A.says A.misses A.creed panel.new) ≡ creeds_of (seats A.says A.misses A.creed panel.old) }
@@ -83,7 +84,7 @@ pub(crate) fn ready_slot<A: Advisor>(
         panel,
         trace.header.budget,
     )?;
-    let text = print_cycle(alloc, trace, &told.cycle)?;
+    let text = told_text(alloc, trace, &inst, &told.cycle, telling)?;
     let prepared = state.prepare(alloc, trace, &inst, &told.cycle.grants)?;
     let tally = SlotTally {
         worth: told.launched_worth,
@@ -96,23 +97,24 @@ pub(crate) fn ready_slot<A: Advisor>(
     })
 }
 
-/// Runs the slot that begins in this state: its cycle is planned, once the panel was asked, and prepared, then written by one send, and
-/// then applied. What is written at a fault is a proper front of its lines, and without memory nothing is.
+/// Runs the slot that begins in this state: its cycle is planned, once the panel was asked, and prepared, then told by one send, and then
+/// applied. What is written at a fault is a proper front of its text, and without memory nothing is.
 pub(crate) fn run_slot<K: Sink, A: Advisor>(
     alloc: Global,
     trace: &Trace,
     state: &mut State,
     sink: &mut K,
     panel: &mut PanelOf<A>,
+    telling: Telling,
 ) -> Result<SlotTally, Halt>
     requires sound { IsSound (scenario trace.now) }
     requires reached { IsReached (scenario trace.now) between state.old }
     requires in_run { state.old.now < (scenario trace.now).header.until }
-    ensures ok { IfOk result (λ tally. RanSlot (IsAdvice (seats A.says A.misses A.creed panel.old) panel.old.missed (seats A.says A.misses A.creed panel.new) panel.new.missed)
+    ensures ok { IfOk result (λ tally. RanSlot telling (IsAdvice (seats A.says A.misses A.creed panel.old) panel.old.missed (seats A.says A.misses A.creed panel.new) panel.new.missed)
         (scenario trace.entry.now) state.old state.new tally (K.written sink.old) (K.written sink.new)) }
     ensures most { IfOk result (λ tally. tally.optimal ≤ 1) }
     ensures small { IfOk result (λ tally. tally.worth < 2 ^ 64) }
-    ensures failed { IsErrOf result Halt.WriteFault → StoppedInSlot (IsAdvice (seats A.says A.misses A.creed panel.old) panel.old.missed (seats A.says A.misses A.creed panel.new) panel.new.missed)
+    ensures failed { IsErrOf result Halt.WriteFault → StoppedInSlot telling (IsAdvice (seats A.says A.misses A.creed panel.old) panel.old.missed (seats A.says A.misses A.creed panel.new) panel.new.missed)
         (scenario trace.entry.now) state.old (K.written sink.old) (K.written sink.new) }
     ensures memory { IsErrOf result Halt.NoMemory → K.written sink.new ≡ K.written sink.old }
     ensures write { IsErrOf result Halt.WriteFault → Rose (K.faults sink.old) (K.faults sink.new) }
@@ -120,7 +122,7 @@ pub(crate) fn run_slot<K: Sink, A: Advisor>(
     ensures creeds { creeds_of (seats A.says A.misses A.creed panel.new) ≡ creeds_of (seats A.says A.misses A.creed panel.old) }
     ensures later_misses { panel.old.missed ≤ panel.new.missed }
 {
-    let ready = ready_slot(alloc, trace, state, panel)?;
+    let ready = ready_slot(alloc, trace, state, panel, telling)?;
     send_all(sink, &ready.text)?;
     state.apply(ready.prepared);
     Ok(ready.tally)

@@ -181,7 +181,7 @@ pub fn say<K: Sink>(alloc: Global, status: &Status, sink: &mut K) -> Result<(), 
         }
         Status::Usage => send_all(
             sink,
-            b"usage: tetri plan TRACE | check TRACE REPORT | load N | parts TRACE\n",
+            b"usage: tetri plan TRACE | check TRACE REPORT | load N | parts TRACE | tight TRACE | admit TRACE\n",
         )?,
         Status::ReadFault => send_all(sink, b"read fault\n")?,
         Status::WriteFault => send_all(sink, b"write fault\n")?,

@@ -4,21 +4,25 @@ ghost use Rattle.tetri_advice.specs.Seat.{creeds_of};
 ghost use Rattle.tetri_advice.specs.Sitting.{seats};
 ghost use Rattle.tetri_algebra.specs.Counts.{Rose};
 ghost use Rattle.tetri_make.specs.Generated.{generated};
+ghost use Rattle.tetri_run.specs.Admitting.{IsAdmitPromised};
 ghost use Rattle.tetri_run.specs.Advised.{IsAdvisedRun};
 ghost use Rattle.tetri_run.specs.ByParts.{IsPartsPromised};
 ghost use Rattle.tetri_run.specs.Check.{IsAccepted};
-ghost use Rattle.tetri_run.specs.Status.{IsCheckPromised, IsLoadAnswer, IsPromised, IsPromisedOf, IsRefusal, IsSilent, RoseOf, status_of, trace_of};
+ghost use Rattle.tetri_run.specs.Status.{IsCheckPromised, IsLoadAnswer, IsPromised, IsPromisedOf, IsRefusal, IsSilent, IsTightPromised, RoseOf, status_of, trace_of};
 ghost use Rattle.tetri_run.specs.declared.why.Why.{Why};
 ghost use Rattle.tetri_trace.specs.declared.fault.TraceWhy.{TraceWhy};
-ghost use Rattle.tetri_run.specs.Words.{Asked, asked, texts, to_check, to_load, to_parts, to_plan};
+ghost use Rattle.tetri_run.specs.Words.{Asked, asked, texts, to_admit, to_check, to_load, to_parts, to_plan, to_tight};
 ghost use Rattle.tetri_trace.specs.Lines.{scenario_in};
 ghost use Rattle.tetri_trace.specs.Scenario.{Scenario};
 
 use crate::accepted::check_trace;
-use crate::cycles::run_cycles;
+use crate::admit::run_admit;
+use crate::cycles::run_told;
 use crate::load::run_load;
 use crate::parts::run_parts;
 use crate::status::Status;
+use crate::telling::Telling;
+use crate::tight::run_tight;
 use crate::words::{Request, asked};
 use std::alloc::Global;
 use tetri_advice::Panel;
@@ -28,7 +32,9 @@ use tetri_trace::{TraceFault, read_trace};
 /// Does what the words ask: `plan TRACE` plans the trace of that name and writes its report; `check TRACE REPORT` checks the
 /// report of that name against the trace, and writes that it is accepted, where it is; and `load N` runs the trace that is made of
 /// the number N, 1 to 10 digits with a value below 2^31, and writes the summary of its run alone. `parts TRACE` plans the trace part by
-/// part, each group of jobs that can share no node with others by itself, and asks no panel.
+/// part, each group of jobs that can share no node with others by itself, and asks no panel. `tight TRACE` plans the trace and writes what
+/// cuts make of the bound of each cycle. `admit TRACE` answers which jobs of the trace's first slot can all be served together, and asks
+/// no panel.
 pub fn run<S: Shelf, K: Sink>(
     alloc: Global,
     words: &[String],
@@ -56,6 +62,13 @@ pub fn run<S: Shelf, K: Sink>(
     ensures parts { (name content : List ℕ) → asked (texts words.now) ≡ Some (to_parts name)
         → S.told shelf.old name ≡ Some content
         → IsPartsPromised result (scenario_in content) (K.written sink.old) (K.written sink.new) }
+    ensures tight { (name content : List ℕ) → asked (texts words.now) ≡ Some (to_tight name)
+        → S.told shelf.old name ≡ Some content
+        → IsTightPromised (IsAdvisedRun (seats (λ b. says b) (λ b. misses b) (λ b. creed b) panel.old) panel.old.missed panel.new.missed)
+        result (scenario_in content) (K.written sink.old) (K.written sink.new) }
+    ensures admit { (name content : List ℕ) → asked (texts words.now) ≡ Some (to_admit name)
+        → S.told shelf.old name ≡ Some content
+        → IsAdmitPromised result (scenario_in content) (K.written sink.old) (K.written sink.new) }
     ensures silent { IsSilent result (K.written sink.old) (K.written sink.new) }
     ensures check_silent { (trace report : List ℕ) → asked (texts words.now) ≡ Some (to_check trace report)
         → result ≢ Status.Done → result ≢ Status.WriteFault → K.written sink.new ≡ K.written sink.old }
@@ -91,6 +104,16 @@ pub fn run<S: Shelf, K: Sink>(
         → ¬ Rose (S.faults shelf.old name) (S.faults shelf.new name)
         → ¬ Rose (K.faults sink.old) (K.faults sink.new)
         → (result ≡ Status.Done) ⊎ (result ≡ Status.NoMemory) }
+    ensures tight_complete { (name content : List ℕ) (t : Scenario) → asked (texts words.now) ≡ Some (to_tight name)
+        → S.told shelf.old name ≡ Some content → scenario_in content ≡ Ok t
+        → ¬ Rose (S.faults shelf.old name) (S.faults shelf.new name)
+        → ¬ Rose (K.faults sink.old) (K.faults sink.new)
+        → (result ≡ Status.Done) ⊎ (result ≡ Status.NoMemory) }
+    ensures admit_complete { (name content : List ℕ) (t : Scenario) → asked (texts words.now) ≡ Some (to_admit name)
+        → S.told shelf.old name ≡ Some content → scenario_in content ≡ Ok t
+        → ¬ Rose (S.faults shelf.old name) (S.faults shelf.new name)
+        → ¬ Rose (K.faults sink.old) (K.faults sink.new)
+        → (result ≡ Status.Done) ⊎ (result ≡ Status.NoMemory) }
     ensures refuses { (a : Asked) (name content : List ℕ) (line : ℕ) (why : TraceWhy) → asked (texts words.now) ≡ Some a
         → trace_of a ≡ Some name → S.told shelf.old name ≡ Some content → scenario_in content ≡ Err (line, why)
         → ¬ Rose (S.faults shelf.old name) (S.faults shelf.new name)
@@ -101,6 +124,8 @@ pub fn run<S: Shelf, K: Sink>(
         → (seats (λ b. says b) (λ b. misses b) (λ b. creed b) panel.new ≡ seats (λ b. says b) (λ b. misses b) (λ b. creed b) panel.old) × (panel.new.missed ≡ panel.old.missed) }
     ensures parts_unasked { (name : List ℕ) → asked (texts words.now) ≡ Some (to_parts name)
         → (seats (λ b. says b) (λ b. misses b) (λ b. creed b) panel.new ≡ seats (λ b. says b) (λ b. misses b) (λ b. creed b) panel.old) × (panel.new.missed ≡ panel.old.missed) }
+    ensures admit_unasked { (name : List ℕ) → asked (texts words.now) ≡ Some (to_admit name)
+        → (seats (λ b. says b) (λ b. misses b) (λ b. creed b) panel.new ≡ seats (λ b. says b) (λ b. misses b) (λ b. creed b) panel.old) × (panel.new.missed ≡ panel.old.missed) }
     ensures later_reads { (other : List ℕ) → S.faults shelf.old other ≤ S.faults shelf.new other }
     ensures later_writes { K.faults sink.old ≤ K.faults sink.new }
     ensures later_misses { panel.old.missed ≤ panel.new.missed }
@@ -110,6 +135,8 @@ pub fn run<S: Shelf, K: Sink>(
         Some(Request::Check { trace, report }) => run_check(alloc, trace, report, shelf, sink),
         Some(Request::Load { number }) => run_load(alloc, number, sink, panel),
         Some(Request::Parts { trace }) => run_parts(alloc, trace, shelf, sink),
+        Some(Request::Tight { trace }) => run_tight(alloc, trace, shelf, sink, panel),
+        Some(Request::Admit { trace }) => run_admit(alloc, trace, shelf, sink),
         None => Status::Usage,
     }
 }
@@ -161,7 +188,7 @@ pub fn run_plan<S: Shelf, K: Sink>(
     ensures later_misses { panel.old.missed ≤ panel.new.missed }
 {
     match read_trace(alloc, shelf, name) {
-        Ok(trace) => run_cycles(alloc, &trace, sink, panel),
+        Ok(trace) => run_told(alloc, &trace, sink, panel, Telling::Report),
         Err(fault) => status_of(fault),
     }
 }

@@ -12,6 +12,8 @@ pub(crate) enum Request<'a> {
     Check { trace: &'a str, report: &'a str },
     Load { number: u32 },
     Parts { trace: &'a str },
+    Tight { trace: &'a str },
+    Admit { trace: &'a str },
 }
 
 // The number of a generated trace: 1 to 10 digits, with a value below 2^31.
@@ -25,7 +27,7 @@ fn load_number(word: &str) -> Option<u32>
     }
 }
 
-/// What is asked for: `plan` or `parts` and one more word, `check` and two more, or `load` and a number.
+/// What is asked for: `plan`, `parts`, `tight` or `admit` and one more word, `check` and two more, or `load` and a number.
 pub(crate) fn asked(words: &[String]) -> Option<Request<'_>>
     ensures asked { option_map asked_of result ≡ asked (texts words.now) }
     ensures small { IfSome result IsSmall }
@@ -43,6 +45,12 @@ pub(crate) fn asked(words: &[String]) -> Option<Request<'_>>
             None => None,
         },
         [verb, trace] if verb.as_str() == "parts" => Some(Request::Parts {
+            trace: trace.as_str(),
+        }),
+        [verb, trace] if verb.as_str() == "tight" => Some(Request::Tight {
+            trace: trace.as_str(),
+        }),
+        [verb, trace] if verb.as_str() == "admit" => Some(Request::Admit {
             trace: trace.as_str(),
         }),
         _ => None,

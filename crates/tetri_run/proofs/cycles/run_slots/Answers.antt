@@ -16,7 +16,7 @@ use Rattle.tetri_run.proofs.cycles.run_slots.Goals as goal
 pub returns-in_err-state-clause-memory : goal.returns-in_err-state-clause-memory
 returns-in_err-state-clause-memory g c = λ e.
     let sat = seats g.A.Advisor.says g.A.Advisor.misses g.A.Advisor.creed in
-    stopped_at_first (scenario c.args.trace.now) (sat c.args.panel.now) c.args.panel.now.missed c.requires (g.K.Sink.written c.args.sink.now)
+    stopped_at_first c.args.telling (scenario c.args.trace.now) (sat c.args.panel.now) c.args.panel.now.missed c.requires (g.K.Sink.written c.args.sink.now)
 
 pub run_slot-requires-clause-reached : goal.run_slot-requires-clause-reached
 run_slot-requires-clause-reached g c =
@@ -45,12 +45,12 @@ returns-in_err-slot-clause-failed g c =
     let number : c.loop-number.number ≡ old.now = omega (arith, ap (λ (s : Snapshot). s.now) v.ran.state, now_behind t v.ran.past, v.ran.as_many) in
     let still : StillSit first old.now sits = subst (λ n. StillSit first n sits) number v.still in
     let in_run : old.now < t.header.until = omega (arith, number, c.loop-number-test.true) in
-    let stop : IsErrOf c.from_residual-in_err-slot.result WriteFault → StoppedInSlot (IsAdvice sits before sat' now) t old (g.K.Sink.written c.loop-number.sink) (g.K.Sink.written c.run_slot.new.sink) =
+    let stop : IsErrOf c.from_residual-in_err-slot.result WriteFault → StoppedInSlot c.args.telling (IsAdvice sits before sat' now) t old (g.K.Sink.written c.loop-number.sink) (g.K.Sink.written c.run_slot.new.sink) =
     search rules in
-    let ran = ran_on t first start c.loop-number.number old c.loop-number.tally before now _ _ c.in_err-slot.ensures.later_misses v.ran in
-    λ e. stopped_in_slot (Heard first start now) (IsAdvisedRun first start now) t (advised_run t c.requires first start now) c.loop-number.number old c.loop-number.tally
+    let ran = ran_on c.args.telling t first start c.loop-number.number old c.loop-number.tally before now _ _ c.in_err-slot.ensures.later_misses v.ran in
+    λ e. stopped_in_slot c.args.telling (Heard first start now) (IsAdvisedRun first start now) t (advised_run t c.requires first start now) c.loop-number.number old c.loop-number.tally
     (g.K.Sink.written c.args.sink.now) (g.K.Sink.written c.loop-number.sink) (g.K.Sink.written c.run_slot.new.sink) in_run ran
-    (stop_heard t first start old sits sat' before now still v.later_misses _ _ (stop e))
+    (stop_heard c.args.telling t first start old sits sat' before now still v.later_misses _ _ (stop e))
 
 pub returns-in_err-slot-clause-memory : goal.returns-in_err-slot-clause-memory
 returns-in_err-slot-clause-memory g c =
@@ -61,8 +61,8 @@ returns-in_err-slot-clause-memory g c =
     let now = c.run_slot.new.panel.missed in
     let v = c.loop-number.invariant in
     let same : IsErrOf c.from_residual-in_err-slot.result NoMemory → g.K.Sink.written c.run_slot.new.sink ≡ g.K.Sink.written c.loop-number.sink = search rules in
-    let ran = ran_on t first start c.loop-number.number c.loop-number.state c.loop-number.tally c.loop-number.panel.missed now _ _ c.in_err-slot.ensures.later_misses v.ran in
-    λ e. stopped_between (Heard first start now) (IsAdvisedRun first start now) t (advised_run t c.requires first start now) c.loop-number.number c.loop-number.state c.loop-number.tally
+    let ran = ran_on c.args.telling t first start c.loop-number.number c.loop-number.state c.loop-number.tally c.loop-number.panel.missed now _ _ c.in_err-slot.ensures.later_misses v.ran in
+    λ e. stopped_between c.args.telling (Heard first start now) (IsAdvisedRun first start now) t (advised_run t c.requires first start now) c.loop-number.number c.loop-number.state c.loop-number.tally
     (g.K.Sink.written c.args.sink.now) (g.K.Sink.written c.loop-number.sink) (g.K.Sink.written c.run_slot.new.sink) ran (same e)
 
 pub returns-in_err-slot-clause-creeds : goal.returns-in_err-slot-clause-creeds
@@ -76,8 +76,8 @@ loop-number-init g c =
     let t = scenario c.args.trace.now in
     let sat = seats g.A.Advisor.says g.A.Advisor.misses g.A.Advisor.creed in
     record {
-      ran = no_slots (Heard (sat c.args.panel.now) c.args.panel.now.missed c.args.panel.now.missed) t _ (g.K.Sink.written c.args.sink.now) c.in_ok-state.state c.in_ok-state.ensures.state refl refl;
-      still = all_sit t (sat c.args.panel.now) c.args.panel.now.missed;
+      ran = no_slots c.args.telling (Heard (sat c.args.panel.now) c.args.panel.now.missed c.args.panel.now.missed) t _ (g.K.Sink.written c.args.sink.now) c.in_ok-state.state c.in_ok-state.ensures.state refl refl;
+      still = all_sit c.args.telling t (sat c.args.panel.now) c.args.panel.now.missed;
       later_misses = omega arith;
       small_worth = omega arith;
       small_optimal = omega arith;
@@ -104,8 +104,8 @@ loop-number-preserved g c =
     let later = c.in_ok-slot.ensures.later_misses in
     let more : RunTally = record { worth = tally.worth + c.from.result; optimal = tally.optimal + slot.optimal } in
     record {
-      ran = one_more_slot (Heard first start now) t c.loop-number.number old c.run_slot.new.state tally more slot _ _ _ (omega (arith, number, c.loop-number-test.true))
-          (ran_on t first start c.loop-number.number old tally before now _ _ later v.ran) (slot_heard t first start old sits sat' before now still v.later_misses _ _ _ _ step)
+      ran = one_more_slot c.args.telling (Heard first start now) t c.loop-number.number old c.run_slot.new.state tally more slot _ _ _ (omega (arith, number, c.loop-number-test.true))
+          (ran_on c.args.telling t first start c.loop-number.number old tally before now _ _ later v.ran) (slot_heard c.args.telling t first start old sits sat' before now still v.later_misses _ _ _ _ step)
           (ap (λ n. tally.worth + n) c.from.ensures) refl;
       still = still_behind t old step.block first sits sat' before now c.loop-number.number (c.loop-number.number + 1) refl v.still step.planned;
       later_misses = omega (arith, v.later_misses, later);
@@ -124,6 +124,8 @@ returns-clause-ok g c =
       run = advised_run t c.requires (sat c.args.panel.now) c.args.panel.now.missed c.loop-number.panel.missed ran.past ran.run;
       whole = omega (arith, ran.as_many, c.loop-number.auto.number-end, c.loop-number-test.false);
       counted = c.summary_at.ensures ∙ summary_is t ran.past c.loop-number.state c.loop-number.tally ran.state ran.worth ran.optimal;
+      text = ran.text;
+      told = ran.told;
       written = ran.written;
     }
 

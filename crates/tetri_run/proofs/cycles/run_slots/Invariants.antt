@@ -9,7 +9,7 @@ abbrev pub invariant-loop-number : goal.invariant-loop-number
 invariant-loop-number g l =
     let sat = seats g.A.Advisor.says g.A.Advisor.misses g.A.Advisor.creed in
     record {
-      ran : RanSlots (Heard (sat l.fn.panel) l.fn.panel.missed l.panel.missed) (scenario l.trace) l.number l.state l.tally (g.K.Sink.written l.fn.sink) (g.K.Sink.written l.sink);
+      ran : RanSlots l.telling (Heard (sat l.fn.panel) l.fn.panel.missed l.panel.missed) (scenario l.trace) l.number l.state l.tally (g.K.Sink.written l.fn.sink) (g.K.Sink.written l.sink);
       still : StillSit (sat l.fn.panel) l.number (sat l.panel);
       later_misses : l.fn.panel.missed ≤ l.panel.missed;
       small_worth : l.tally.worth ≤ l.number * 2 ^ 64;

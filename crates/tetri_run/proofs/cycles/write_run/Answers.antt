@@ -1,19 +1,17 @@
 use Rattle.std.proofs.Common.{◌∙◌, ap, subst}
 use Rattle.std.specs.Io.KnownBytes.{append_known}
-use Rattle.tetri_advice.specs.Heard.{Heard}
 use Rattle.tetri_advice.specs.Sitting.{seats}
 use Rattle.tetri_io.specs.Sink.{AppendsPart}
 use Rattle.tetri_trace.specs.Scenario.{scenario}
 use Rattle.tetri_run.specs.Advised.{IsAdvisedRun}
-use Rattle.tetri_run.proofs.ReadBackLemmas.{wrote_report}
-use Rattle.tetri_run.proofs.RunLemmas.{stopped_in_summary}
+use Rattle.tetri_run.proofs.RunLemmas.{stopped_in_summary, wrote_run}
 use Rattle.tetri_run.proofs.cycles.write_run.Goals as goal
 
 pub returns-in_err-send_all-clause-failed : goal.returns-in_err-send_all-clause-failed
 returns-in_err-send_all-clause-failed g c =
     let t = scenario c.args.trace.now in
     let first = seats g.A.Advisor.says g.A.Advisor.misses g.A.Advisor.creed c.args.panel.now in
-    λ e. stopped_in_summary (IsAdvisedRun first c.args.panel.now.missed c.run_slots.new.panel.missed) t c.in_ok-summary.summary (g.K.Sink.written c.args.sink.now)
+    λ e. stopped_in_summary c.args.telling (IsAdvisedRun first c.args.panel.now.missed c.run_slots.new.panel.missed) t c.in_ok-summary.summary (g.K.Sink.written c.args.sink.now)
     (g.K.Sink.written c.run_slots.new.sink) (g.K.Sink.written c.send_all.new.sink) c.in_ok-summary.ensures.ok
     (subst (AppendsPart (g.K.Sink.written c.run_slots.new.sink) (g.K.Sink.written c.send_all.new.sink)) (c.deref.ensures.value ∙ c.in_ok-text.ensures) c.in_err-send_all.ensures.err)
 
@@ -23,6 +21,6 @@ returns-clause-ok g c =
     let first = seats g.A.Advisor.says g.A.Advisor.misses g.A.Advisor.creed c.args.panel.now in
     let before = c.args.panel.now.missed in
     let now = c.run_slots.new.panel.missed in
-    wrote_report (Heard first before now) (IsAdvisedRun first before now) t c.requires (λ past advised. advised.run) c.in_ok-summary.summary (g.K.Sink.written c.args.sink.now)
+    wrote_run c.args.telling (IsAdvisedRun first before now) t c.in_ok-summary.summary (g.K.Sink.written c.args.sink.now)
     (g.K.Sink.written c.run_slots.new.sink) (g.K.Sink.written c.send_all.new.sink) c.in_ok-summary.ensures.ok c.summary_is_in_range.ensures
     (c.in_ok-send_all.ensures.ok ∙ ap (append_known (g.K.Sink.written c.run_slots.new.sink)) (c.deref.ensures.value ∙ c.in_ok-text.ensures))

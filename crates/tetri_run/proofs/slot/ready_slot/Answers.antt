@@ -15,11 +15,12 @@ use Rattle.tetri_judge.specs.PlanOf.{planned}
 use Rattle.tetri_plan.specs.Chosen.{IsChosen}
 use Rattle.tetri_run.specs.Cycle.{IsPlanFor, instance_at}
 use Rattle.tetri_run.specs.Advised.{IsAdvice}
+use Rattle.tetri_run.specs.Telling.{IsTold}
 use Rattle.tetri_run.proofs.PrintLemmas.{cycle_printable}
 use Rattle.tetri_run.proofs.slot.ready_slot.Goals as goal
 
-pub print_cycle-requires : goal.print_cycle-requires
-print_cycle-requires g c =
+pub told_text-requires-clause-printable : goal.told_text-requires-clause-printable
+told_text-requires-clause-printable g c =
     let t = scenario c.args.trace.now in
     let is = c.in_ok-inst.ensures.instance in
     cycle_printable t (space c.in_ok-inst.inst) c.in_ok-carry.carry (block c.in_ok-told.told.cycle) t.header.budget
@@ -30,6 +31,15 @@ print_cycle-requires g c =
     })
     (subst (AreOfJobs t) (sym (ap occurrences c.in_ok-told.ensures.happened ∙ c.in_ok-happened.ensures.happened)) (c.jobs_of_a_run_are_known.ensures.happened c.args.state.now c.requires.reached))
     c.in_ok-told.ensures.plan c.in_ok-told.ensures.printable
+
+pub told_text-requires-clause-lawful : goal.told_text-requires-clause-lawful
+told_text-requires-clause-lawful g c = c.in_ok-told.ensures.plan.honest.lawful
+
+pub told_text-requires-clause-attained : goal.told_text-requires-clause-attained
+told_text-requires-clause-attained g c = c.in_ok-told.ensures.plan.honest.attained
+
+pub told_text-requires-clause-kind : goal.told_text-requires-clause-kind
+told_text-requires-clause-kind g c = c.in_ok-told.ensures.plan.certified.kind
 
 pub prepare-requires-clause-lawful : goal.prepare-requires-clause-lawful
 prepare-requires-clause-lawful g c = c.in_ok-told.ensures.plan.honest.lawful
@@ -72,7 +82,7 @@ returns-clause-ready g c =
         printable = c.in_ok-told.ensures.printable;
         in_range = c.in_ok-text.ensures.in_range;
       };
-      text = c.in_ok-text.ensures.text;
+      told = subst (λ (i : Space). IsTold c.args.telling t i b c.in_ok-text.text.items) is c.in_ok-text.ensures.told;
       launch = subst (λ (q : Snapshot). IsLaunchOf t q b.grants c.in_ok-prepared.prepared) begun c.in_ok-prepared.ensures.launch;
       fits = subst (λ (q : Snapshot). Fits q c.in_ok-prepared.prepared) begun c.in_ok-prepared.ensures.fits;
       worth = c.in_ok-told.ensures.worth ∙ ap (λ (i : Space). worth_launched i b.grants) is;
