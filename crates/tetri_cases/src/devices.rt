@@ -13,8 +13,25 @@ fn words_and_limits(row: &str) -> (&str, &str) {
     row.split_once("; ").unwrap_or((row, ""))
 }
 
-// How many bytes of a text are written in so many writes, where the text is handed to the sink block by block: a cycle is a block,
-// and the summary.
+// Whether a block of a text begins with the line: a cycle is a block, and an answer, and the last line.
+fn begins_block(line: &str) -> bool {
+    for word in [
+        "cycle ",
+        "summary ",
+        "admitted ",
+        "refused ",
+        "undecided ",
+        "deep ",
+        "booked ",
+    ] {
+        if line.starts_with(word) {
+            return true;
+        }
+    }
+    false
+}
+
+// How many bytes of a text are written in so many writes, where the text is handed to the sink block by block.
 fn bytes_behind(text: &str, width: usize, writes: u64) -> usize
     requires { 0 < width }
 {
@@ -22,7 +39,7 @@ fn bytes_behind(text: &str, width: usize, writes: u64) -> usize
     let mut behind = 0usize;
     let mut block = 0usize;
     for line in text.split_inclusive('\n') {
-        if line.starts_with("cycle ") || line.starts_with("summary ") {
+        if begins_block(line) {
             let (bytes, count) = sent_of(block, width, left);
             behind = behind.saturating_add(bytes);
             left -= count;

@@ -3,7 +3,7 @@
 //! A table is a text of sections. What stands before the first line that begins with `== ` is a comment; that line names the
 //! section's kind, and the lines below it are its text, blank lines at the end left out. The README lists the kinds. An argument
 //! that ends with `.jsonl` is a trace, and the report beside it is the one that `tetri` plans for it, with its two advisors. One that
-//! ends with `.report` is a report that a check accepts.
+//! ends with `.report` is a report that a check accepts, and one that ends with `.answers` what `tetri admit` writes of the trace.
 #![tactic(auto)]
 
 mod devices;
@@ -11,26 +11,36 @@ mod runs;
 mod table;
 
 use std::{env, fs, io};
+use tetri_tables::Tally;
 
 // The name of an example without its ending.
 fn example_of(name: &str) -> Option<&str> {
-    match name.strip_suffix(".jsonl") {
-        Some(example) => Some(example),
-        None => name.strip_suffix(".report"),
+    for ending in [".jsonl", ".report", ".answers"] {
+        if let Some(example) = name.strip_suffix(ending) {
+            return Some(example);
+        }
     }
+    None
+}
+
+// Judges the example by the ending of the argument.
+fn judge_example(rt: &HostRuntime, example: &str, name: &str) -> io::Result<Tally> {
+    let trace = format!(in rt.alloc(); "{example}.jsonl")?;
+    let trace = fs::read_to_string(rt, trace.as_str())?;
+    if name.ends_with(".answers") {
+        let answers = fs::read_to_string(rt, name)?;
+        return Ok(table::judge_answers(rt.alloc(), trace, answers)?);
+    }
+    let report = format!(in rt.alloc(); "{example}.report")?;
+    let report = fs::read_to_string(rt, report.as_str())?;
+    let is_planned = name.ends_with(".jsonl");
+    Ok(table::judge_example(rt.alloc(), trace, report, is_planned)?)
 }
 
 fn main(rt: HostRuntime) -> io::Result<()> {
     for name in env::args(&rt)?.skip(1) {
-        let is_planned = name.as_str().ends_with(".jsonl");
         let tally = match example_of(name.as_str()) {
-            Some(example) => {
-                let trace = format!(in rt.alloc(); "{example}.jsonl")?;
-                let report = format!(in rt.alloc(); "{example}.report")?;
-                let trace = fs::read_to_string(&rt, trace.as_str())?;
-                let report = fs::read_to_string(&rt, report.as_str())?;
-                table::judge_example(rt.alloc(), trace, report, is_planned)?
-            }
+            Some(example) => judge_example(&rt, example, name.as_str())?,
             None => {
                 let text = fs::read_to_string(&rt, name.as_str())?;
                 table::judge(rt.alloc(), text.as_str())?

@@ -140,15 +140,16 @@ fn check_answer(alloc: Global, given: &Given) -> Result<String, AllocError> {
     String::from_str(alloc, answer.as_str().trim_end_matches('\n'))
 }
 
-/// The trace is planned part by part, and its report is the text.
-pub fn parts(
+/// A run of the words with nobody to advise writes the text.
+pub fn made(
     alloc: Global,
     given: &Given,
     tally: &mut Tally,
+    words: &str,
     body: &str,
 ) -> Result<(), AllocError> {
     let wanted = format!(in alloc; "{body}\n")?;
-    let found = answer(alloc, given, "", "parts trace")?;
+    let found = answer(alloc, given, "", words)?;
     tally.expect(given.trace.as_str(), found.as_str(), wanted.as_str())
 }
 

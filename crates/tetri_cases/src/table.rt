@@ -28,7 +28,13 @@ fn judge_section(
         }
         "made parts" => {
             let body = expand_text(alloc, body)?;
-            runs::parts(alloc, given, tally, body.as_str().trim_end_matches('\n'))
+            let body = body.as_str().trim_end_matches('\n');
+            runs::made(alloc, given, tally, "parts trace", body)
+        }
+        "made admit" => {
+            let body = expand_text(alloc, body)?;
+            let body = body.as_str().trim_end_matches('\n');
+            runs::made(alloc, given, tally, "admit trace", body)
         }
         "no plan" => runs::no_plan(alloc, given, tally, more),
         "check" => runs::check(alloc, given, tally, more),
@@ -60,6 +66,16 @@ pub fn judge_example(
         given.report = report;
         runs::accepted(alloc, &given, &mut tally)?;
     }
+    Ok(tally)
+}
+
+/// Judges what is answered for the jobs of a trace.
+pub fn judge_answers(alloc: Global, trace: String, answers: String) -> Result<Tally, AllocError> {
+    let mut given = Given::new(alloc);
+    given.trace = trace;
+    let mut tally = Tally::new(alloc);
+    let body = answers.as_str().trim_end_matches('\n');
+    runs::made(alloc, &given, &mut tally, "admit trace", body)?;
     Ok(tally)
 }
 

@@ -7,7 +7,7 @@ ghost use Rattle.tetri_state.specs.Reached.{IsReached};
 ghost use Rattle.tetri_trace.specs.Scenario.{scenario};
 ghost use Rattle.tetri_trace.specs.Sound.{IsSound};
 
-use crate::parts;
+use crate::{answers, parts};
 use std::alloc::{AllocError, Global};
 use tetri_space::Instance;
 use tetri_state::{
@@ -59,6 +59,7 @@ fn told(alloc: Global, inst: &Instance, seen: &Seen, what: &str) -> Result<Strin
         "busy" => format!(in alloc; "{:?}", inst.busy_until),
         "drained" => format!(in alloc; "{:?}", inst.drained),
         "carry" => grants_told(alloc, seen.carry.as_slice()),
+        "admit" => answers::told(alloc, inst, rest),
         _ => parts::told(alloc, inst, word, rest),
     }
 }
@@ -168,9 +169,9 @@ fn run(alloc: Global, tally: &mut Tally, trace: &Trace, body: &str) -> Result<()
 }
 
 /// Rows of a run over the trace, a block for each cycle with a blank line behind it. In a block stand what `happened`, how many
-/// jobs are `pending`, until when each node is `busy`, which are `drained`, what is the `carry`, rows of the instance, and
-/// `plan GRANTS => [LAUNCHED JOBS]`; without the last no grant is planned. A block that begins with `now` tells of the state
-/// between two cycles. All rows may have repetitions.
+/// jobs are `pending`, until when each node is `busy`, which are `drained`, what is the `carry`, what is answered by
+/// `admit BUDGET`, rows of the instance, and `plan GRANTS => [LAUNCHED JOBS]`; without the last no grant is planned. A block that
+/// begins with `now` tells of the state between two cycles. All rows may have repetitions.
 pub fn cycles(alloc: Global, trace: &str, tally: &mut Tally, body: &str) -> Result<(), AllocError> {
     match answer(alloc, trace.as_bytes())? {
         Ok(trace) => run(alloc, tally, &trace, body),

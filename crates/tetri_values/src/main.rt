@@ -3,6 +3,7 @@
 //! stand in the code.
 #![tactic(auto)]
 
+mod answers;
 mod cycles;
 mod expressions;
 mod fractions;
