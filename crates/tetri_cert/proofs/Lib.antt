@@ -16,6 +16,7 @@ pub mod NumbersBack
 pub mod NumbersReduced
 pub mod ListsBack
 pub mod PairsBack
+pub mod HalvesBack
 pub mod TextBack
 pub mod TextShort
 pub mod CellLaws

@@ -173,11 +173,11 @@ frac_text_back x =
     slashless : (z : ℤ) → IsWithin z → Avoids 47 (signed_decimal z)
     slashless z h = whole_avoids 47 z (inl (omega arith)) (λ (e : 47 ≡ 45). omega arith) h
 
-parts_only : (ps : List (List ℕ)) (x : Frac) → frac_of_parts ps ≡ Some x → ps ≡ signed_decimal x.num ∷ signed_decimal x.den ∷ []
-parts_only [] x h = cc
-parts_only (a ∷ []) x h = cc
-parts_only (a ∷ b ∷ c ∷ cs) x h = cc
-parts_only (a ∷ b ∷ []) x h =
+pub frac_parts_only : (ps : List (List ℕ)) (x : Frac) → frac_of_parts ps ≡ Some x → ps ≡ signed_decimal x.num ∷ signed_decimal x.den ∷ []
+frac_parts_only [] x h = cc
+frac_parts_only (a ∷ []) x h = cc
+frac_parts_only (a ∷ b ∷ c ∷ cs) x h = cc
+frac_parts_only (a ∷ b ∷ []) x h =
     let r = bind_some (whole_number a) (λ num. whole_number b >>= λ den. frac_of num den) x h in
     let s = bind_some (whole_number b) (λ den. frac_of r.0 den) x r.2 in
     let n = whole_only a r.0 r.1 in
@@ -187,4 +187,4 @@ parts_only (a ∷ b ∷ []) x h =
 
 pub frac_text_only : (bs : List ℕ) (x : Frac) → frac_in bs ≡ Some x → bs ≡ frac_text x
 unfolding frac_in
-frac_text_only bs x h = sym (join_with_byte-slice_split 47 bs) ∙ ap (join_with_byte 47) (parts_only (parts_at 47 bs) x h)
+frac_text_only bs x h = sym (join_with_byte-slice_split 47 bs) ∙ ap (join_with_byte 47) (frac_parts_only (parts_at 47 bs) x h)

@@ -50,11 +50,11 @@ pair_back k z p =
     ∙ ap (λ (o : Option ℤ). o >>= λ by. cond (eqb (unsigned_abs by) 0) None (Some (k, by))) (whole_back z p.within)
     ∙ ap (λ (t : Bool). cond t None (Some (k, z))) (nonzero_abs z p.nonzero)
 
-parts_only : (ps : List (List ℕ)) (k : ℕ) (z : ℤ) → pair_of_parts ps ≡ Some (k, z) → IsPair k z × (ps ≡ decimal k ∷ signed_decimal z ∷ [])
-parts_only [] k z h = cc
-parts_only (a ∷ []) k z h = cc
-parts_only (a ∷ b ∷ c ∷ cs) k z h = cc
-parts_only (a ∷ b ∷ []) k z h =
+pub pair_parts_only : (ps : List (List ℕ)) (k : ℕ) (z : ℤ) → pair_of_parts ps ≡ Some (k, z) → IsPair k z × (ps ≡ decimal k ∷ signed_decimal z ∷ [])
+pair_parts_only [] k z h = cc
+pair_parts_only (a ∷ []) k z h = cc
+pair_parts_only (a ∷ b ∷ c ∷ cs) k z h = cc
+pair_parts_only (a ∷ b ∷ []) k z h =
     let r = bind_some (small_number a) (λ key. whole_number b >>= λ by. cond (eqb (unsigned_abs by) 0) None (Some (key, by))) (k, z) h in
     let s = bind_some (whole_number b) (λ by. cond (eqb (unsigned_abs by) 0) None (Some (r.0, by))) (k, z) r.2 in
     let c = cond_else (eqb (unsigned_abs s.0) 0) (Some (r.0, s.0)) (k, z) s.2 in
@@ -68,7 +68,7 @@ parts_only (a ∷ b ∷ []) k z h =
 pair_only : (bs : List ℕ) (k : ℕ) (z : ℤ) → pair_in bs ≡ Some (k, z) → IsPair k z × (bs ≡ pair_text k z)
 unfolding pair_in
 pair_only bs k z h =
-    let p = parts_only (parts_at 58 bs) k z h in
+    let p = pair_parts_only (parts_at 58 bs) k z h in
     (p.0, sym (join_with_byte-slice_split 58 bs) ∙ ap (join_with_byte 58) p.1)
 
 -- ---- weights and cells
@@ -117,11 +117,11 @@ frac_cell_back e p =
     ∙ ap (λ (o : Option Frac). o >>= λ value. cond (eqb (unsigned_abs value.num) 0) None (Some (record { column = e.column; value = value }))) (frac_text_back e.value)
     ∙ ap (λ (t : Bool). cond t None (Some e)) (nonzero_abs e.value.num p.nonzero)
 
-frac_parts_only : (ps : List (List ℕ)) (e : FracCell) → frac_cell_of_parts ps ≡ Some e → IsPlainFracCell e × (ps ≡ decimal e.column ∷ frac_text e.value ∷ [])
-frac_parts_only [] e h = cc
-frac_parts_only (a ∷ []) e h = cc
-frac_parts_only (a ∷ b ∷ c ∷ cs) e h = cc
-frac_parts_only (a ∷ b ∷ []) e h =
+pub frac_cell_parts_only : (ps : List (List ℕ)) (e : FracCell) → frac_cell_of_parts ps ≡ Some e → IsPlainFracCell e × (ps ≡ decimal e.column ∷ frac_text e.value ∷ [])
+frac_cell_parts_only [] e h = cc
+frac_cell_parts_only (a ∷ []) e h = cc
+frac_cell_parts_only (a ∷ b ∷ c ∷ cs) e h = cc
+frac_cell_parts_only (a ∷ b ∷ []) e h =
     let r = bind_some (small_number a) (λ column. frac_in b >>= λ value. cond (eqb (unsigned_abs value.num) 0) None (Some (record { column = column; value = value }))) e h in
     let s = bind_some (frac_in b) (λ value. cond (eqb (unsigned_abs value.num) 0) None (Some (record { column = r.0; value = value }))) e r.2 in
     let c = cond_else (eqb (unsigned_abs s.0.num) 0) (Some (record { column = r.0; value = s.0 })) e s.2 in
@@ -135,7 +135,7 @@ frac_parts_only (a ∷ b ∷ []) e h =
 frac_cell_only : (bs : List ℕ) (e : FracCell) → frac_cell_in bs ≡ Some e → IsPlainFracCell e × (bs ≡ frac_cell_text e)
 unfolding frac_cell_in
 frac_cell_only bs e h =
-    let p = frac_parts_only (parts_at 58 bs) e h in
+    let p = frac_cell_parts_only (parts_at 58 bs) e h in
     (p.0, sym (join_with_byte-slice_split 58 bs) ∙ ap (join_with_byte 58) p.1)
 
 pub frac_cells : Spelled FracCell frac_cell_text frac_cell_in IsPlainFracCell

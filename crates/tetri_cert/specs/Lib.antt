@@ -12,3 +12,4 @@ pub mod Lists
 pub mod Pairs
 pub mod NodeText
 pub mod Text
+pub mod Words

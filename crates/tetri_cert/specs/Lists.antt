@@ -13,6 +13,11 @@ abbrev pub Ascend : {E : Type 0} → (E → ℕ) → (E → Type 0) → ℕ → 
 Ascend key IsEntry least [] = Unit {0}
 Ascend key IsEntry least (e ∷ es) = (least ≤ key e) × IsEntry e × Ascend key IsEntry (key e + 1) es
 
+-- the parts of a list that are left, where something is
+abbrev pub parts_left : Option (List ℕ) → List (List ℕ)
+parts_left None = []
+parts_left (Some rest) = parts_at 44 rest
+
 -- the entries of these parts, whose keys ascend from a number on
 abbrev pub entries_from : {E : Type 0} → (List ℕ → Option E) → (E → ℕ) → ℕ → List (List ℕ) → Option (List E)
 entries_from read key least [] = Some []

@@ -1,4 +1,6 @@
 // What may be wrong with a certificate.
+ghost use Rattle.std.specs.Prelude.{◌≡◌};
+ghost use Rattle.tetri_cert.specs.Words.{tree_words};
 
 /// Which test a certificate fails.
 #[derive(Clone, Copy, Debug, PartialEq, Eq)]
@@ -19,6 +21,24 @@ pub enum TreeWhy {
     Denominator,
     /// A point names a column outside the program, does not lie in the node's region, breaks a row, or has another objective than its worth.
     Point,
+}
+
+impl TreeWhy {
+    /// The test in a word.
+    pub fn words(self) -> &'static str
+        ensures { result.now ≡ tree_words self }
+    {
+        match self {
+            TreeWhy::Kind => "kind",
+            TreeWhy::Shape => "shape",
+            TreeWhy::Column => "column",
+            TreeWhy::At => "at",
+            TreeWhy::Row => "row",
+            TreeWhy::Negative => "negative",
+            TreeWhy::Denominator => "denominator",
+            TreeWhy::Point => "point",
+        }
+    }
 }
 
 /// The first fault of a tree, in preorder from node 0. `Past` names the first column at which a number of the weighing leaves the

@@ -24,6 +24,7 @@ pub use laws::{
     faults_name_nodes, proper_trees_have_bounds, same_programs_answer_same, shape_is_of_trees,
     tree_bounds_points,
 };
+pub use lists::print_weights;
 pub use marks::{Cell, FracCell, Licence, Mark};
 pub use plan_mark::PlanMark;
 pub use points::{objective_at, point_of};

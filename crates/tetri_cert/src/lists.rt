@@ -1,6 +1,7 @@
 // Comma lists of weights and of cells.
-ghost use Rattle.std.specs.Prelude.{◌≡◌, ◌++◌, IfOk, OnOk, string_bytes, map};
-ghost use Rattle.tetri_cert.specs.Lists.{entries_from, list_text};
+ghost use Rattle.std.specs.Prelude.{◌≡◌, ◌++◌, ◌∷◌, [], ◌<◌, IfOk, IfSome, OnOk, length, option_map, string_bytes};
+ghost use Rattle.tetri_io.specs.Words.{parts_at};
+ghost use Rattle.tetri_cert.specs.Lists.{entries_from, list_text, parts_left};
 ghost use Rattle.tetri_cert.specs.Pairs.{
   cell_in,
   cell_key,
@@ -22,7 +23,7 @@ use crate::{Cell, FracCell};
 use std::alloc::{AllocError, Global};
 use std::fmt::Write;
 use tetri_base::Items;
-use tetri_io::parts_at;
+use tetri_io::halves_at;
 use tetri_ip::Weight;
 
 // ---- printing
@@ -51,7 +52,9 @@ fn add_frac_cell(out: &mut String, cell: &FracCell) -> Result<(), AllocError>
     write!(out, "{column}:{num}/{den}")
 }
 
-pub(crate) fn add_weights(out: &mut String, weights: &[Weight]) -> Result<(), AllocError>
+/// Adds weights to a text: each row and its weight with a colon between, with commas between the weights; a dash for none. After
+/// want of memory a front of it may stand there.
+pub fn print_weights(out: &mut String, weights: &[Weight]) -> Result<(), AllocError>
     ensures { OnOk result (string_bytes out.new ≡ string_bytes out.old ++ list_text weight_text weights.now) }
 {
     let Some((first, others)) = weights.split_first() else {
@@ -94,12 +97,9 @@ pub(crate) fn add_frac_cells(out: &mut String, cells: &[FracCell]) -> Result<(),
 }
 
 // ---- reading
-fn pair_of_parts(parts: &[&[u8]]) -> Option<(u32, i128)>
-    ensures { result ≡ pair_of_parts (map (λ x. x.now) parts.now) }
+fn pair_of_halves(key: &[u8], by: &[u8]) -> Option<(u32, i128)>
+    ensures { result ≡ pair_of_parts (key.now ∷ by.now ∷ []) }
 {
-    let [key, by] = parts else {
-        return None;
-    };
     let key = small_number(key)?;
     let by = whole_number(by)?;
     if by == 0 {
@@ -108,47 +108,51 @@ fn pair_of_parts(parts: &[&[u8]]) -> Option<(u32, i128)>
     Some((key, by))
 }
 
-#[tactic(auto, unfolding(crate::specs::Pairs::pair_in))]
-fn pair_in(alloc: Global, word: &[u8]) -> Result<Option<(u32, i128)>, AllocError>
-    ensures { IfOk result (λ o. o ≡ pair_in word.now) }
+fn pair_in(word: &[u8]) -> Option<(u32, i128)>
+    ensures { result ≡ pair_in word.now }
 {
-    let parts = parts_at(alloc, b':', word)?;
-    Ok(pair_of_parts(&parts))
+    let (key, by) = halves_at(b':', word)?;
+    pair_of_halves(key, by)
 }
 
-fn frac_cell_of_parts(alloc: Global, parts: &[&[u8]]) -> Result<Option<FracCell>, AllocError>
-    ensures { IfOk result (λ o. o ≡ frac_cell_of_parts (map (λ x. x.now) parts.now)) }
+fn frac_cell_of_halves(column: &[u8], value: &[u8]) -> Option<FracCell>
+    ensures { result ≡ frac_cell_of_parts (column.now ∷ value.now ∷ []) }
 {
-    let [column, value] = parts else {
-        return Ok(None);
-    };
-    let Some(column) = small_number(column) else {
-        return Ok(None);
-    };
-    let Some(value) = frac_in(alloc, value)? else {
-        return Ok(None);
-    };
+    let column = small_number(column)?;
+    let value = frac_in(value)?;
     if value.num == 0 {
-        return Ok(None);
+        return None;
     }
-    Ok(Some(FracCell { column, value }))
+    Some(FracCell { column, value })
 }
 
-#[tactic(auto, unfolding(crate::specs::Pairs::frac_cell_in))]
-fn frac_cell_in(alloc: Global, word: &[u8]) -> Result<Option<FracCell>, AllocError>
-    ensures { IfOk result (λ o. o ≡ frac_cell_in word.now) }
+fn frac_cell_in(word: &[u8]) -> Option<FracCell>
+    ensures { result ≡ frac_cell_in word.now }
 {
-    let parts = parts_at(alloc, b':', word)?;
-    frac_cell_of_parts(alloc, &parts)
+    let (column, value) = halves_at(b':', word)?;
+    frac_cell_of_halves(column, value)
 }
 
-fn weights_from(alloc: Global, parts: &[&[u8]]) -> Result<Option<Items<Weight>>, AllocError>
-    ensures { IfOk result (λ o. o ≡ entries_from weight_in weight_key 0 (map (λ x. x.now) parts.now)) }
+// The first entry of a list, and what stands behind the comma that ends it.
+fn next_part(rest: &[u8]) -> (&[u8], Option<&[u8]>)
+    ensures parts { parts_at 44 rest.now ≡ result.0.now ∷ parts_left (option_map (λ behind. behind.now) result.1) }
+    ensures shorter { IfSome result.1 (λ behind. length behind.now < length rest.now) }
+{
+    match halves_at(b',', rest) {
+        Some((part, behind)) => (part, Some(behind)),
+        None => (rest, None),
+    }
+}
+
+fn weights_from(alloc: Global, word: &[u8]) -> Result<Option<Items<Weight>>, AllocError>
+    ensures { IfOk result (λ o. o ≡ entries_from weight_in weight_key 0 (parts_at 44 word.now)) }
 {
     let mut read = Items::new(alloc);
     let mut least: u64 = 0;
-    for part in parts {
-        let Some((row, by)) = pair_in(alloc, part)? else {
+    let mut left = Some(word);
+    while let Some(rest) = left {
+        let (part, behind) = next_part(rest);
+        let Some((row, by)) = pair_in(part) else {
             return Ok(None);
         };
         if u64::from(row) < least {
@@ -156,17 +160,20 @@ fn weights_from(alloc: Global, parts: &[&[u8]]) -> Result<Option<Items<Weight>>,
         }
         least = u64::from(row) + 1;
         read.push(Weight { row, by })?;
+        left = behind;
     }
     Ok(Some(read))
 }
 
-fn cells_from(alloc: Global, parts: &[&[u8]]) -> Result<Option<Items<Cell>>, AllocError>
-    ensures { IfOk result (λ o. o ≡ entries_from cell_in cell_key 0 (map (λ x. x.now) parts.now)) }
+fn cells_from(alloc: Global, word: &[u8]) -> Result<Option<Items<Cell>>, AllocError>
+    ensures { IfOk result (λ o. o ≡ entries_from cell_in cell_key 0 (parts_at 44 word.now)) }
 {
     let mut read = Items::new(alloc);
     let mut least: u64 = 0;
-    for part in parts {
-        let Some((column, value)) = pair_in(alloc, part)? else {
+    let mut left = Some(word);
+    while let Some(rest) = left {
+        let (part, behind) = next_part(rest);
+        let Some((column, value)) = pair_in(part) else {
             return Ok(None);
         };
         if u64::from(column) < least {
@@ -174,17 +181,20 @@ fn cells_from(alloc: Global, parts: &[&[u8]]) -> Result<Option<Items<Cell>>, All
         }
         least = u64::from(column) + 1;
         read.push(Cell { column, value })?;
+        left = behind;
     }
     Ok(Some(read))
 }
 
-fn frac_cells_from(alloc: Global, parts: &[&[u8]]) -> Result<Option<Items<FracCell>>, AllocError>
-    ensures { IfOk result (λ o. o ≡ entries_from frac_cell_in frac_cell_key 0 (map (λ x. x.now) parts.now)) }
+fn frac_cells_from(alloc: Global, word: &[u8]) -> Result<Option<Items<FracCell>>, AllocError>
+    ensures { IfOk result (λ o. o ≡ entries_from frac_cell_in frac_cell_key 0 (parts_at 44 word.now)) }
 {
     let mut read = Items::new(alloc);
     let mut least: u64 = 0;
-    for part in parts {
-        let Some(cell) = frac_cell_in(alloc, part)? else {
+    let mut left = Some(word);
+    while let Some(rest) = left {
+        let (part, behind) = next_part(rest);
+        let Some(cell) = frac_cell_in(part) else {
             return Ok(None);
         };
         if u64::from(cell.column) < least {
@@ -192,6 +202,7 @@ fn frac_cells_from(alloc: Global, parts: &[&[u8]]) -> Result<Option<Items<FracCe
         }
         least = u64::from(cell.column) + 1;
         read.push(cell)?;
+        left = behind;
     }
     Ok(Some(read))
 }
@@ -203,8 +214,7 @@ pub(crate) fn weights_in(alloc: Global, word: &[u8]) -> Result<Option<Items<Weig
     if word == b"-".as_slice() {
         return Ok(Some(Items::new(alloc)));
     }
-    let parts = parts_at(alloc, b',', word)?;
-    weights_from(alloc, &parts)
+    weights_from(alloc, word)
 }
 
 #[tactic(auto, unfolding(crate::specs::Lists::list_in))]
@@ -214,8 +224,7 @@ pub(crate) fn cells_in(alloc: Global, word: &[u8]) -> Result<Option<Items<Cell>>
     if word == b"-".as_slice() {
         return Ok(Some(Items::new(alloc)));
     }
-    let parts = parts_at(alloc, b',', word)?;
-    cells_from(alloc, &parts)
+    cells_from(alloc, word)
 }
 
 #[tactic(auto, unfolding(crate::specs::Lists::list_in))]
@@ -228,6 +237,5 @@ pub(crate) fn frac_cells_in(
     if word == b"-".as_slice() {
         return Ok(Some(Items::new(alloc)));
     }
-    let parts = parts_at(alloc, b',', word)?;
-    frac_cells_from(alloc, &parts)
+    frac_cells_from(alloc, word)
 }

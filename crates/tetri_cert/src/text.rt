@@ -3,7 +3,7 @@ ghost use Rattle.std.specs.Prelude.{◌≡◌, ◌≢◌, ◌<◌, ◌++◌, All
 ghost use Rattle.tetri_cert.specs.declared.marks.Mark.{Mark};
 ghost use Rattle.tetri_cert.specs.NodeText.{HasShortLists, IsPlain, kind_text, node_in, node_line, node_text, place_text, licence_text, ReadsBack, ReadsNoOther};
 
-use crate::lists::{add_cells, add_frac_cells, add_weights};
+use crate::lists::{add_cells, add_frac_cells, print_weights};
 use crate::text_words::mark_of_words;
 use crate::{Licence, Mark};
 use std::alloc::{AllocError, Global};
@@ -91,7 +91,7 @@ fn add_mark(out: &mut String, mark: &Mark) -> Result<(), AllocError>
         Mark::Close { q, weights } => {
             let q = *q;
             write!(out, "close {q} ")?;
-            add_weights(out, weights.as_slice())
+            print_weights(out, weights.as_slice())
         }
         Mark::Whole {
             q,
@@ -102,14 +102,14 @@ fn add_mark(out: &mut String, mark: &Mark) -> Result<(), AllocError>
             let q = *q;
             let worth = *worth;
             write!(out, "whole {q} ")?;
-            add_weights(out, weights.as_slice())?;
+            print_weights(out, weights.as_slice())?;
             write!(out, " {worth} ")?;
             add_cells(out, point.as_slice())
         }
         Mark::Rest { q, weights } => {
             let q = *q;
             write!(out, "rest {q} ")?;
-            add_weights(out, weights.as_slice())
+            print_weights(out, weights.as_slice())
         }
     }
 }

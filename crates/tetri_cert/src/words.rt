@@ -1,10 +1,9 @@
 // Numbers in words.
-ghost use Rattle.std.specs.Prelude.{◌≡◌, IfOk, IfSome, map};
+ghost use Rattle.std.specs.Prelude.{◌≡◌, ◌∷◌, [], IfSome};
 ghost use Rattle.tetri_num.specs.Range.{IsWithin};
 ghost use Rattle.tetri_cert.specs.Numbers.{frac_in, frac_of, frac_of_parts, negative_number, small_number, whole_number};
 
-use std::alloc::{AllocError, Global};
-use tetri_io::{number_below, parts_at};
+use tetri_io::{halves_at, number_below};
 use tetri_num::Frac;
 
 pub(crate) fn small_number(word: &[u8]) -> Option<u32>
@@ -58,21 +57,17 @@ fn frac_of(num: i128, den: i128) -> Option<Frac>
     }
 }
 
-fn frac_of_parts(parts: &[&[u8]]) -> Option<Frac>
-    ensures { result ≡ frac_of_parts (map (λ x. x.now) parts.now) }
+fn frac_of_halves(num: &[u8], den: &[u8]) -> Option<Frac>
+    ensures { result ≡ frac_of_parts (num.now ∷ den.now ∷ []) }
 {
-    let [num, den] = parts else {
-        return None;
-    };
     let num = whole_number(num)?;
     let den = whole_number(den)?;
     frac_of(num, den)
 }
 
-#[tactic(auto, unfolding(crate::specs::Numbers::frac_in))]
-pub(crate) fn frac_in(alloc: Global, word: &[u8]) -> Result<Option<Frac>, AllocError>
-    ensures { IfOk result (λ o. o ≡ frac_in word.now) }
+pub(crate) fn frac_in(word: &[u8]) -> Option<Frac>
+    ensures { result ≡ frac_in word.now }
 {
-    let parts = parts_at(alloc, b'/', word)?;
-    Ok(frac_of_parts(&parts))
+    let (num, den) = halves_at(b'/', word)?;
+    frac_of_halves(num, den)
 }

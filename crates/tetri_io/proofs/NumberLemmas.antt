@@ -1,16 +1,19 @@
 -- Whole numbers below a limit, and their texts.
-use Rattle.std.proofs.Common.{◌≡◌, ◌≢◌, ℕ, ◌^◌, ◌<◌, ◌≤◌, refl, sym, ap, ◌∙◌, subst, arith, ◌⊎◌, List, [], ◌∷◌, drop, cond, Bool, true, false, eqb, Option, Some, None, decimal, bytes_eq, All, lit≤}
+use Rattle.std.proofs.Common.{◌≡◌, ◌≢◌, ℕ, zero, suc, ◌+◌, ◌*◌, ◌/◌, ◌%◌, ◌^◌, ◌<◌, ◌≤◌, refl, sym, ap, ◌∙◌, subst, arith, List, [], ◌∷◌, ◌++◌, length, get_or, cond, Bool, true, false, eqb, Option, Some, None, decimal, bytes_eq, All, append_assoc, lit≤}
 use Rattle.std.specs.Prelude.{◌&&◌, nat_lt}
-use Rattle.std.specs.Str.{IsUtf8}
-use Rattle.std.specs.Str.Parse.{AllDigits, IsNumeral, digits_value, without_leading_plus}
-use Rattle.std.proofs.lemmas.Bool.{false≢true, eqb-true, lt-ltb, ltb-true}
-use Rattle.std.proofs.lemmas.Fmt.{decimal_is_IsNumeral_wide, IsAscii-decimal_wide}
+use Rattle.std.specs.Char.{digit_value, is_ascii_digit}
+use Rattle.std.specs.List.{list_all}
+use Rattle.std.specs.Str.Parse.{AllDigits, IsNumeral, digits_value, digits_value_after}
+use Rattle.std.proofs.lemmas.Bool.{false≢true, eqb-true, eq-eqb, lt-ltb, ltb-true}
+use Rattle.std.proofs.lemmas.Fmt.{decimal_by_steps_wide, decimal_digit, decimal_is_IsNumeral_wide, decimal_step_wide}
+use Rattle.std.proofs.lemmas.List.{append-nil}
 use Rattle.std.proofs.lemmas.List.Elements.{All-cons}
 use Rattle.std.proofs.lemmas.Option.{cond_some}
 use Rattle.std.proofs.lemmas.Slice.Eq.{bytes_eq-Decides}
-use Rattle.std.proofs.lemmas.Str.{IsUtf8-from_ascii}
+use Rattle.std.proofs.lemmas.Str.{digit_value_digit}
 use Rattle.std.proofs.lemmas.Str.Parse.{digit_from_value}
-use Rattle.tetri_io.specs.Numbers.{number_below}
+use Rattle.tetri_io.specs.Numbers.{has_leading_zero, number_below}
+use Rattle.tetri_io.proofs.Digits.{AreDigits, own}
 
 both_true : (a b : Bool) → (a && b) ≡ true → (a ≡ true) × (b ≡ true)
 both_true true true h = (refl, refl)
@@ -42,13 +45,6 @@ numeral n h = decimal_is_IsNumeral_wide n (wide n h)
 pub decimal_avoids : (mark n : ℕ) → mark < 48 → n < 2 ^ 127 → Avoids mark (decimal n)
 decimal_avoids mark n m h = digits_avoid mark (decimal n) m (numeral n h).0.1
 
-no_plus : (ds : List ℕ) → IsNumeral 10 ds → without_leading_plus ds ≡ ds
-no_plus [] d = absurd (omega arith)
-no_plus (x ∷ xs) d =
-    let r = digit_from_value x d.1.0 in
-    let p : eqb x 43 ≡ false = other x 43 (λ (e : x ≡ 43). omega arith) in
-    ap (λ (t : Bool). drop (cond t 1 0) (x ∷ xs)) p
-
 -- a printed number reads back
 pub number_below-decimal : (limit n : ℕ) → limit ≤ 2 ^ 127 → n < limit → number_below limit (decimal n) ≡ Some n
 unfolding number_below
@@ -75,29 +71,72 @@ refused limit bytes h = by_result (number_below limit bytes) refl
     by_result None e = refl
     by_result (Some n) e = let r = number_below-only limit bytes n e in absurd (h n r.0 r.1)
 
-pub no_number_without_text : (limit : ℕ) (bytes : List ℕ) → limit ≤ 2 ^ 127 → (IsUtf8 bytes → ⊥) → None ≡ number_below limit bytes
-no_number_without_text limit bytes k h = refused limit bytes (λ n e l. h (subst (λ x. IsUtf8 x) (sym e) (IsUtf8-from_ascii (decimal n) (IsAscii-decimal_wide n (wide n (omega arith))))))
-
-pub no_number_unparsed : (limit : ℕ) (bytes : List ℕ) → limit ≤ 2 ^ 127 → (IsNumeral 10 (without_leading_plus bytes) × (digits_value 10 (without_leading_plus bytes) < 2 ^ 128) → ⊥) → None ≡ number_below limit bytes
-no_number_unparsed limit bytes k h = refused limit bytes unparsed
+-- ---- texts that are no number
+first_digit : (n : ℕ) → n < 2 ^ 127 → (0 < length (decimal n)) × (0 < n → 48 < get_or (decimal n) 0 0)
+first_digit n h = decimal_by_steps_wide (λ m ds. (0 < length ds) × (0 < m → 48 < get_or ds 0 0)) one more n (wide n h)
   where
-    unparsed : (n : ℕ) → bytes ≡ decimal n → n < limit → ⊥
-    unparsed n e l =
-        let d = numeral n (omega arith) in
-        let q : without_leading_plus bytes ≡ decimal n = ap without_leading_plus e ∙ no_plus (decimal n) d.0 in
-        let v : digits_value 10 (without_leading_plus bytes) ≡ n = ap (digits_value 10) q ∙ d.1 in
-        let b : n < 2 ^ 128 = omega arith in
-        h (subst (λ x. IsNumeral 10 x) (sym q) d.0, subst (λ x. x < 2 ^ 128) (sym v) b)
+    one : (m : ℕ) → m < 10 → (0 < length ((48 + m) ∷ [])) × (0 < m → 48 < 48 + m)
+    one m l = (omega arith, λ p. omega arith)
 
--- what was parsed, and is not below the limit or prints otherwise
-pub no_number_otherwise : (limit : ℕ) (bytes : List ℕ) (n : ℕ) → limit ≤ 2 ^ 127 → n ≡ digits_value 10 (without_leading_plus bytes) → (n < limit → decimal n ≡ bytes → ⊥) → None ≡ number_below limit bytes
-no_number_otherwise limit bytes n k e h = refused limit bytes unprinted
+    more : (m : ℕ) (ds : List ℕ) → 10 ≤ m → (0 < length ds) × (0 < m / 10 → 48 < get_or ds 0 0) → (0 < length (ds ++ ((48 + m % 10) ∷ []))) × (0 < m → 48 < get_or (ds ++ ((48 + m % 10) ∷ [])) 0 0)
+    more m [] l p = absurd (omega arith)
+    more m (d ∷ ds) l p = (omega arith, λ q. p.1 (omega arith))
+
+pub empty_number : (limit : ℕ) (bytes : List ℕ) → limit ≤ 2 ^ 127 → length bytes ≡ 0 → None ≡ number_below limit bytes
+empty_number limit bytes k z = refused limit bytes (λ n e l. omega (arith, (first_digit n (omega arith)).0, ap length e))
+
+pub zero_before_number : (limit : ℕ) (bytes : List ℕ) → limit ≤ 2 ^ 127 → 1 < length bytes → get_or bytes 0 0 ≡ 48 → None ≡ number_below limit bytes
+zero_before_number limit bytes k more first = refused limit bytes by_size
   where
-    unprinted : (m : ℕ) → bytes ≡ decimal m → m < limit → ⊥
-    unprinted m b l =
-        let d = numeral m (omega arith) in
-        let v : n ≡ m = e ∙ ap (digits_value 10) (ap without_leading_plus b ∙ no_plus (decimal m) d.0) ∙ d.1 in
-        h (subst (λ x. x < limit) (sym v) l) (ap decimal v ∙ sym b)
+    by_size : (n : ℕ) → bytes ≡ decimal n → n < limit → ⊥
+    by_size zero e l = let z : length (decimal 0) ≡ 1 = ap length (decimal_digit 0 (omega arith)) in omega (arith, ap length e, z)
+    by_size (suc n) e l = omega (arith, (first_digit (suc n) (omega arith)).1 (omega arith), ap (λ (x : List ℕ). get_or x 0 0) e)
 
-pub number_below-printed : (limit : ℕ) (bytes : List ℕ) (n : ℕ) → limit ≤ 2 ^ 127 → n < limit → decimal n ≡ bytes → Some n ≡ number_below limit bytes
-number_below-printed limit bytes n k l e = sym (ap (number_below limit) (sym e) ∙ number_below-decimal limit n k l)
+-- no digits, or digits of a number that is too large
+pub not_digits_number : (limit : ℕ) (bytes : List ℕ) → limit ≤ 2 ^ 127 → (AreDigits bytes → 2 ^ 128 ≤ digits_value 10 bytes) → None ≡ number_below limit bytes
+not_digits_number limit bytes k large = refused limit bytes (λ n e l.
+    let d = numeral n (omega arith) in
+    let all : AreDigits bytes = ap (list_all is_ascii_digit) e ∙ own.from (decimal n) d.0.1 in
+    omega (arith, large all, ap (digits_value 10) e, d.1))
+
+pub digits_past_limit : (limit : ℕ) (bytes : List ℕ) → limit ≤ 2 ^ 127 → limit ≤ digits_value 10 bytes → None ≡ number_below limit bytes
+digits_past_limit limit bytes k past = refused limit bytes (λ n e l. omega (arith, ap (digits_value 10) e, (numeral n (omega arith)).1))
+
+pub leading_zero : (bytes : List ℕ) → has_leading_zero bytes ≡ true → (1 < length bytes) × (get_or bytes 0 0 ≡ 48)
+leading_zero bytes e = let t = both_true _ _ e in (ltb-true _ _ t.0, eqb-true _ _ t.1)
+
+pub no_leading_zero : (bytes : List ℕ) → has_leading_zero bytes ≡ false → 1 < length bytes → get_or bytes 0 0 ≢ 48
+no_leading_zero bytes e more = λ (z : get_or bytes 0 0 ≡ 48). false≢true (sym e ∙ ap (λ b. b && eqb (get_or bytes 0 0) 48) (lt-ltb _ _ more) ∙ eq-eqb _ _ z)
+
+-- ---- digits that are a number
+grows : (n : ℕ) (ds : List ℕ) → n ≤ digits_value_after 10 n ds
+grows n [] = omega arith
+grows n (c ∷ cs) = omega (arith, grows (n * 10 + digit_value c) cs)
+
+printed_behind : (n : ℕ) (ds : List ℕ) → 0 < n → AllDigits 10 ds → digits_value_after 10 n ds < 2 ^ 127 → decimal (digits_value_after 10 n ds) ≡ decimal n ++ ds
+printed_behind n [] some d small = sym (append-nil (decimal n))
+printed_behind n (c ∷ cs) some d small =
+    let m : ℕ = n * 10 + digit_value c in
+    let k = digit_value_digit c (digit_from_value c d.0) in
+    let front : m / 10 ≡ n = omega (arith, d.0) in
+    let end : 48 + m % 10 ≡ c = omega (arith, d.0) in
+    printed_behind m cs (omega arith) d.1 small
+    ∙ ap (λ x. x ++ cs) (decimal_step_wide m (omega arith) (wide m (omega (arith, grows m cs))) ∙ (λ i. decimal (front i) ++ (end i ∷ [])))
+    ∙ append_assoc (decimal n) (c ∷ []) cs
+
+printed_digits : (ds : List ℕ) → AllDigits 10 ds → 0 < length ds → (1 < length ds → get_or ds 0 0 ≢ 48) → digits_value 10 ds < 2 ^ 127 → decimal (digits_value 10 ds) ≡ ds
+printed_digits [] d some plain small = absurd (omega arith)
+printed_digits (c ∷ []) d some plain small =
+    let k = digit_value_digit c (digit_from_value c d.0) in
+    decimal_digit (0 * 10 + digit_value c) (omega (arith, d.0)) ∙ ap (λ x. x ∷ []) (omega arith)
+printed_digits (c ∷ e ∷ cs) d some plain small =
+    let k = digit_value_digit c (digit_from_value c d.0) in
+    let first : c ≢ 48 = plain (omega arith) in
+    let is : 48 + (0 * 10 + digit_value c) ≡ c = omega arith in
+    printed_behind (0 * 10 + digit_value c) (e ∷ cs) (omega arith) d.1 small
+    ∙ ap (λ x. x ++ (e ∷ cs)) (decimal_digit (0 * 10 + digit_value c) (omega (arith, d.0)) ∙ ap (λ x. x ∷ []) is)
+
+pub digits_are_number : (limit : ℕ) (bytes : List ℕ) → limit ≤ 2 ^ 127 → AreDigits bytes → 0 < length bytes → (1 < length bytes → get_or bytes 0 0 ≢ 48) → digits_value 10 bytes < limit → Some (digits_value 10 bytes) ≡ number_below limit bytes
+digits_are_number limit bytes k all some plain l =
+    let s : decimal (digits_value 10 bytes) ≡ bytes = printed_digits bytes (own.to bytes all) some plain (omega arith) in
+    sym (ap (number_below limit) (sym s) ∙ number_below-decimal limit (digits_value 10 bytes) k l)

@@ -1,11 +1,11 @@
 -- Texts made of lines, and lines made of words, read back.
-use Rattle.std.proofs.Common.{◌≡◌, ℕ, ◌+◌, suc, refl, sym, ap, ◌∙◌, arith, List, [], ◌∷◌, ◌++◌, length, map, eqb, true, false, cond, Bool, All}
-use Rattle.std.specs.List.{slice_split, join_with_byte}
+use Rattle.std.proofs.Common.{◌≡◌, ℕ, ◌+◌, suc, refl, ap, ◌∙◌, List, [], ◌∷◌, ◌++◌, length, map, eqb, false, cond, Bool}
+use Rattle.std.specs.List.{join_with_byte}
 use Rattle.std.proofs.lemmas.List.{append-nil}
 use Rattle.std.proofs.lemmas.List.Elements.{All-head, All-tail}
 use Rattle.std.proofs.lemmas.List.Splits.{slice_split_at, slice_split_none}
 use Rattle.std.proofs.lemmas.Bool.{eq-eqb}
-use Rattle.tetri_io.specs.Lines.{line_of, lines_from, onto}
+use Rattle.tetri_io.specs.Lines.{line_of, lines_from}
 use Rattle.tetri_io.specs.Words.{parts_at}
 use Rattle.tetri_io.proofs.Lines.{lines-piece}
 use Rattle.tetri_io.proofs.NumberLemmas.{Avoids}

@@ -1,36 +1,11 @@
 // The lines of a cycle whose bound is tightened by cuts.
 ghost use Rattle.std.specs.Prelude.{◌≡◌, ◌++◌, IfOk, OnOk, flat_map, string_bytes};
-ghost use Rattle.tetri_cert.specs.Lists.{list_text};
-ghost use Rattle.tetri_cert.specs.Pairs.{weight_text};
 ghost use Rattle.tetri_tight.specs.Text.{cut_line, root_line, root_lines, tight_bound, tight_line, tight_text};
 
 use std::alloc::{AllocError, Global};
 use std::fmt::Write;
+use tetri_cert::print_weights;
 use tetri_cuts::{Added, Root, Tight};
-use tetri_ip::Weight;
-
-fn add_weight(out: &mut String, weight: &Weight) -> Result<(), AllocError>
-    ensures { OnOk result (string_bytes out.new ≡ string_bytes out.old ++ weight_text weight.now) }
-{
-    let row = weight.row;
-    let by = weight.by;
-    write!(out, "{row}:{by}")
-}
-
-// The weights with commas between, or a dash.
-fn add_weights(out: &mut String, weights: &[Weight]) -> Result<(), AllocError>
-    ensures { OnOk result (string_bytes out.new ≡ string_bytes out.old ++ list_text weight_text weights.now) }
-{
-    let Some((first, others)) = weights.split_first() else {
-        return out.push_str("-");
-    };
-    add_weight(out, first)?;
-    for weight in others {
-        out.push_str(",")?;
-        add_weight(out, weight)?;
-    }
-    Ok(())
-}
 
 #[tactic(auto, unfolding(crate::specs::Text::cut_line))]
 fn add_cut(out: &mut String, cut: &Added) -> Result<(), AllocError>
@@ -38,7 +13,7 @@ fn add_cut(out: &mut String, cut: &Added) -> Result<(), AllocError>
 {
     let divisor = cut.divisor;
     write!(out, "cut {divisor} ")?;
-    add_weights(out, &cut.weights)?;
+    print_weights(out, &cut.weights)?;
     out.push_str("\n")
 }
 
@@ -57,7 +32,7 @@ fn add_root(out: &mut String, root: &Root) -> Result<(), AllocError>
 {
     let q = root.q;
     write!(out, "root {q} ")?;
-    add_weights(out, &root.weights)?;
+    print_weights(out, &root.weights)?;
     out.push_str("\n")
 }
 

@@ -1,7 +1,12 @@
-use Rattle.std.proofs.Common.{◌≡◌, drop, map}
-use Rattle.tetri_cert.specs.Lists.{entries_from, onto}
+use Rattle.std.proofs.Common.{◌≡◌, option_map}
+use Rattle.tetri_io.specs.Words.{parts_at}
+use Rattle.tetri_cert.specs.Lists.{entries_from, onto, parts_left}
 use Rattle.tetri_cert.specs.Pairs.{frac_cell_in, frac_cell_key}
+use Rattle.tetri_cert.proofs.HalvesBack.{bytes_left}
 use Rattle.tetri_cert.proofs.lists.frac_cells_from.Given as goal
 
-abbrev pub invariant-loop-part : goal.invariant-loop-part
-invariant-loop-part l = onto l.read (entries_from frac_cell_in frac_cell_key l.least (map (λ x. x.now) (drop l.part-index l.parts))) ≡ entries_from frac_cell_in frac_cell_key 0 (map (λ x. x.now) l.parts)
+abbrev pub invariant-loop-left : goal.invariant-loop-left
+invariant-loop-left l = onto l.read (entries_from frac_cell_in frac_cell_key l.least (parts_left (option_map (λ rest. rest.now) l.left))) ≡ entries_from frac_cell_in frac_cell_key 0 (parts_at 44 l.word)
+
+abbrev pub decreases-loop-left : goal.decreases-loop-left
+decreases-loop-left l = bytes_left (option_map (λ rest. rest.now) l.left)

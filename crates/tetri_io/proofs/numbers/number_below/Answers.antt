@@ -1,24 +1,28 @@
-use Rattle.std.proofs.Common.{◌≡◌, refl, sym, ap, ◌∙◌, arith, rules}
-use Rattle.std.proofs.lemmas.Bool.{false≢true}
-use Rattle.std.proofs.lemmas.Slice.Eq.{bytes_eq-Decides}
-use Rattle.tetri_io.proofs.NumberLemmas.{no_number_without_text, no_number_unparsed, no_number_otherwise, number_below-printed}
-use Rattle.tetri_io.proofs.numbers.number_below.Goals.{else-number-limit-via-then-number-limit+else-eq, else-number-limit-via-else-number-limit}
+use Rattle.std.proofs.Common.{length, sym, ap, ◌∙◌, arith, Some}
+use Rattle.std.proofs.lemmas.Bool.{eqb-true}
+use Rattle.tetri_io.proofs.Digits.{some_bytes}
+use Rattle.tetri_io.proofs.NumberLemmas.{empty_number, zero_before_number, not_digits_number, digits_past_limit, digits_are_number, leading_zero, no_leading_zero}
+use Rattle.tetri_io.proofs.numbers.number_below.Goals.{then-is_empty-via-then-is_empty, then-is_empty-via-else-is_empty+then-has_leading_zero}
 use Rattle.tetri_io.proofs.numbers.number_below.Goals as goal
 
-pub returns-in_default-clause-value : goal.returns-in_default-clause-value
-returns-in_default-clause-value c = no_number_without_text _ _ c.requires c.in_default.ensures.cases.0
+pub returns-then-is_empty-clause-value : goal.returns-then-is_empty-clause-value
+returns-then-is_empty-clause-value c =
+    elim c.then-is_empty.branch [
+      | then-is_empty-via-then-is_empty w ↦ empty_number c.args.limit c.args.bytes.now c.requires (eqb-true (length c.args.bytes.now) 0 (sym c.is_empty.ensures ∙ w.if-is_empty.true))
+      | then-is_empty-via-else-is_empty+then-has_leading_zero w ↦
+          let z = leading_zero c.args.bytes.now (sym w.has_leading_zero.ensures ∙ w.if-has_leading_zero.true) in
+          zero_before_number c.args.limit c.args.bytes.now c.requires z.0 z.1
+    ]
 
-pub returns-in_default-parse-clause-value : goal.returns-in_default-parse-clause-value
-returns-in_default-parse-clause-value c = rw (← c.in-Ok.ensures.cases.0) (no_number_unparsed _ c.in-Ok.text.now c.requires c.in_default-parse.ensures.value.0)
+pub returns-in_err-number-clause-value : goal.returns-in_err-number-clause-value
+returns-in_err-number-clause-value c = c.from_residual.ensures ∙ not_digits_number c.args.limit c.args.bytes.now c.requires c.in_err-number.ensures
 
-pub returns-then-eq-clause-value : goal.returns-then-eq-clause-value
-returns-then-eq-clause-value c =
-    number_below-printed _ _ _ c.requires c.if-number-limit.true (sym c.format.ensures.text ∙ sym c.as_bytes.ensures.value ∙ (bytes_eq-Decides _ _).0 (sym c.eq.ensures ∙ c.if-eq.true))
+pub returns-then-number-limit-clause-value : goal.returns-then-number-limit-clause-value
+returns-then-number-limit-clause-value c =
+    ap (λ n. Some n) c.in_ok-number.ensures.1
+    ∙ digits_are_number c.args.limit c.args.bytes.now c.requires c.in_ok-number.ensures.0 (some_bytes c.args.bytes.now (sym c.is_empty.ensures ∙ c.if-is_empty.false))
+    (no_leading_zero c.args.bytes.now (sym c.has_leading_zero.ensures ∙ c.if-has_leading_zero.false)) (omega (arith, c.in_ok-number.ensures.1, c.if-number-limit.true))
 
 pub returns-else-number-limit-clause-value : goal.returns-else-number-limit-clause-value
 returns-else-number-limit-clause-value c =
-    rw (← c.in-Ok.ensures.cases.0) (no_number_otherwise _ c.in-Ok.text.now c.in-Ok-parse.number c.requires c.in-Ok-parse.ensures.value.0.1
-    (elim c.else-number-limit.branch [
-      | else-number-limit-via-then-number-limit+else-eq w ↦ λ l e. false≢true (sym w.if-eq.false ∙ w.eq.ensures ∙ (bytes_eq-Decides _ _).1 (w.as_bytes.ensures.value ∙ w.format.ensures.text ∙ e ∙ c.in-Ok.ensures.cases.0))
-      | else-number-limit-via-else-number-limit w ↦ λ l e. omega arith
-    ]))
+    digits_past_limit c.args.limit c.args.bytes.now c.requires (omega (arith, c.in_ok-number.ensures.1, c.if-number-limit.false))
