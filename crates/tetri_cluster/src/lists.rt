@@ -1,5 +1,5 @@
 // Lists of names and of nodes.
-ghost use Rattle.std.specs.Prelude.{◌≡◌, ◌∷◌, [], ◌++◌, nat_eq, OnOk, OnErr};
+ghost use Rattle.std.specs.Prelude.{◌≡◌, ◌∷◌, [], ◌++◌, nat_eq, IfOk, OnOk, OnErr};
 ghost use Rattle.std.proofs.Common.{rules};
 ghost use Rattle.std.specs.Cmp.{partial_equiv_from_equiv};
 ghost use Rattle.std.specs.Cmp.Lexicographic.{pointwise, nat_list_eq_equiv};
@@ -74,6 +74,15 @@ impl NodeSet {
         NodeSet {
             nodes: Vec::new(alloc),
         }
+    }
+
+    /// A copy of these nodes, in one piece.
+    pub fn of_slice(alloc: Global, nodes: &[u32]) -> Result<NodeSet, AllocError>
+        ensures { IfOk result (λ set. set ≡ nodes.now) }
+    {
+        Ok(NodeSet {
+            nodes: Vec::from_slice(alloc, nodes)?,
+        })
     }
 
     /// Puts the node last.

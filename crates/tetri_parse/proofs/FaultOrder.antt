@@ -14,7 +14,7 @@ use Rattle.tetri_parse.specs.declared.fault.Fault.TheVariants.{Uneven, Mixed, To
 use Rattle.tetri_parse.specs.declared.fault.Miss.{Miss}
 use Rattle.tetri_parse.specs.declared.fault.ParseFault.{ParseFault}
 use Rattle.tetri_parse.specs.declared.fault.ParseFault.TheVariants as faults
-use Rattle.tetri_parse.specs.declared.syntax.LeafText.{LeafText}
+use Rattle.tetri_parse.specs.LeafText.{LeafText}
 use Rattle.tetri_parse.specs.declared.token.Word.{Word}
 use Rattle.tetri_parse.specs.declared.token.Word.TheVariants as word
 use Rattle.tetri_parse.specs.Ascending.{fault_number, offset_of, ComesBefore, IsLeast, AnswersLeast, FaultsAscend, LeastFault}

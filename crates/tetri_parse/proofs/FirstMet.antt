@@ -10,7 +10,7 @@ use Rattle.tetri_cluster.specs.Sets.{set_added}
 use Rattle.tetri_parse.specs.declared.fault.Fault.{Fault}
 use Rattle.tetri_parse.specs.declared.fault.Fault.TheVariants.{Uneven, Mixed, TooRich, TooDeep, TooManyLeaves, Trailing}
 use Rattle.tetri_parse.specs.declared.fault.Miss.{Miss}
-use Rattle.tetri_parse.specs.declared.syntax.LeafText.{LeafText}
+use Rattle.tetri_parse.specs.LeafText.{LeafText}
 use Rattle.tetri_base.specs.ResultSteps.{◌>>=◌}
 use Rattle.tetri_parse.specs.Faults.{fault_if, added_faults, set_faults, sets_with, sets_behind, starts_below, leaf_faults, sets_past, sets_past_all, all_faults, faults_of_all, IsFirstOf, MeetsFirst}
 use Rattle.tetri_parse.specs.Grammar.{Rest, leaf_at, part_with_number, goes_on_to_child, children_at, body_at, expr_at, whole_at}

@@ -2,26 +2,27 @@
 use Rattle.std.proofs.Common.{◌≡◌, ℕ, suc, ◌-◌, ◌<◌, Vec, Box, Global, List, length, sym, ap, ◌∙◌, arith}
 use Rattle.tetri_cluster.specs.declared.cluster.NodeText.{NodeText}
 use Rattle.tetri_parse.specs.declared.syntax.Join.{Join}
-use Rattle.tetri_parse.specs.declared.syntax.LeafText.{LeafText}
+use Rattle.tetri_parse.specs.declared.syntax.LeafText as code
 use Rattle.tetri_parse.specs.declared.syntax.Syntax.{Syntax, Syntax-F, fold-roll-Syntax}
 use Rattle.tetri_parse.specs.declared.syntax.Syntax.TheVariants as variant
 use Rattle.tetri_parse.specs.declared.syntax.Syntax.TheVariants.{rolls-Leaf, rolls-Join, rolls-Scale, rolls-Barrier}
 use Rattle.tetri_base.specs.ResultSteps.{◌>>=◌}
 use Rattle.tetri_parse.specs.Tokens.{skip_blanks, word_at}
 use Rattle.tetri_parse.specs.Grammar.{Rest, body_at, expr_at}
-use Rattle.tetri_parse.specs.Phrase.{Phrase, asked, joined, scaled, barred, line_up, operator, node_phrase, phrase, phrases}
+use Rattle.tetri_parse.specs.Phrase.{Phrase, asked, joined, scaled, barred, line_up, operator, leaf_text, node_phrase, phrase, phrases}
 
-pub phrase-Leaf : (l : LeafText) → phrase (variant.Leaf l) ≡ asked l
-phrase-Leaf l = ap phrase (sym (rolls-Leaf l)) ∙ fold-roll-Syntax Phrase node_phrase (Syntax-F.Leaf l)
+module _ (cluster : List NodeText) where
+  pub phrase-Leaf : (l : code.LeafText) → phrase cluster (variant.Leaf l) ≡ asked (leaf_text cluster l)
+  phrase-Leaf l = ap (phrase cluster) (sym (rolls-Leaf l)) ∙ fold-roll-Syntax Phrase (node_phrase cluster) (Syntax-F.Leaf l)
 
-pub phrase-Join : (j : Join) (left : ℕ) (ps : Vec Syntax Global) → phrase (variant.Join j left ps) ≡ joined (operator j) left (line_up (phrases ps.items))
-phrase-Join j left ps = ap phrase (sym (rolls-Join j left ps)) ∙ fold-roll-Syntax Phrase node_phrase (Syntax-F.Join j left ps)
+  pub phrase-Join : (j : Join) (left : ℕ) (ps : Vec Syntax Global) → phrase cluster (variant.Join j left ps) ≡ joined (operator j) left (line_up (phrases cluster ps.items))
+  phrase-Join j left ps = ap (phrase cluster) (sym (rolls-Join j left ps)) ∙ fold-roll-Syntax Phrase (node_phrase cluster) (Syntax-F.Join j left ps)
 
-pub phrase-Scale : (left : ℕ) (p : Box Syntax Global) (s : ℕ) → phrase (variant.Scale left p s) ≡ scaled left (phrase p.value) s
-phrase-Scale left p s = ap phrase (sym (rolls-Scale left p s)) ∙ fold-roll-Syntax Phrase node_phrase (Syntax-F.Scale left p s)
+  pub phrase-Scale : (left : ℕ) (p : Box Syntax Global) (s : ℕ) → phrase cluster (variant.Scale left p s) ≡ scaled left (phrase cluster p.value) s
+  phrase-Scale left p s = ap (phrase cluster) (sym (rolls-Scale left p s)) ∙ fold-roll-Syntax Phrase (node_phrase cluster) (Syntax-F.Scale left p s)
 
-pub phrase-Barrier : (left : ℕ) (p : Box Syntax Global) (v : ℕ) → phrase (variant.Barrier left p v) ≡ barred left (phrase p.value) v
-phrase-Barrier left p v = ap phrase (sym (rolls-Barrier left p v)) ∙ fold-roll-Syntax Phrase node_phrase (Syntax-F.Barrier left p v)
+  pub phrase-Barrier : (left : ℕ) (p : Box Syntax Global) (v : ℕ) → phrase cluster (variant.Barrier left p v) ≡ barred left (phrase cluster p.value) v
+  phrase-Barrier left p v = ap (phrase cluster) (sym (rolls-Barrier left p v)) ∙ fold-roll-Syntax Phrase (node_phrase cluster) (Syntax-F.Barrier left p v)
 
 -- the four equations
 pub ruleset phrase_equations = (phrase-Leaf, phrase-Join, phrase-Scale, phrase-Barrier)

@@ -13,7 +13,7 @@ use Rattle.tetri_cluster.specs.Cluster.{names_of, name_at}
 use Rattle.tetri_cluster.specs.Names.{differ}
 use Rattle.tetri_cluster.specs.Sets.{AreSets, has_nodes, is_known, set_added}
 use Rattle.tetri_parse.specs.declared.fault.Fault.TheVariants.{Mixed, TooRich, Uneven}
-use Rattle.tetri_parse.specs.declared.syntax.LeafText.{LeafText}
+use Rattle.tetri_parse.specs.LeafText.{LeafText}
 use Rattle.tetri_base.specs.ResultSteps.{◌>>=◌}
 use Rattle.tetri_parse.specs.Grammar.{leaf_at, body_at, expr_at}
 use Rattle.tetri_parse.specs.Phrase.{asked}

@@ -6,6 +6,10 @@ mod FirstFaults
 mod Grammars
 mod LeavesBack
 mod Lengths
+mod Fronts
+mod Noted
+mod Peaks
+mod SettledParts
 pub mod NamedAgain
 mod NodeSets
 mod Outcomes

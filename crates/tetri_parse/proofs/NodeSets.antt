@@ -1,6 +1,6 @@
 -- Sets of nodes.
 use Rattle.std.proofs.Common.{◌≡◌, ℕ, zero, suc, ◌+◌, ◌<◌, Bool, true, false, List, [], ◌∷◌, ◌++◌, take, drop, length, get_or, set, Option, Some, None, refl, sym, ap, subst, ◌∙◌, append_assoc, add-one, add-zero, arith, drop-cons}
-use Rattle.std.specs.Prelude.{filter, nat_eq, option_map, option_and_then}
+use Rattle.std.specs.Prelude.{filter, fold, nat_eq, option_map, option_and_then, IfSome, Result, Ok, Err, if◌then◌else◌}
 use Rattle.std.specs.List.{list_any, range_with_len}
 use Rattle.std.proofs.lemmas.Bool.Decides.{nat_tests}
 use Rattle.std.proofs.lemmas.Grind.{common_steps}
@@ -9,9 +9,11 @@ use Rattle.std.proofs.lemmas.List.Folds.{list_any_more}
 use Rattle.std.proofs.lemmas.List.FromFn.{length-range_with_len, get_or-range_with_len}
 use Rattle.std.proofs.lemmas.List.Kept.{IsStrictlyIncreasing-filter}
 use Rattle.tetri_cluster.specs.declared.cluster.NodeText.{NodeText}
-use Rattle.tetri_cluster.specs.Names.{number_of}
-use Rattle.tetri_cluster.specs.Cluster.{names_of}
-use Rattle.tetri_parse.specs.SetText.{numbers_of, IsNodeSet}
+use Rattle.tetri_cluster.specs.Names.{is_among, number_of}
+use Rattle.tetri_cluster.specs.Cluster.{names_of, tags_at, knows_tag}
+use Rattle.tetri_base.specs.ResultSteps.{◌>>=◌}
+use Rattle.tetri_parse.specs.declared.fault.Miss.{Miss}
+use Rattle.tetri_parse.specs.SetText.{Part, every, tagged, listed, parts_at, numbers_of, narrowed, shared_nodes, set_at, said_nodes, nodes_in, IsNodeSet}
 
 pub range-more : (a n : ℕ) → range_with_len a (n + 1) ≡ range_with_len a n ++ (a + n) ∷ []
 range-more a n = rw add-one (by_suc a n)
@@ -60,3 +62,30 @@ module _ (cluster : List NodeText) (names : List (List ℕ)) (i : ℕ) (held : L
 
 pub kept_set : (count : ℕ) (p : ℕ → Bool) (found nodes held : List ℕ) → found ≡ filter p nodes → nodes ≡ held → IsNodeSet count held → IsNodeSet count found
 kept_set count p found nodes held e same h = subst (IsNodeSet count) (ap (filter p) (sym same) ∙ sym e) (kept_is_node_set count p held h)
+
+-- what parts share is a set
+narrowed_good : (cluster : List NodeText) (held : Option (List ℕ)) (part : Part) → IfSome held (IsNodeSet (length cluster)) → IfSome (narrowed cluster held part) (IsNodeSet (length cluster))
+narrowed_good cluster None part h = tt
+narrowed_good cluster (Some nodes) every h = h
+narrowed_good cluster (Some nodes) (tagged tag) h = by_known (knows_tag cluster tag)
+  where
+    by_known : (b : Bool) → IfSome (if b then Some (filter (λ n. is_among tag (tags_at cluster n)) nodes) else None) (IsNodeSet (length cluster))
+    by_known true = kept_is_node_set (length cluster) (λ n. is_among tag (tags_at cluster n)) nodes h
+    by_known false = tt
+narrowed_good cluster (Some nodes) (listed names) h = by_numbers (numbers_of cluster names)
+  where
+    by_numbers : (o : Option (List ℕ)) → IfSome (option_map (λ chosen. filter (λ n. list_any (nat_eq n) chosen) nodes) o) (IsNodeSet (length cluster))
+    by_numbers None = tt
+    by_numbers (Some chosen) = kept_is_node_set (length cluster) (λ n. list_any (nat_eq n) chosen) nodes h
+
+shared_good : (cluster : List NodeText) (parts : List Part) (held : Option (List ℕ)) → IfSome held (IsNodeSet (length cluster)) → IfSome (fold (narrowed cluster) held parts) (IsNodeSet (length cluster))
+shared_good cluster [] held h = h
+shared_good cluster (p ∷ ps) held h = shared_good cluster ps (narrowed cluster held p) (narrowed_good cluster held p h)
+
+pub nodes_in_good : (cluster : List NodeText) (text : List ℕ) → IfSome (nodes_in cluster text) (IsNodeSet (length cluster))
+unfolding set_at nodes_in
+nodes_in_good cluster text = by_parts (parts_at text)
+  where
+    by_parts : (r : Result (List Part × List ℕ) Miss) → IfSome (said_nodes (r >>= λ parts. Ok (shared_nodes cluster parts.0, parts.1))) (IsNodeSet (length cluster))
+    by_parts (Ok x) = shared_good cluster x.0 (Some (range_with_len 0 (length cluster))) (all_is_node_set (length cluster))
+    by_parts (Err m) = tt

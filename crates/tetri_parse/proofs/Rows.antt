@@ -78,3 +78,11 @@ pub begins : {S A : Type 0} (item : S → Result (A × S) Miss) (goes_on : S →
 begins item goes_on count s =
     let k : count - 0 ≡ count = omega arith in
     ap (λ (n : ℕ). gathered put_last [] (row_at item goes_on n s)) k ∙ gathered_all (row_at item goes_on count s)
+
+-- items that are not kept
+abbrev pub pass_over : {A : Type 0} → Unit {0} → A → Unit {0}
+pass_over u x = u
+
+pub passed_over : {S A : Type 0} (read : Result (List A × S) Miss) → (gathered pass_over tt read >>= λ x. Ok x.1) ≡ (read >>= λ x. Ok x.1)
+passed_over (Ok x) = refl
+passed_over (Err m) = refl

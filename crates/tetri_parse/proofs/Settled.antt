@@ -11,7 +11,7 @@ use Rattle.tetri_strl.specs.Aligned.{EachLeaf, EachLeafOf, StartsAt, MeetsAt, Is
 use Rattle.tetri_strl.specs.Tree.{Operator, greatest, least, added, Tree, one, join, scale, barrier, Trees, none, more, row, leaves, leaves_of, numbers, numbers_of}
 use Rattle.tetri_strl.specs.WellMade.{peak, peaks, peak_joined, HasChild, IsSound, AreSound, depth, depth_of}
 use Rattle.tetri_parse.specs.declared.fault.Fault.TheVariants.{Mixed, Uneven}
-use Rattle.tetri_parse.specs.declared.syntax.LeafText.{LeafText}
+use Rattle.tetri_parse.specs.LeafText.{LeafText}
 use Rattle.tetri_base.specs.ResultSteps.{◌>>=◌}
 use Rattle.tetri_parse.specs.Phrase.{Phrase, Phrases, asked, joined, scaled, barred, nothing, followed}
 use Rattle.tetri_parse.specs.TextTree.{AreWithin, IsTextTree}

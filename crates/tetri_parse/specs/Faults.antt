@@ -9,7 +9,7 @@ use Rattle.tetri_parse.specs.declared.fault.Fault.TheVariants.{UnknownSet, Uneve
 use Rattle.tetri_parse.specs.declared.fault.Miss.{Miss}
 use Rattle.tetri_parse.specs.declared.fault.ParseFault.{ParseFault}
 use Rattle.tetri_parse.specs.declared.fault.ParseFault.TheVariants as faults
-use Rattle.tetri_parse.specs.declared.syntax.LeafText.{LeafText}
+use Rattle.tetri_parse.specs.LeafText.{LeafText}
 use Rattle.tetri_parse.specs.Phrase.{Phrase, Phrases, asked, joined, scaled, barred, nothing, followed}
 use Rattle.tetri_cluster.specs.declared.cluster.NodeText.{NodeText}
 use Rattle.tetri_parse.specs.Grammar.{whole_at}

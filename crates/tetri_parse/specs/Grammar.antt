@@ -4,7 +4,7 @@ use Rattle.tetri_strl.specs.WellMade.{PEAK}
 use Rattle.tetri_cluster.specs.declared.cluster.NodeText.{NodeText}
 use Rattle.tetri_parse.specs.declared.fault.Fault.TheVariants.{Trailing, TooDeep, TooManyLeaves}
 use Rattle.tetri_parse.specs.declared.fault.Miss.{Miss}
-use Rattle.tetri_parse.specs.declared.syntax.LeafText.{LeafText}
+use Rattle.tetri_parse.specs.LeafText.{LeafText}
 use Rattle.tetri_parse.specs.declared.token.Word.{Word}
 use Rattle.tetri_parse.specs.declared.token.Word.TheVariants as word
 use Rattle.tetri_base.specs.ResultSteps.{◌>>=◌}

@@ -2,6 +2,8 @@ pub mod Answers
 pub mod Tokens
 pub mod Rows
 pub mod SetText
+pub mod LeafText
+pub mod Reader
 pub mod Phrase
 pub mod Grammar
 pub mod Settling

@@ -3,7 +3,10 @@ use Rattle.std.specs.Prelude.{ℕ, List, [], ◌∷◌, map}
 use Rattle.tetri_strl.specs.Tree.{Operator, greatest, least, added}
 use Rattle.tetri_parse.specs.declared.syntax.Join.{Join}
 use Rattle.tetri_parse.specs.declared.syntax.Join.TheVariants.{Max, Min, Sum}
-use Rattle.tetri_parse.specs.declared.syntax.LeafText.{LeafText}
+use Rattle.tetri_cluster.specs.declared.cluster.NodeText.{NodeText}
+use Rattle.tetri_parse.specs.declared.syntax.LeafText as code
+use Rattle.tetri_parse.specs.LeafText.{LeafText}
+use Rattle.tetri_parse.specs.SetText.{nodes_in}
 use Rattle.tetri_parse.specs.declared.syntax.Syntax.{Syntax}
 use Rattle.tetri_parse.specs.declared.syntax.Syntax.TheOpen.{Syntax-F}
 use Rattle.tetri_parse.specs.declared.syntax.Syntax.TheFolds.{fold-Syntax}
@@ -30,15 +33,21 @@ operator Max = greatest
 operator Min = least
 operator Sum = added
 
-abbrev pub node_phrase : Syntax-F Phrase → Phrase
-node_phrase (Syntax-F.Leaf l) = asked l
-node_phrase (Syntax-F.Join j left ps) = joined (operator j) left (line_up ps.items)
-node_phrase (Syntax-F.Scale left p s) = scaled left p.value s
-node_phrase (Syntax-F.Barrier left p v) = barred left p.value v
+-- over the nodes of a cluster
+module _ (cluster : List NodeText) where
+  -- what a leaf says
+  abbrev pub leaf_text : code.LeafText → LeafText
+  leaf_text l = record { num = l.num; linear = l.linear; nodes = nodes_in cluster l.set.now; k = l.k; start = l.start; dur = l.dur; v = l.v; left = l.left; set_left = l.set_left; value_left = l.value_left }
 
--- what a syntax says
-abbrev pub phrase : Syntax → Phrase
-phrase = fold-Syntax Phrase node_phrase
+  abbrev pub node_phrase : Syntax-F Phrase → Phrase
+  node_phrase (Syntax-F.Leaf l) = asked (leaf_text l)
+  node_phrase (Syntax-F.Join j left ps) = joined (operator j) left (line_up ps.items)
+  node_phrase (Syntax-F.Scale left p s) = scaled left p.value s
+  node_phrase (Syntax-F.Barrier left p v) = barred left p.value v
 
-abbrev pub phrases : List Syntax → List Phrase
-phrases ps = map phrase ps
+  -- what a syntax says
+  abbrev pub phrase : Syntax → Phrase
+  phrase = fold-Syntax Phrase node_phrase
+
+  abbrev pub phrases : List Syntax → List Phrase
+  phrases ps = map phrase ps

@@ -72,6 +72,18 @@ set_at cluster text = do
   parts ← parts_at text
   Ok (shared_nodes cluster parts.0, parts.1)
 
+-- what stands behind the set that stands first
+abbrev pub set_end : List ℕ → Result (List ℕ) Miss
+set_end text = parts_at text >>= λ parts. Ok parts.1
+
+abbrev pub said_nodes : Result (Option (List ℕ) × List ℕ) Miss → Option (List ℕ)
+said_nodes (Ok set) = set.0
+said_nodes (Err m) = None
+
+-- the nodes that a text names, none where it names what is not there or is no set's text
+unfoldable pub nodes_in : List NodeText → List ℕ → Option (List ℕ)
+nodes_in cluster text = said_nodes (set_at cluster text)
+
 -- nodes of a cluster of this many, ascending without repeats
 pub record IsNodeSet (count : ℕ) (nodes : List ℕ) : Type 0 where
   pub ascending : IsStrictlyIncreasing nodes

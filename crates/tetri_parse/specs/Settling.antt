@@ -7,7 +7,7 @@ use Rattle.tetri_cluster.specs.Sets.{set_added}
 use Rattle.tetri_parse.specs.declared.fault.Fault.{Fault}
 use Rattle.tetri_parse.specs.declared.fault.Fault.TheVariants.{UnknownSet, Uneven, Mixed, TooRich, TooManySets}
 use Rattle.tetri_parse.specs.declared.fault.Miss.{Miss}
-use Rattle.tetri_parse.specs.declared.syntax.LeafText.{LeafText}
+use Rattle.tetri_parse.specs.LeafText.{LeafText}
 use Rattle.tetri_base.specs.ResultSteps.{◌>>=◌}
 use Rattle.tetri_parse.specs.Phrase.{Phrase, Phrases, asked, joined, scaled, barred, nothing, followed}
 

@@ -2,7 +2,7 @@
 use Rattle.std.specs.Prelude.{◌≡◌, ℕ, ◌+◌, ◌-◌, ◌≤◌, ◌<◌, All, IfSome}
 use Rattle.std.specs.List.Sorted.{IsStrictlyIncreasing}
 use Rattle.tetri_strl.specs.WellMade.{PEAK}
-use Rattle.tetri_parse.specs.declared.syntax.LeafText.{LeafText}
+use Rattle.tetri_parse.specs.LeafText.{LeafText}
 use Rattle.tetri_parse.specs.Phrase.{Phrase, Phrases, asked, joined, scaled, barred, nothing, followed}
 
 -- the limits of a leaf's numbers

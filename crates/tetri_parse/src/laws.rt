@@ -4,7 +4,7 @@ ghost use Rattle.tetri_parse.specs.Faults.{MeetsFirst};
 
 use tetri_cluster::{Cluster, Sets};
 
-/// Where the grammar is kept, `read_expr` answers the first of all faults of sets, values, starts and
+/// Where the grammar is kept, `ClusterReader::read_expr` answers the first of all faults of sets, values, starts and
 /// peaks in the order of the text, each of which the definition states by itself.
 pub fn reading_meets_the_first_fault(
     text: &[u8],

@@ -1,13 +1,13 @@
 // The greatest worth that what is spelled may have, and where it starts.
-ghost use Rattle.std.specs.Prelude.{◌≡◌, ◌-◌, ◌^◌, min};
+ghost use Rattle.std.specs.Prelude.{◌≡◌, ◌-◌, ◌^◌, [], min};
 ghost use Rattle.tetri_parse.specs.Phrase.{phrase, phrases, line_up};
 ghost use Rattle.tetri_parse.specs.Settling.{first_start, first_start_of, peak_of};
 
 use crate::syntax::{Join, Syntax};
 
 /// The peak, or the last number of its type where that is less.
-pub(crate) fn peak(unit: u64, syntax: &Syntax) -> u64
-    ensures { result ≡ min (2 ^ 64 - 1) (peak_of unit (phrase syntax.now)) }
+pub(crate) fn peak(unit: u64, syntax: &Syntax<'_>) -> u64
+    ensures { result ≡ min (2 ^ 64 - 1) (peak_of unit (phrase [] syntax.now)) }
 {
     match syntax {
         Syntax::Leaf(leaf) => leaf.v.saturating_mul(unit),
@@ -31,8 +31,8 @@ pub(crate) fn peak(unit: u64, syntax: &Syntax) -> u64
 }
 
 #[cycle(first_start)]
-fn first_start(syntax: &Syntax) -> u32
-    ensures { result ≡ first_start (phrase syntax.now) }
+fn first_start(syntax: &Syntax<'_>) -> u32
+    ensures { result ≡ first_start (phrase [] syntax.now) }
 {
     match syntax {
         Syntax::Leaf(leaf) => leaf.start,
@@ -44,8 +44,8 @@ fn first_start(syntax: &Syntax) -> u32
 
 /// The written start of the first leaf below these parts.
 #[cycle(first_start)]
-pub(crate) fn first_start_of(parts: &[Syntax]) -> u32
-    ensures { result ≡ first_start_of (line_up (phrases parts.now)) }
+pub(crate) fn first_start_of(parts: &[Syntax<'_>]) -> u32
+    ensures { result ≡ first_start_of (line_up (phrases [] parts.now)) }
 {
     match parts {
         [first, ..] => first_start(first),

@@ -3,12 +3,12 @@ ghost use Rattle.std.specs.Prelude.{ℕ, ◌+◌, ◌<◌, ◌≤◌, length, If
 ghost use Rattle.tetri_parse.specs.Answers.{Gives};
 ghost use Rattle.tetri_parse.specs.Grammar.{leaf_at, part_with_number, goes_on_to_child, children_at, body_at, expr_at, whole_at};
 ghost use Rattle.tetri_parse.specs.Rows.{row_at};
-ghost use Rattle.tetri_parse.specs.Phrase.{phrase, phrases, line_up};
+ghost use Rattle.tetri_parse.specs.Phrase.{leaf_text, phrase, phrases, line_up};
 ghost use Rattle.tetri_parse.specs.Written.{IsLeafFrom, HasPart, IsBody, AreSpelled, IsSpelled};
 
 use crate::fault::{Fault, Miss, Stop};
 use crate::number::number;
-use crate::set_text::set_nodes;
+use crate::set_text::set_front;
 use crate::syntax::{Join, LeafText, Syntax};
 use crate::token::{Word, first_word, goes_on, mark, missed, skip_blanks};
 use std::alloc::Global;
@@ -28,13 +28,13 @@ fn leaf<'t>(
     num: u32,
     left: usize,
     text: &'t [u8],
-) -> Result<(LeafText, &'t [u8]), Stop>
+) -> Result<(LeafText<'t>, &'t [u8]), Stop>
     requires { num < 128 }
-    ensures value { Gives (λ x. (x.0, x.1.now)) result (leaf_at cluster.now linear num left text.now) }
-    ensures good { IfOk result (λ x. IsLeafFrom (length cluster.now) num x.0 (num + 1)) }
+    ensures value { Gives (λ x. (leaf_text cluster.now x.0, x.1.now)) result (leaf_at cluster.now linear num left text.now) }
+    ensures good { IfOk result (λ x. IsLeafFrom (length cluster.now) num (leaf_text cluster.now x.0) (num + 1)) }
 {
     let set_text = skip_blanks(mark(b'(', text)?);
-    let (nodes, text) = set_nodes(alloc, cluster, set_text)?;
+    let (set, text) = set_front(alloc, cluster, set_text)?;
     let (k, text) = number(1, 4096, mark(b',', text)?)?;
     let (start, text) = number(0, 10_000, mark(b',', text)?)?;
     let (dur, text) = number(1, 10_000, mark(b',', text)?)?;
@@ -44,7 +44,7 @@ fn leaf<'t>(
     let leaf = LeafText {
         num,
         linear,
-        nodes,
+        set,
         k: k as u32,
         start: start as u32,
         dur: dur as u32,
@@ -66,9 +66,9 @@ fn expr<'t>(
     levels: u32,
     taken: u32,
     text: &'t [u8],
-) -> Result<(Syntax, u32, &'t [u8]), Stop>
-    ensures value { Gives (λ x. (phrase x.0, (x.1, x.2.now))) result (expr_at cluster.now levels (taken, text.now)) }
-    ensures good { IfOk result (λ x. IsSpelled (length cluster.now) levels taken (phrase x.0) x.1) }
+) -> Result<(Syntax<'t>, u32, &'t [u8]), Stop>
+    ensures value { Gives (λ x. (phrase cluster.now x.0, (x.1, x.2.now))) result (expr_at cluster.now levels (taken, text.now)) }
+    ensures good { IfOk result (λ x. IsSpelled (length cluster.now) levels taken (phrase cluster.now x.0) x.1) }
 {
     let start = skip_blanks(text);
     let (word, text) = first_word(start)?;
@@ -88,9 +88,9 @@ fn body<'t>(
     left: usize,
     taken: u32,
     text: &'t [u8],
-) -> Result<(Syntax, u32, &'t [u8]), Stop>
-    ensures value { Gives (λ x. (phrase x.0, (x.1, x.2.now))) result (body_at cluster.now (expr_at cluster.now levels) word left taken text.now) }
-    ensures good { IfOk result (λ x. IsBody (length cluster.now) levels taken (phrase x.0) x.1) }
+) -> Result<(Syntax<'t>, u32, &'t [u8]), Stop>
+    ensures value { Gives (λ x. (phrase cluster.now x.0, (x.1, x.2.now))) result (body_at cluster.now (expr_at cluster.now levels) word left taken text.now) }
+    ensures good { IfOk result (λ x. IsBody (length cluster.now) levels taken (phrase cluster.now x.0) x.1) }
 {
     match word {
         Word::Leaf { linear } => {
@@ -130,9 +130,9 @@ fn with_number<'t>(
     levels: u32,
     taken: u32,
     text: &'t [u8],
-) -> Result<(Syntax, u64, u32, &'t [u8]), Stop>
-    ensures value { Gives (λ x. ((phrase x.0, x.1), (x.2, x.3.now))) result (part_with_number cluster.now (expr_at cluster.now levels) taken text.now) }
-    ensures good { IfOk result (λ x. IsSpelled (length cluster.now) levels taken (phrase x.0) x.2 × (x.1 ≤ 1000000000000)) }
+) -> Result<(Syntax<'t>, u64, u32, &'t [u8]), Stop>
+    ensures value { Gives (λ x. ((phrase cluster.now x.0, x.1), (x.2, x.3.now))) result (part_with_number cluster.now (expr_at cluster.now levels) taken text.now) }
+    ensures good { IfOk result (λ x. IsSpelled (length cluster.now) levels taken (phrase cluster.now x.0) x.2 × (x.1 ≤ 1000000000000)) }
 {
     let text = mark(b'(', text)?;
     let (part, taken, text) = expr(alloc, cluster, levels, taken, text)?;
@@ -149,9 +149,9 @@ fn children<'t>(
     levels: u32,
     taken: u32,
     text: &'t [u8],
-) -> Result<(Vec<Syntax>, u32, &'t [u8]), Stop>
-    ensures value { Gives (λ x. (phrases x.0.items, (x.1, x.2.now))) result (children_at cluster.now (expr_at cluster.now levels) taken text.now) }
-    ensures good { IfOk result (λ x. HasPart (line_up (phrases x.0.items)) × AreSpelled (length cluster.now) levels taken (line_up (phrases x.0.items)) x.1) }
+) -> Result<(Vec<Syntax<'t>>, u32, &'t [u8]), Stop>
+    ensures value { Gives (λ x. (phrases cluster.now x.0.items, (x.1, x.2.now))) result (children_at cluster.now (expr_at cluster.now levels) taken text.now) }
+    ensures good { IfOk result (λ x. HasPart (line_up (phrases cluster.now x.0.items)) × AreSpelled (length cluster.now) levels taken (line_up (phrases cluster.now x.0.items)) x.1) }
 {
     let text = mark(b'(', text)?;
     child_row(alloc, cluster, levels, taken, text)
@@ -165,10 +165,10 @@ fn child_row<'t>(
     levels: u32,
     taken: u32,
     text: &'t [u8],
-) -> Result<(Vec<Syntax>, u32, &'t [u8]), Stop>
-    ensures value { Gives (λ x. (phrases x.0.items, (x.1, x.2.now))) result
+) -> Result<(Vec<Syntax<'t>>, u32, &'t [u8]), Stop>
+    ensures value { Gives (λ x. (phrases cluster.now x.0.items, (x.1, x.2.now))) result
         (row_at (expr_at cluster.now levels) (goes_on_to_child cluster.now) (length text.now) (taken, text.now)) }
-    ensures good { IfOk result (λ x. HasPart (line_up (phrases x.0.items)) × AreSpelled (length cluster.now) levels taken (line_up (phrases x.0.items)) x.1) }
+    ensures good { IfOk result (λ x. HasPart (line_up (phrases cluster.now x.0.items)) × AreSpelled (length cluster.now) levels taken (line_up (phrases cluster.now x.0.items)) x.1) }
 {
     let mut parts = Vec::new(alloc);
     let mut leaves = taken;
@@ -191,9 +191,13 @@ fn child_row<'t>(
 
 /// What the text spells as one expression, with nothing behind it.
 #[tactic(auto, unfolding(crate::specs::Grammar::whole_at))]
-pub(crate) fn whole(alloc: Global, cluster: &Cluster, text: &[u8]) -> Result<Syntax, Stop>
-    ensures value { Gives phrase result (whole_at cluster.now text.now) }
-    ensures good { IfOk result (λ p. (to : ℕ) × IsSpelled (length cluster.now) 64 0 (phrase p) to) }
+pub(crate) fn whole<'t>(
+    alloc: Global,
+    cluster: &Cluster,
+    text: &'t [u8],
+) -> Result<Syntax<'t>, Stop>
+    ensures value { Gives (phrase cluster.now) result (whole_at cluster.now text.now) }
+    ensures good { IfOk result (λ p. (to : ℕ) × IsSpelled (length cluster.now) 64 0 (phrase cluster.now p) to) }
 {
     let (made, _, rest) = expr(alloc, cluster, MAX_LEVELS, 0, text)?;
     let rest = skip_blanks(rest);

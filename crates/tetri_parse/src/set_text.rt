@@ -2,7 +2,7 @@
 ghost use Rattle.std.specs.Prelude.{◌≡◌, map, length, IfOk, IfSome};
 ghost use Rattle.tetri_parse.specs.Answers.{Gives};
 ghost use Rattle.tetri_parse.specs.Rows.{row_at};
-ghost use Rattle.tetri_parse.specs.SetText.{part_of, part_at, listed_first, and_at, set_at, IsNodeSet};
+ghost use Rattle.tetri_parse.specs.SetText.{part_of, part_at, listed_first, and_at, set_at, set_end, nodes_in, IsNodeSet};
 ghost use Rattle.tetri_parse.specs.Tokens.{name_at, goes_on_at};
 
 use crate::fault::{Fault, Miss, Stop};
@@ -108,4 +108,38 @@ pub(crate) fn set_nodes<'t>(
         fault: Fault::Ended,
         left: 0,
     }))
+}
+
+// What stands behind the set that stands first.
+fn set_end<'t>(alloc: Global, text: &'t [u8]) -> Result<&'t [u8], Stop>
+    ensures { Gives (λ rest. rest.now) result (set_end text.now) }
+{
+    let mut rest = text;
+    for _ in 0..text.len() {
+        let part = first_part(alloc, rest)?;
+        let (more, after) = and_more(part.1);
+        rest = after;
+        if !more {
+            return Ok(rest);
+        }
+    }
+    Err(Stop::Missed(Miss {
+        fault: Fault::Ended,
+        left: 0,
+    }))
+}
+
+/// The text of the set that stands first, and what stands behind it. The set is not looked up.
+pub(crate) fn set_front<'t>(
+    alloc: Global,
+    cluster: &Cluster,
+    text: &'t [u8],
+) -> Result<(&'t [u8], &'t [u8]), Stop>
+    ensures value { Gives (λ x. (nodes_in cluster.now x.0.now, x.1.now)) result (set_at cluster.now text.now) }
+    ensures good { IfOk result (λ x. IfSome (nodes_in cluster.now x.0.now) (IsNodeSet (length cluster.now))) }
+{
+    let _ = cluster;
+    let rest = set_end(alloc, text)?;
+    let (set, _) = text.split_at(text.len().saturating_sub(rest.len()));
+    Ok((set, rest))
 }

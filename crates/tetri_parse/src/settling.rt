@@ -1,17 +1,17 @@
 // The second pass: the faults of what a text spells, and the expression that it makes.
-ghost use Rattle.std.specs.Prelude.{◌≡◌, ◌<◌, ◌≤◌, length, map, take, IfSome, IfOk, OnOk, OnErr};
-ghost use Rattle.std.specs.List.Sorted.{IsStrictlyIncreasing};
+ghost use Rattle.std.specs.Prelude.{◌≡◌, ◌≤◌, length, map, nat_lt, take};
 ghost use Rattle.tetri_strl.specs.Tree.{tree, join, row};
+ghost use Rattle.tetri_strl.specs.WellMade.{PEAK};
 ghost use Rattle.tetri_parse.specs.Answers.{Gives};
-ghost use Rattle.tetri_parse.specs.Phrase.{phrase, phrases, line_up, operator};
-ghost use Rattle.tetri_parse.specs.Settling.{wanted_below, first_start_of, settled_set, settled_leaf, settled, settled_all};
+ghost use Rattle.tetri_parse.specs.Phrase.{leaf_text, phrase, phrases, line_up, operator};
+ghost use Rattle.tetri_parse.specs.Settling.{wanted_below, first_start_of, peak_of, settled_leaf, settled, settled_all};
 ghost use Rattle.tetri_parse.specs.Written.{IsWrittenLeaf, IsWritten, AreWritten};
 
 use crate::fault::{Fault, Miss, Stop};
 use crate::peak::{first_start_of, peak};
+use crate::reader::ClusterReader;
 use crate::syntax::{Join, LeafText, Syntax};
-use std::alloc::{AllocError, Global};
-use tetri_cluster::{NodeSet, Sets, SetsFault};
+use std::alloc::Global;
 use tetri_strl::{Expr, Leaf};
 
 const MAX_PEAK: u64 = 1_000_000_000_000;
@@ -30,51 +30,19 @@ fn fault_at(fault: Fault, left: usize) -> Stop
     Stop::Missed(Miss { fault, left })
 }
 
-fn copy_nodes(alloc: Global, nodes: &[u32]) -> Result<NodeSet, AllocError>
-    ensures { IfOk result (λ s. s ≡ nodes.now) }
-{
-    let mut copy = NodeSet::new(alloc);
-    for node in nodes {
-        copy.push(*node)?;
-    }
-    Ok(copy)
-}
-
-/// The number of the set with these nodes, which no text names where there are none.
-pub(crate) fn settle_set(
-    alloc: Global,
-    left: usize,
-    nodes: &Option<NodeSet>,
-    sets: &mut Sets,
-) -> Result<u32, Stop>
-    requires { IfSome nodes.now IsStrictlyIncreasing }
-    ensures value { Gives (λ n. (n, sets.new)) result (settled_set left nodes.entry.now sets.old) }
-    ensures err { OnErr result (sets.new ≡ sets.old) }
-    ensures kept { take (length sets.old) sets.new ≡ sets.old }
-    ensures number { IfOk result (λ n. n < length sets.new) }
-{
-    let Some(nodes) = nodes else {
-        return Err(fault_at(Fault::UnknownSet, left));
-    };
-    match sets.find_or_add(copy_nodes(alloc, nodes.as_slice())?) {
-        Ok(set) => Ok(set),
-        Err(SetsFault::Full) => Err(fault_at(Fault::TooManySets, left)),
-        Err(SetsFault::NoMemory) => Err(Stop::NoMemory),
-    }
-}
-
 #[tactic(auto, unfolding(crate::specs::Settling::settled_leaf))]
 fn settle_leaf(
     alloc: Global,
     terms: Terms,
     wanted: Option<u32>,
-    leaf: &LeafText,
-    sets: &mut Sets,
+    leaf: &LeafText<'_>,
+    reader: &mut ClusterReader,
 ) -> Result<Leaf, Stop>
     requires terms { (terms.unit ≤ 1000000) × (terms.arrival ≤ 10000) }
-    requires written { IsWrittenLeaf leaf.now }
-    ensures value { Gives (λ l. (l, sets.new)) result (settled_leaf terms.unit terms.arrival wanted leaf.entry.now sets.old) }
-    ensures kept { take (length sets.old) sets.new ≡ sets.old }
+    requires written { IsWrittenLeaf (leaf_text reader.old.nodes leaf.now) }
+    ensures value { Gives (λ l. (l, reader.new.sets)) result (settled_leaf terms.unit terms.arrival wanted (leaf_text reader.old.nodes leaf.entry.now) reader.old.sets) }
+    ensures nodes { reader.new.nodes ≡ reader.old.nodes }
+    ensures kept { take (length reader.old.sets) reader.new.sets ≡ reader.old.sets }
 {
     if let Some(start) = wanted {
         if start != leaf.start {
@@ -85,7 +53,7 @@ fn settle_leaf(
     if v > MAX_PEAK {
         return Err(fault_at(Fault::TooRich, leaf.left));
     }
-    let set = settle_set(alloc, leaf.set_left, &leaf.nodes, sets)?;
+    let set = reader.set_named(alloc, leaf.set_left, leaf.set)?;
     if leaf.linear && v % u64::from(leaf.k) != 0 {
         return Err(fault_at(Fault::Uneven, leaf.value_left));
     }
@@ -100,14 +68,35 @@ fn settle_leaf(
     })
 }
 
+// Whether what is spelled may be worth too much, whatever nodes the reader has.
+fn is_rich(reader: &ClusterReader, unit: u64, syntax: &Syntax<'_>) -> bool
+    ensures { result ≡ nat_lt PEAK (peak_of unit (phrase reader.now.nodes syntax.now)) }
+{
+    let _ = reader;
+    peak(unit, syntax) > MAX_PEAK
+}
+
+// The written start of the first leaf below these parts, whatever nodes the reader has.
+fn first_start_below(reader: &ClusterReader, parts: &[Syntax<'_>]) -> u32
+    ensures { result ≡ first_start_of (line_up (phrases reader.now.nodes parts.now)) }
+{
+    let _ = reader;
+    first_start_of(parts)
+}
+
 // The start that the leaves below a join must have.
-fn wanted_below(kind: Join, wanted: Option<u32>, parts: &[Syntax]) -> Option<u32>
-    ensures { result ≡ wanted_below (operator kind) wanted (first_start_of (line_up (phrases parts.now))) }
+fn wanted_below(
+    reader: &ClusterReader,
+    kind: Join,
+    wanted: Option<u32>,
+    parts: &[Syntax<'_>],
+) -> Option<u32>
+    ensures { result ≡ wanted_below (operator kind) wanted (first_start_of (line_up (phrases reader.now.nodes parts.now))) }
 {
     match (kind, wanted) {
         (Join::Max, _) => wanted,
         (_, Some(start)) => Some(start),
-        (_, None) => Some(first_start_of(parts)),
+        (_, None) => Some(first_start_below(reader, parts)),
     }
 }
 
@@ -127,35 +116,36 @@ pub(crate) fn settle(
     alloc: Global,
     terms: Terms,
     wanted: Option<u32>,
-    syntax: &Syntax,
-    sets: &mut Sets,
+    syntax: &Syntax<'_>,
+    reader: &mut ClusterReader,
 ) -> Result<Expr, Stop>
     requires terms { (terms.unit ≤ 1000000) × (terms.arrival ≤ 10000) }
-    requires written { IsWritten (phrase syntax.now) }
-    ensures value { Gives (λ e. (tree e, sets.new)) result (settled terms.unit terms.arrival wanted (phrase syntax.entry.now) sets.old) }
-    ensures kept { take (length sets.old) sets.new ≡ sets.old }
+    requires written { IsWritten (phrase reader.old.nodes syntax.now) }
+    ensures value { Gives (λ e. (tree e, reader.new.sets)) result (settled terms.unit terms.arrival wanted (phrase reader.old.nodes syntax.entry.now) reader.old.sets) }
+    ensures nodes { reader.new.nodes ≡ reader.old.nodes }
+    ensures kept { take (length reader.old.sets) reader.new.sets ≡ reader.old.sets }
 {
     match syntax {
-        Syntax::Leaf(leaf) => Ok(Expr::One(settle_leaf(alloc, terms, wanted, leaf, sets)?)),
+        Syntax::Leaf(leaf) => Ok(Expr::One(settle_leaf(alloc, terms, wanted, leaf, reader)?)),
         Syntax::Join(kind, left, parts) => {
-            if peak(terms.unit, syntax) > MAX_PEAK {
+            if is_rich(reader, terms.unit, syntax) {
                 return Err(fault_at(Fault::TooRich, *left));
             }
-            let wanted = wanted_below(*kind, wanted, parts);
-            Ok(joined(*kind, settle_parts(alloc, terms, wanted, parts, sets)?))
+            let wanted = wanted_below(reader, *kind, wanted, parts);
+            Ok(joined(*kind, settle_parts(alloc, terms, wanted, parts, reader)?))
         }
         Syntax::Scale(left, part, by) => {
-            if peak(terms.unit, syntax) > MAX_PEAK {
+            if is_rich(reader, terms.unit, syntax) {
                 return Err(fault_at(Fault::TooRich, *left));
             }
-            let part = settle(alloc, terms, wanted, part, sets)?;
+            let part = settle(alloc, terms, wanted, part, reader)?;
             Ok(Expr::Scale(Box::new(alloc, part)?, *by))
         }
         Syntax::Barrier(left, part, least) => {
-            if peak(terms.unit, syntax) > MAX_PEAK {
+            if is_rich(reader, terms.unit, syntax) {
                 return Err(fault_at(Fault::TooRich, *left));
             }
-            let part = settle(alloc, terms, wanted, part, sets)?;
+            let part = settle(alloc, terms, wanted, part, reader)?;
             Ok(Expr::Barrier(Box::new(alloc, part)?, *least * terms.unit))
         }
     }
@@ -166,17 +156,18 @@ fn settle_parts(
     alloc: Global,
     terms: Terms,
     wanted: Option<u32>,
-    parts: &[Syntax],
-    sets: &mut Sets,
+    parts: &[Syntax<'_>],
+    reader: &mut ClusterReader,
 ) -> Result<Vec<Expr>, Stop>
     requires terms { (terms.unit ≤ 1000000) × (terms.arrival ≤ 10000) }
-    requires written { AreWritten (line_up (phrases parts.now)) }
-    ensures value { Gives (λ es. (map tree es.items, sets.new)) result (settled_all terms.unit terms.arrival wanted (line_up (phrases parts.entry.now)) sets.old) }
-    ensures kept { take (length sets.old) sets.new ≡ sets.old }
+    requires written { AreWritten (line_up (phrases reader.old.nodes parts.now)) }
+    ensures value { Gives (λ es. (map tree es.items, reader.new.sets)) result (settled_all terms.unit terms.arrival wanted (line_up (phrases reader.old.nodes parts.entry.now)) reader.old.sets) }
+    ensures nodes { reader.new.nodes ≡ reader.old.nodes }
+    ensures kept { take (length reader.old.sets) reader.new.sets ≡ reader.old.sets }
 {
     let mut made = Vec::new(alloc);
     for part in parts {
-        made.push(settle(alloc, terms, wanted, part, sets)?)?;
+        made.push(settle(alloc, terms, wanted, part, reader)?)?;
     }
     Ok(made)
 }

@@ -1,5 +1,4 @@
 // An expression as its text says it.
-use tetri_cluster::NodeSet;
 
 /// Which of its parts make up the worth of a join.
 #[derive(Clone, Copy, Debug, PartialEq, Eq)]
@@ -11,11 +10,11 @@ pub(crate) enum Join {
 
 /// A leaf as written, and how many bytes of the text were left at its word, its set and its value.
 #[derive(Drop)]
-pub(crate) struct LeafText {
+pub(crate) struct LeafText<'t> {
     pub num: u32,
     pub linear: bool,
-    /// The nodes of its set, none where it names what the cluster has not.
-    pub nodes: Option<NodeSet>,
+    /// The text of its set.
+    pub set: &'t [u8],
     pub k: u32,
     pub start: u32,
     pub dur: u32,
@@ -27,9 +26,9 @@ pub(crate) struct LeafText {
 
 /// An expression, and how many bytes of the text were left at each word.
 #[derive(Drop)]
-pub(crate) enum Syntax {
-    Leaf(LeafText),
-    Join(Join, usize, Vec<Syntax>),
-    Scale(usize, Box<Syntax>, u64),
-    Barrier(usize, Box<Syntax>, u64),
+pub(crate) enum Syntax<'t> {
+    Leaf(LeafText<'t>),
+    Join(Join, usize, Vec<Syntax<'t>>),
+    Scale(usize, Box<Syntax<'t>>, u64),
+    Barrier(usize, Box<Syntax<'t>>, u64),
 }

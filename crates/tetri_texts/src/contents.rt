@@ -1,7 +1,7 @@
 // Lines, parts and numbers of contents, and bytes that are sent.
 use std::alloc::{AllocError, Global};
 use tetri_io::{
-    Line, LineFault, MemShelf, MemSink, number_below, parts_at, read_line_at, send_all,
+    Line, LineFault, MemShelf, MemSink, halves_at, number_below, parts_at, read_line_at, send_all,
 };
 use tetri_tables::{Tally, expand, halves};
 
@@ -81,6 +81,23 @@ pub fn parts(alloc: Global, tally: &mut Tally, body: &str) -> Result<(), AllocEr
         for part in parts_at(alloc, b',', text.as_bytes())? {
             write!(found, "{}|", str::from_utf8(part).unwrap_or("not text"))?;
         }
+        tally.expect(row, found.as_str(), wanted)?;
+    }
+    Ok(())
+}
+
+/// Rows `TEXT => BEFORE|BEHIND`: what stands before and behind the first colon of a text, or `none`.
+pub fn split_texts(alloc: Global, tally: &mut Tally, body: &str) -> Result<(), AllocError> {
+    for row in body.lines() {
+        let (text, wanted) = halves(row);
+        let found = match halves_at(b':', text.as_bytes()) {
+            Some((before, behind)) => format!(in alloc;
+                "{}|{}",
+                str::from_utf8(before).unwrap_or("not text"),
+                str::from_utf8(behind).unwrap_or("not text")
+            )?,
+            None => String::from_str(alloc, "none")?,
+        };
         tally.expect(row, found.as_str(), wanted)?;
     }
     Ok(())

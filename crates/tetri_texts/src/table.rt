@@ -28,6 +28,7 @@ fn judge_section(
         "read lines" => contents::read_lines(alloc, tally, body),
         "sent bytes" => contents::sent_bytes(alloc, tally, body),
         "parts" => contents::parts(alloc, tally, body),
+        "split texts" => contents::split_texts(alloc, tally, body),
         "numbers" => contents::numbers(alloc, tally, more, body),
         _ => tally.expect("a section", kind, "a known kind"),
     }

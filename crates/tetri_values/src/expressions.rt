@@ -3,8 +3,7 @@ ghost use Rattle.tetri_strl.specs.Tree.{tree};
 ghost use Rattle.tetri_strl.specs.WellMade.{IsWellMade};
 
 use std::alloc::{AllocError, Global};
-use tetri_cluster::Sets;
-use tetri_parse::read_expr;
+use tetri_parse::ClusterReader;
 use tetri_strl::{
     Expr, aligned, copy_expr, copy_grants, idle_leaves, prune, thrifty_grants_start_together,
     top_in, trim, waste, waste_among, worth, worth_among,
@@ -110,9 +109,9 @@ pub fn expression(
     let Ok(trace) = answer(alloc, trace.as_bytes())? else {
         return tally.expect("a trace", "refused", "read");
     };
-    let mut sets = Sets::new(alloc);
+    let mut reader = ClusterReader::new(alloc, trace.cluster);
     let text = expand(alloc, text)?;
-    match read_expr(alloc, &text, 1, 0, &trace.cluster, &mut sets) {
+    match reader.read_expr(alloc, &text, 1, 0) {
         Ok(e) => expect_rows(alloc, tally, &e, body),
         Err(_) => tally.expect("an expression", "refused", "read"),
     }

@@ -8,10 +8,7 @@ use tetri_tables::Tally;
 fn pair(alloc: Global, first: u32, second: u32) -> Result<NodeSet, AllocError>
     ensures { IfOk result (λ set. set ≡ first ∷ second ∷ []) }
 {
-    let mut set = NodeSet::new(alloc);
-    set.push(first)?;
-    set.push(second)?;
-    Ok(set)
+    NodeSet::of_slice(alloc, &[first, second])
 }
 
 // What a set of two nodes answers.

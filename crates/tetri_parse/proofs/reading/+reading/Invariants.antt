@@ -23,6 +23,6 @@ decreases-child_row l = 4 * l.levels + 1
 
 abbrev pub invariant-child_row-loop : goal.invariant-child_row-loop
 invariant-child_row-loop l = record {
-  so_far : gathered put_last (phrases l.parts.items) (row_at (expr_at l.cluster l.levels) (goes_on_to_child l.cluster) (length l.text - l.counter) (l.leaves, l.rest)) ≡ row_at (expr_at l.cluster l.levels) (goes_on_to_child l.cluster) (length l.text) (l.taken, l.text);
-  good : AreSpelled (length l.cluster) l.levels l.taken (line_up (phrases l.parts.items)) l.leaves;
+  so_far : gathered put_last (phrases l.cluster l.parts.items) (row_at (expr_at l.cluster l.levels) (goes_on_to_child l.cluster) (length l.text - l.counter) (l.leaves, l.rest)) ≡ row_at (expr_at l.cluster l.levels) (goes_on_to_child l.cluster) (length l.text) (l.taken, l.text);
+  good : AreSpelled (length l.cluster) l.levels l.taken (line_up (phrases l.cluster l.parts.items)) l.leaves;
 }

@@ -9,8 +9,9 @@ use Rattle.tetri_parse.proofs.settling.+settling.Given as goal
 abbrev pub invariant-settle_parts-loop-part : goal.invariant-settle_parts-loop-part
 invariant-settle_parts-loop-part l = record {
   so_far :
-      (settled_all l.terms.unit l.terms.arrival l.wanted (line_up (phrases (drop l.part-index l.parts))) l.sets >>= λ x. Ok (map tree l.made.items ++ x.0, x.1))
-      ≡ settled_all l.terms.unit l.terms.arrival l.wanted (line_up (phrases l.parts)) l.initial.sets;
-  written : AreWritten (line_up (phrases (drop l.part-index l.parts)));
-  kept : take (length l.initial.sets) l.sets ≡ l.initial.sets;
+      (settled_all l.terms.unit l.terms.arrival l.wanted (line_up (phrases l.initial.reader.nodes (drop l.part-index l.parts))) l.reader.sets >>= λ x. Ok (map tree l.made.items ++ x.0, x.1))
+      ≡ settled_all l.terms.unit l.terms.arrival l.wanted (line_up (phrases l.initial.reader.nodes l.parts)) l.initial.reader.sets;
+  written : AreWritten (line_up (phrases l.initial.reader.nodes (drop l.part-index l.parts)));
+  nodes : l.reader.nodes ≡ l.initial.reader.nodes;
+  kept : take (length l.initial.reader.sets) l.reader.sets ≡ l.initial.reader.sets;
 }
