@@ -15,7 +15,7 @@ use Rattle.tetri_cluster.specs.Sets.{AreSets}
 use Rattle.tetri_space.specs.Closed.{IsSoundClosure}
 use Rattle.tetri_space.specs.declared.closure.Closure.{Closure}
 use Rattle.tetri_trace.specs.declared.trace.Event.{Event}
-use Rattle.tetri_trace.specs.declared.trace.Header.{Header}
+use Rattle.tetri_notice.specs.declared.header.Header.{Header}
 use Rattle.tetri_trace.specs.Scenario.{Scenario, Submission, job_names}
 use Rattle.tetri_trace.specs.Sound.{IsSound, IsSoundSubmission, arrival_at}
 use Rattle.tetri_trace.proofs.SoundLaws.{header_sound, with_job_sound, with_sets_sound}

@@ -9,7 +9,7 @@ use Rattle.tetri_request.specs.Options.{IsSetOf, IsSoundPrefer}
 use Rattle.tetri_strl.specs.Aligned.{EachLeaf, EachLeafOf}
 use Rattle.tetri_strl.specs.Tree.{Tree, one, join, scale, barrier, Trees, none, more, leaves, leaves_of}
 use Rattle.tetri_strl.specs.declared.expr.Leaf.{Leaf}
-use Rattle.tetri_trace.specs.Asks.{AskText, IsSoundAskText, ask_with}
+use Rattle.tetri_notice.specs.Asks.{AskText, IsSoundAskText, ask_with}
 use Rattle.tetri_trace.specs.Sound.{IsAskOver, IsExpressionOver}
 
 mutual

@@ -1,7 +1,7 @@
-pub mod Options
-pub mod ObjectLemmas
 pub mod JobNames
 pub mod Later
 pub mod SoundLaws
+pub mod NamedLaws
 pub mod Demands
 pub mod Ends
+pub mod Beginnings

@@ -15,8 +15,9 @@ use Rattle.tetri_space.specs.declared.closure.Closure.{Closure}
 use Rattle.tetri_trace.specs.Draft.{with_sets, BringsNone, IsNextSlot}
 use Rattle.tetri_trace.specs.Lines.{with_event, with_job}
 use Rattle.tetri_trace.specs.Scenario.{Demand, strl, asks, Scenario, Submission, job_names, nothing_submitted, submission_of, without_events}
-use Rattle.tetri_trace.specs.Sound.{IsSound, IsSoundHeader, IsSoundDemand, IsSoundSubmission, NamesKnown, ArrivesOnTime, BringsNew, arrival_at}
-use Rattle.tetri_trace.specs.declared.trace.Header.{Header}
+use Rattle.tetri_notice.specs.Headers.{IsSoundHeader}
+use Rattle.tetri_trace.specs.Sound.{IsSound, IsSoundDemand, IsSoundSubmission, NamesKnown, ArrivesOnTime, BringsNew, arrival_at}
+use Rattle.tetri_notice.specs.declared.header.Header.{Header}
 use Rattle.tetri_trace.specs.declared.trace.Event.{Event}
 use Rattle.tetri_trace.specs.declared.trace.Happening.{Happening}
 use Rattle.tetri_trace.specs.declared.trace.Happening.TheVariants.{Arrive, Cancel, Drain, Undrain, Fail}

@@ -1,12 +1,12 @@
--- What the steps of reading answer.
+-- What the reading of a trace answers.
 use Rattle.std.specs.Prelude.{ℕ, ◌≡◌, Result, Ok, Err}
 use Rattle.tetri_parse.specs.declared.fault.Fault.{Fault}
-use Rattle.tetri_trace.specs.declared.fault.TraceWhy.{TraceWhy}
-use Rattle.tetri_trace.specs.declared.fault.TraceWhy.TheVariants.{BadStrl}
-use Rattle.tetri_trace.specs.declared.fault.Stop.{Stop}
-use Rattle.tetri_trace.specs.declared.fault.Stop.TheVariants as stops
-use Rattle.tetri_trace.specs.declared.fault.TraceFault.{TraceFault}
-use Rattle.tetri_trace.specs.declared.fault.TraceFault.TheVariants as faults
+use Rattle.tetri_notice.specs.declared.fault.TraceWhy.{TraceWhy}
+use Rattle.tetri_notice.specs.declared.fault.TraceWhy.TheVariants.{BadStrl}
+use Rattle.tetri_notice.specs.declared.fault.Stop.{Stop}
+use Rattle.tetri_notice.specs.declared.fault.Stop.TheVariants as stops
+use Rattle.tetri_notice.specs.declared.fault.TraceFault.{TraceFault}
+use Rattle.tetri_notice.specs.declared.fault.TraceFault.TheVariants as faults
 use Rattle.tetri_trace.specs.declared.trace.Trace.{Trace}
 use Rattle.tetri_trace.specs.Scenario.{Scenario, scenario}
 
@@ -20,17 +20,7 @@ abbrev pub at_line : {A : Type 0} → ℕ → Result A TraceWhy → Result A (�
 at_line line (Ok x) = Ok x
 at_line line (Err why) = Err (line, why)
 
--- What a step stopped for is what reading gives, unless memory ran out.
-abbrev pub Stops : {Y : Type 0} → Stop → Result Y TraceWhy → Type 0
-Stops (stops.Because why) reading = reading ≡ Err why
-Stops stops.NoMemory reading = Unit {0}
-
--- What a step returned, seen by view, is what reading gives, unless memory ran out.
-abbrev pub Gives : {X Y : Type 0} → (X → Y) → Result X Stop → Result Y TraceWhy → Type 0
-Gives view (Ok x) reading = reading ≡ Ok (view x)
-Gives view (Err e) reading = Stops e reading
-
--- the same of what has the number of a line, unless a read failed
+-- What reading stopped for at a line is what the lines give, unless memory ran out or a read failed.
 abbrev pub Fails : {Y : Type 0} → TraceFault → Result Y (ℕ × TraceWhy) → Type 0
 Fails faults.Read reading = Unit {0}
 Fails (faults.Bad line why) reading = reading ≡ Err (line, why)

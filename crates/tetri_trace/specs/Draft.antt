@@ -10,8 +10,8 @@ use Rattle.tetri_trace.specs.Sound.{IsSound}
 abbrev pub so_far : Draft → Scenario
 so_far d = record {
   header = d.header;
-  nodes = d.cluster;
-  sets = d.sets;
+  nodes = d.reader.nodes;
+  sets = d.reader.sets;
   closures = d.closures;
   submissions = map submission d.jobs;
   events = d.events.items;

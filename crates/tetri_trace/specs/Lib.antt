@@ -1,11 +1,8 @@
 pub mod Scenario
 pub mod Sound
 pub mod Answers
-pub mod Fields
 pub mod Closures
-pub mod Asks
-pub mod Objects
-pub mod Notices
 pub mod Lines
+pub mod Named
 pub mod Draft
-pub mod Words
+pub mod Reading

@@ -1,22 +1,24 @@
 -- The trace that the bytes of a content are, one step a line.
-use Rattle.std.specs.Prelude.{ℕ, ◌+◌, ℤ, ◌==◌, ◌||◌, List, [], ◌∷◌, ◌++◌, length, Bool, nat_lt, if◌then◌else◌, Option, Some, None, ok_or, Result, Ok, Err}
+use Rattle.std.specs.Prelude.{ℕ, ◌+◌, ℤ, ◌==◌, ◌||◌, List, [], ◌∷◌, ◌++◌, length, Bool, nat_lt, is_none, if◌then◌else◌, Option, Some, None, ok_or, Result, Ok, Err}
 use Rattle.std.specs.List.{list_all, list_any}
 use Rattle.serde_json.specs.Data.{Data}
 use Rattle.tetri_io.specs.Lines.{lines_from}
-use Rattle.tetri_cluster.specs.Names.{is_among, number_of}
+use Rattle.tetri_cluster.specs.Names.{first_repeated, is_among, number_of}
 use Rattle.tetri_cluster.specs.Cluster.{names_of}
 use Rattle.tetri_cluster.specs.declared.cluster.NodeText.{NodeText}
 use Rattle.tetri_parse.specs.Expression.{expression, node_set}
 use Rattle.tetri_request.specs.declared.ask.Ask.{Ask}
 use Rattle.tetri_request.specs.declared.ask.Prefer.{Prefer}
-use Rattle.tetri_trace.specs.Answers.{at_line, in_text}
 use Rattle.tetri_base.specs.ResultSteps.{◌>>=◌}
-use Rattle.tetri_trace.specs.Asks.{AskText, PreferText, ask_with, prefer_with}
-use Rattle.tetri_trace.specs.Fields.{object_in}
-use Rattle.tetri_trace.specs.Objects.{DemandText, written, asked, Notice, arrives, cancels, drains, undrains, fails, event_in, header_in}
-use Rattle.tetri_trace.specs.Scenario.{Demand, strl, asks, Scenario, Submission, job_names}
-use Rattle.tetri_trace.specs.declared.fault.TraceWhy.{TraceWhy}
-use Rattle.tetri_trace.specs.declared.fault.TraceWhy.TheVariants.{LineTooLong, TraceTooLong, NoHeader, OutOfOrder, PastEnd, NameTaken, NoSuchJob, NoSuchNode, TooManyJobs}
+use Rattle.tetri_notice.specs.Asks.{AskText, PreferText, ask_with, prefer_with}
+use Rattle.tetri_notice.specs.Fields.{object_in}
+use Rattle.tetri_notice.specs.Headers.{HeaderText, header_in}
+use Rattle.tetri_notice.specs.Objects.{DemandText, written, asked, Notice, arrives, cancels, drains, undrains, fails, event_in}
+use Rattle.tetri_trace.specs.Answers.{at_line, in_text}
+use Rattle.tetri_trace.specs.Closures.{closures_at}
+use Rattle.tetri_trace.specs.Scenario.{Demand, strl, asks, Scenario, Submission, job_names, without_events}
+use Rattle.tetri_notice.specs.declared.fault.TraceWhy.{TraceWhy}
+use Rattle.tetri_notice.specs.declared.fault.TraceWhy.TheVariants.{LineTooLong, TraceTooLong, NoHeader, OutOfOrder, PastEnd, NameTaken, NoSuchJob, NoSuchNode, TooManyJobs}
 use Rattle.tetri_trace.specs.declared.trace.Happening.{Happening}
 use Rattle.tetri_trace.specs.declared.trace.Happening.TheVariants.{Arrive, Cancel, Drain, Undrain, Fail}
 
@@ -81,9 +83,20 @@ add_event s d = do
   at ← next_slot s said.0
   happened s at said.1
 
+-- nodes whose names differ
+abbrev pub named_apart : List NodeText → Result (List NodeText) TraceWhy
+named_apart nodes = if is_none (first_repeated (names_of nodes)) then Ok nodes else Err NameTaken
+
+-- the trace that a header begins
+unfoldable pub begun : HeaderText → Result Scenario TraceWhy
+begun h = do
+  nodes ← named_apart h.nodes
+  closures ← ok_or (closures_at (names_of nodes) h.closures) NoSuchNode
+  Ok (without_events h.header nodes closures)
+
 -- The first object is the header, and each later one an event.
 abbrev pub add_object : Option Scenario → Data → Result (Option Scenario) TraceWhy
-add_object None d = header_in d >>= λ s. Ok (Some s)
+add_object None d = header_in d >>= λ h. begun h >>= λ s. Ok (Some s)
 add_object (Some s) d = add_event s d >>= λ t. Ok (Some t)
 
 -- a line, with the offset behind it and its line feed, after those that made this trace

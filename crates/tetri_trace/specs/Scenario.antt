@@ -4,7 +4,7 @@ use Rattle.tetri_strl.specs.Tree.{Tree, added, join, none, tree}
 use Rattle.tetri_request.specs.declared.ask.Ask.{Ask}
 use Rattle.tetri_cluster.specs.declared.cluster.NodeText.{NodeText}
 use Rattle.tetri_space.specs.declared.closure.Closure.{Closure}
-use Rattle.tetri_trace.specs.declared.trace.Header.{Header}
+use Rattle.tetri_notice.specs.declared.header.Header.{Header}
 use Rattle.tetri_trace.specs.declared.trace.Work.{Work}
 use Rattle.tetri_trace.specs.declared.trace.Work.TheVariants.{Strl, Asked}
 use Rattle.tetri_trace.specs.declared.trace.Job.{Job}

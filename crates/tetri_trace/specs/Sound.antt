@@ -8,21 +8,11 @@ use Rattle.tetri_cluster.specs.Names.{is_name, differ}
 use Rattle.tetri_cluster.specs.Cluster.{names_of}
 use Rattle.tetri_cluster.specs.Sets.{AreSets}
 use Rattle.tetri_space.specs.Closed.{AreSoundClosures}
-use Rattle.tetri_trace.specs.declared.trace.Header.{Header}
+use Rattle.tetri_notice.specs.Headers.{IsSoundHeader}
 use Rattle.tetri_trace.specs.declared.trace.Event.{Event}
 use Rattle.tetri_trace.specs.declared.trace.Happening.{Happening}
 use Rattle.tetri_trace.specs.declared.trace.Happening.TheVariants.{Arrive, Cancel, Drain, Undrain, Fail}
 use Rattle.tetri_trace.specs.Scenario.{Demand, strl, asks, Submission, Scenario, job_names, submission_of}
-
-pub record IsSoundHeader (h : Header) : Type 0 where
-  pub some_slots : 1 ≤ h.window
-  pub few_slots : h.window ≤ 64
-  pub some_budget : 1 ≤ h.budget
-  pub small_budget : h.budget ≤ 10000
-  pub some_cycles : 1 ≤ h.until
-  pub few_cycles : h.until ≤ 10000
-  pub some_unit : 1 ≤ h.unit
-  pub small_unit : h.unit ≤ 1000000
 
 -- a well-made expression over the first so many sets, which starts within 10,000 slots of the arrival
 pub record IsExpressionOver (sets arrival : ℕ) (t : Tree) : Type 0 where

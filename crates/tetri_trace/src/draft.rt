@@ -4,20 +4,19 @@ ghost use Rattle.tetri_trace.specs.Draft.{so_far, IsSoundDraft};
 ghost use Rattle.tetri_trace.specs.Scenario.{scenario};
 ghost use Rattle.tetri_trace.specs.Sound.{IsSound};
 
-use crate::fault::Stop;
 use crate::jobs::Jobs;
-use crate::trace::{Event, Header, Trace};
+use crate::trace::{Event, Trace};
 use std::alloc::Global;
 use std::rc::Rc;
-use tetri_cluster::{Cluster, Sets};
+use tetri_notice::{Header, Stop};
+use tetri_parse::ClusterReader;
 use tetri_space::Closures;
 
 /// The trace that is read so far.
 #[derive(Drop)]
 pub(crate) struct Draft {
     pub(crate) header: Header,
-    pub(crate) cluster: Cluster,
-    pub(crate) sets: Sets,
+    pub(crate) reader: ClusterReader,
     pub(crate) closures: Closures,
     pub(crate) jobs: Jobs,
     pub(crate) events: Vec<Event>,
@@ -30,10 +29,11 @@ pub(crate) fn finished(alloc: Global, draft: Draft) -> Result<Trace, Stop>
     ensures sound { IfOk result (λ t. IsSound (scenario t)) }
     ensures memory { IsOkUnless result Stop.NoMemory }
 {
+    let (cluster, sets) = draft.reader.into_parts();
     Ok(Trace {
         header: draft.header,
-        cluster: draft.cluster,
-        sets: Rc::new(alloc, draft.sets)?,
+        cluster,
+        sets: Rc::new(alloc, sets)?,
         closures: Rc::new(alloc, draft.closures)?,
         jobs: draft.jobs,
         events: draft.events,

@@ -1,32 +1,22 @@
 // What an event does to the trace that is read so far.
-ghost use Rattle.std.specs.Prelude.{◌≡◌, ◌<◌, ◌≤◌, ◌≤ℤ◌, pos, negsuc, true, false, nat_lt, AllPairs, length, IfOk, IfSome, OnOk, IsOkUnless, ok_or, option_map};
+ghost use Rattle.std.specs.Prelude.{◌≡◌, ◌<◌, ◌≤◌, ◌≤ℤ◌, pos, negsuc, true, false, nat_lt, AllPairs, length, IfOk, OnOk, IsOkUnless, ok_or};
 ghost use Rattle.std.specs.List.{list_any};
 ghost use Rattle.tetri_cluster.specs.Cluster.{names_of};
 ghost use Rattle.tetri_cluster.specs.Names.{is_among, is_name, number_of};
-ghost use Rattle.tetri_parse.specs.Expression.{expression, node_set};
-ghost use Rattle.tetri_parse.specs.TextTree.{IsTextTree};
-ghost use Rattle.tetri_request.specs.Options.{IsSoundPrefer};
-ghost use Rattle.tetri_strl.specs.Tree.{tree};
-ghost use Rattle.tetri_trace.specs.Answers.{Gives, in_text};
-ghost use Rattle.tetri_trace.specs.Asks.{ask_text, prefer_text, IsSoundAskText, IsSoundPreference};
+ghost use Rattle.tetri_notice.specs.Answers.{Gives};
 ghost use Rattle.tetri_trace.specs.Draft.{so_far, with_sets, BringsNone, IsNextSlot, IsSoundDraft};
-ghost use Rattle.tetri_trace.specs.Lines.{admitted, arrived, ask_of, demand_at, happened, next_slot, prefer_of, with_event};
-ghost use Rattle.tetri_trace.specs.Notices.{IsGoodDemand, IsGoodNotice};
-ghost use Rattle.tetri_trace.specs.Objects.{demand_text, notice};
+ghost use Rattle.tetri_trace.specs.Lines.{admitted, arrived, demand_at, happened, next_slot, with_event};
+ghost use Rattle.tetri_notice.specs.Notices.{IsGoodDemand, IsGoodNotice};
+ghost use Rattle.tetri_notice.specs.Objects.{demand_text, notice};
 ghost use Rattle.tetri_trace.specs.Scenario.{demand_of, job_names, submission};
-ghost use Rattle.tetri_trace.specs.Sound.{IsAskOver, IsSoundDemand, IsSoundSubmission, NamesKnown};
-ghost use Rattle.tetri_trace.specs.declared.fault.TraceWhy.TheVariants as whys;
+ghost use Rattle.tetri_trace.specs.Sound.{IsSoundDemand, IsSoundSubmission, NamesKnown};
+ghost use Rattle.tetri_notice.specs.declared.fault.TraceWhy.TheVariants as whys;
 
-use crate::asks::{AskText, PreferText};
+use crate::asked::{ask_of, expr_of};
 use crate::draft::Draft;
-use crate::event::{Notice, WorkText};
-use crate::fault::{Stop, TraceWhy};
-use crate::field::read_name;
 use crate::trace::{Event, Happening, Job, Work};
 use std::alloc::Global;
-use tetri_parse::{ParseFault, read_expr, read_set};
-use tetri_request::{Ask, Prefer};
-use tetri_strl::Expr;
+use tetri_notice::{Notice, Stop, TraceWhy, WorkText, read_name};
 
 const JOBS_MOST: usize = 100_000;
 
@@ -91,124 +81,26 @@ fn with_job(draft: &mut Draft, job: Job) -> Result<(), Stop>
     Ok(())
 }
 
-// The expression of a job that arrives at this slot. The sets that it names come to the trace.
-fn with_text(alloc: Global, draft: &mut Draft, at: u32, text: &str) -> Result<Expr, Stop>
-    requires sound { IsSoundDraft draft.old }
-    requires slot { at < draft.old.header.until }
-    ensures value { Gives (λ e. (tree e, draft.new.sets)) result
-        (in_text (expression text.now draft.old.header.unit at draft.old.cluster draft.old.sets)) }
-    ensures same { so_far draft.new ≡ with_sets (so_far draft.old) draft.new.sets }
-    ensures sound { OnOk result (IsSoundDraft draft.new) }
-    ensures good { IfOk result (λ e. IsTextTree at (length draft.new.sets) (tree e)) }
-{
-    match read_expr(
-        alloc,
-        text.as_bytes(),
-        draft.header.unit,
-        at,
-        &draft.cluster,
-        &mut draft.sets,
-    ) {
-        Ok(expr) => {
-            let _ = draft.sets.len();
-            Ok(expr)
-        }
-        Err(ParseFault::At { offset, fault }) => {
-            Err(Stop::Because(TraceWhy::BadStrl { offset, fault }))
-        }
-        Err(ParseFault::NoMemory) => Err(Stop::NoMemory),
-    }
-}
-
-// The number of a set that an ask names, which comes to the trace.
-fn with_set(alloc: Global, draft: &mut Draft, text: &str) -> Result<u32, Stop>
-    requires { IsSoundDraft draft.old }
-    ensures value { Gives (λ n. (n, draft.new.sets)) result (in_text (node_set text.now draft.old.cluster draft.old.sets)) }
-    ensures same { so_far draft.new ≡ with_sets (so_far draft.old) draft.new.sets }
-    ensures sound { IsSoundDraft draft.new }
-    ensures more { length draft.old.sets ≤ length draft.new.sets }
-    ensures known { IfOk result (λ n. n < length draft.new.sets) }
-{
-    match read_set(alloc, text.as_bytes(), &draft.cluster, &mut draft.sets) {
-        Ok(set) => {
-            let _ = draft.sets.len();
-            Ok(set)
-        }
-        Err(ParseFault::At { offset, fault }) => {
-            Err(Stop::Because(TraceWhy::BadStrl { offset, fault }))
-        }
-        Err(ParseFault::NoMemory) => Err(Stop::NoMemory),
-    }
-}
-
-// The place that an ask prefers.
-fn with_prefer(
-    alloc: Global,
-    draft: &mut Draft,
-    prefer: Option<PreferText>,
-) -> Result<Option<Prefer>, Stop>
-    requires sound { IsSoundDraft draft.old }
-    requires limits { IsSoundPreference (option_map prefer_text prefer) }
-    ensures value { Gives (λ p. (p, draft.new.sets)) result (prefer_of draft.old.cluster (option_map prefer_text prefer.entry) draft.old.sets) }
-    ensures same { so_far draft.new ≡ with_sets (so_far draft.old) draft.new.sets }
-    ensures sound { IsSoundDraft draft.new }
-    ensures more { length draft.old.sets ≤ length draft.new.sets }
-    ensures known { IfOk result (λ o. IfSome o (λ p. p.set < length draft.new.sets)) }
-    ensures limits { IfOk result (λ o. IfSome o IsSoundPrefer) }
-{
-    match prefer {
-        Some(prefer) => {
-            let set = with_set(alloc, draft, prefer.set)?;
-            Ok(Some(Prefer {
-                set,
-                dur: prefer.dur,
-            }))
-        }
-        None => Ok(None),
-    }
-}
-
-// An ask, whose sets come to the trace.
-#[tactic(auto, unfolding(crate::specs::Lines::ask_of))]
-fn with_ask(alloc: Global, draft: &mut Draft, ask: AskText) -> Result<Ask, Stop>
-    requires sound { IsSoundDraft draft.old }
-    requires limits { IsSoundAskText (ask_text ask) }
-    ensures value { Gives (λ a. (a, draft.new.sets)) result (ask_of draft.old.cluster (ask_text ask.entry) draft.old.sets) }
-    ensures same { so_far draft.new ≡ with_sets (so_far draft.old) draft.new.sets }
-    ensures sound { IsSoundDraft draft.new }
-    ensures good { IfOk result (λ a. IsAskOver (length draft.new.sets) a) }
-{
-    let set = with_set(alloc, draft, ask.set)?;
-    let prefer = with_prefer(alloc, draft, ask.prefer)?;
-    Ok(Ask {
-        k: ask.k,
-        set,
-        dur: ask.dur,
-        value: ask.value,
-        deadline: ask.deadline,
-        prefer,
-        class: ask.class,
-        elastic: ask.elastic,
-    })
-}
-
-// What a job that arrives at this slot asks for.
+// What a job that arrives at this slot asks for. The sets that it names come to the trace.
 fn with_work(alloc: Global, draft: &mut Draft, at: u32, work: WorkText) -> Result<Work, Stop>
     requires sound { IsSoundDraft draft.old }
     requires slot { at < draft.old.header.until }
     requires good { IsGoodDemand (demand_text work) }
-    ensures value { Gives (λ w. (demand_of w, draft.new.sets)) result (demand_at (so_far draft.old) at (demand_text work.entry)) }
-    ensures same { so_far draft.new ≡ with_sets (so_far draft.old) draft.new.sets }
+    ensures value { Gives (λ w. (demand_of w, draft.new.reader.sets)) result (demand_at (so_far draft.old) at (demand_text work.entry)) }
+    ensures same { so_far draft.new ≡ with_sets (so_far draft.old) draft.new.reader.sets }
     ensures sound { OnOk result (IsSoundDraft draft.new) }
-    ensures good { IfOk result (λ w. IsSoundDemand (length draft.new.sets) at (demand_of w)) }
+    ensures good { IfOk result (λ w. IsSoundDemand (length draft.new.reader.sets) at (demand_of w)) }
 {
     match work {
         WorkText::Strl(text) => {
-            let expr = with_text(alloc, draft, at, text)?;
+            let unit = draft.header.unit;
+            let expr = expr_of(alloc, &mut draft.reader, unit, at, text)?;
+            let _ = draft.reader.sets().len();
             Ok(Work::Strl(expr))
         }
         WorkText::Asked(ask) => {
-            let ask = with_ask(alloc, draft, ask)?;
+            let ask = ask_of(alloc, &mut draft.reader, ask)?;
+            let _ = draft.reader.sets().len();
             Ok(Work::Asked(ask))
         }
     }
@@ -260,10 +152,10 @@ fn job_named(draft: &Draft, name: &str) -> Result<u32, Stop>
 }
 
 fn node_named(draft: &Draft, name: &str) -> Result<u32, Stop>
-    ensures value { Gives (λ n. n) result (ok_or (number_of name.now (names_of draft.now.cluster)) whys.NoSuchNode) }
-    ensures known { IfOk result (λ n. n < length draft.now.cluster) }
+    ensures value { Gives (λ n. n) result (ok_or (number_of name.now (names_of draft.now.reader.nodes)) whys.NoSuchNode) }
+    ensures known { IfOk result (λ n. n < length draft.now.reader.nodes) }
 {
-    match draft.cluster.node(name.as_bytes()) {
+    match draft.reader.cluster().node(name.as_bytes()) {
         Some(node) => Ok(node),
         None => Err(Stop::Because(TraceWhy::NoSuchNode)),
     }

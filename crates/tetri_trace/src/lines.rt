@@ -2,18 +2,16 @@
 ghost use Rattle.std.specs.Prelude.{◌≡◌, ◌≤◌, OnOk, option_map};
 ghost use Rattle.std.specs.Option.{ForSome};
 ghost use Rattle.serde_json.specs.View.{view};
-ghost use Rattle.tetri_trace.specs.Answers.{Gives};
+ghost use Rattle.tetri_notice.specs.Answers.{Gives};
 ghost use Rattle.tetri_trace.specs.Draft.{so_far, IsSoundDraft};
 ghost use Rattle.tetri_trace.specs.Lines.{add_event, add_line, add_object, is_blank, is_blank_byte};
 
 use crate::draft::Draft;
-use crate::event::event_in;
-use crate::fault::{Stop, TraceWhy};
-use crate::field::object_in;
 use crate::happen::{happened, next_slot};
-use crate::header::header_in;
+use crate::header::begun;
 use serde_json::Value;
 use std::alloc::Global;
+use tetri_notice::{Stop, TraceWhy, event_in, header_in, object_in};
 
 /// The bytes that a line has at most, without its line feed.
 pub(crate) const LINE_MOST: usize = 1_048_576;
@@ -52,7 +50,8 @@ fn add_object(alloc: Global, draft: &mut Option<Draft>, object: &Value) -> Resul
     match draft {
         Some(draft) => add_event(alloc, draft, object),
         None => {
-            *draft = Some(header_in(alloc, object)?);
+            let header = header_in(alloc, object)?;
+            *draft = Some(begun(alloc, header)?);
             Ok(())
         }
     }

@@ -5,19 +5,10 @@ ghost use Rattle.tetri_trace.specs.Scenario.{scenario, submission, submission_of
 use crate::jobs::Jobs;
 use std::rc::Rc;
 use tetri_cluster::{Cluster, Name, Sets};
+use tetri_notice::Header;
 use tetri_request::Ask;
 use tetri_space::Closures;
 use tetri_strl::Expr;
-
-/// The limits of a run: the slots of the window, the nodes of a search tree, the number of cycles, and
-/// what each written worth is multiplied by.
-#[derive(Clone, Copy, Debug, PartialEq, Eq)]
-pub struct Header {
-    pub window: u32,
-    pub budget: u32,
-    pub until: u32,
-    pub unit: u64,
-}
 
 /// What a job asks for.
 #[derive(Drop)]
