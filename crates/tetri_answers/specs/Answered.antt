@@ -4,15 +4,14 @@ use Rattle.tetri_reserve.specs.Answers.{AreAnswers, EachAnswer, IsAnswer}
 use Rattle.tetri_reserve.specs.Meaning.{AreTrue, IsTrue}
 use Rattle.tetri_reserve.specs.declared.answer.Answer.{Answer}
 use Rattle.tetri_space.specs.Space.{Space}
-use Rattle.tetri_state.specs.Begin.{begin}
-use Rattle.tetri_state.specs.Planning.{instance_of}
+use Rattle.tetri_state.specs.Planning.{instance_at}
 use Rattle.tetri_state.specs.Snapshot.{opening_state}
 use Rattle.tetri_trace.specs.Scenario.{Scenario}
 use Rattle.tetri_answers.specs.Text.{answer_text, answers_text, count_text}
 
 -- what slot 0 of the trace plans for, once it has begun
 abbrev pub first_instance : Scenario → Space
-first_instance t = instance_of t (begin t (opening_state t))
+first_instance t = instance_at t (opening_state t)
 
 -- One answer for each job of the instance of slot 0, in order, made with the trace's budget: whether the job can be served together with
 -- those booked before it. Each is true.

@@ -16,3 +16,4 @@ pub use places::place_of;
 pub use seen::Seen;
 pub use tree_walk::TreeWalk;
 pub use verdict::Verdict;
+pub use wasted::first_wasted;

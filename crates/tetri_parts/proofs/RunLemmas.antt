@@ -14,12 +14,13 @@ use Rattle.tetri_state.specs.Reached.{ArePlans, IsReached, between}
 use Rattle.tetri_state.specs.Snapshot.{Snapshot}
 use Rattle.tetri_strl.specs.declared.grants.Grant.{Grant}
 use Rattle.tetri_trace.specs.Scenario.{Scenario}
-use Rattle.tetri_parts.specs.Cycle.{IsPartsCycle, PartPlan, PartsCycle, bound_of, instance_at, value_of}
+use Rattle.tetri_parts.specs.Cycle.{IsPartsCycle, PartPlan, PartsCycle, bound_of, value_of}
 use Rattle.tetri_parts.specs.Run.{IsPartsRun, NextPartsText, cycle, summary, optimal_in_parts, parts_cycles_text, state_behind_parts, summary_of_parts, worth_of_parts}
 use Rattle.tetri_parts.specs.Progress.{RanAll, RanSlot, RanSlots, StoppedBetweenParts, StoppedInPartsText, StoppedInSlot, WroteParts, summary_at}
 use Rattle.tetri_parts.specs.Text.{part_text, parts_cycle_text, parts_line}
 use Rattle.tetri_parts.specs.declared.cycles.RunTally.{RunTally}
 use Rattle.tetri_parts.specs.declared.slot.SlotTally.{SlotTally}
+use Rattle.tetri_state.specs.Planning.{instance_at}
 
 abbrev grants_of : List PartsCycle → List (List Grant)
 grants_of past = map (λ c. c.grants) past

@@ -12,9 +12,9 @@ use Rattle.tetri_space.specs.Space.{Space}
 use Rattle.tetri_space.specs.Total.{total_in}
 use Rattle.tetri_split.specs.Parts.{ArePartsOf, in_a_row}
 use Rattle.tetri_split.specs.Restricted.{grants_to, restricted}
-use Rattle.tetri_state.specs.Begin.{Occurrences, begin, occurring}
+use Rattle.tetri_state.specs.Begin.{Occurrences, occurring}
 use Rattle.tetri_state.specs.Launch.{launched_in, start_of}
-use Rattle.tetri_state.specs.Planning.{IsCarry, instance_of}
+use Rattle.tetri_state.specs.Planning.{IsCarry, instance_at}
 use Rattle.tetri_state.specs.Snapshot.{Snapshot}
 use Rattle.tetri_trace.specs.Scenario.{Scenario}
 
@@ -69,10 +69,6 @@ pub record PartsCycle : Type 0 where
   pub parts : List PartPlan
   pub grants : List Grant
   pub launched : List ℕ
-
--- what the cycle plans for that begins in this state
-abbrev pub instance_at : Scenario → Snapshot → Space
-instance_at t s = instance_of t (begin t s)
 
 -- The cycle that begins in this state: it has the number of the slot, tells what happened, is planned part by part for what is pending
 -- and carried over then, and lists exactly the jobs that its grants launch.

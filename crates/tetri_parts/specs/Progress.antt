@@ -12,7 +12,7 @@ use Rattle.tetri_state.specs.Readied.{Fits, IsLaunchOf}
 use Rattle.tetri_state.specs.Snapshot.{Snapshot}
 use Rattle.tetri_strl.specs.declared.grants.Grant.{Grant}
 use Rattle.tetri_trace.specs.Scenario.{Scenario}
-use Rattle.tetri_parts.specs.Cycle.{ArePlansByPart, IsPartsCycle, IsPlanOfPart, PartPlan, PartsCycle, bound_of, grants_by_part, instance_at, jobs_by_part, optimal_count, value_of}
+use Rattle.tetri_parts.specs.Cycle.{ArePlansByPart, IsPartsCycle, IsPlanOfPart, PartPlan, PartsCycle, bound_of, grants_by_part, jobs_by_part, optimal_count, value_of}
 use Rattle.tetri_parts.specs.Run.{IsPartsRun, NextPartsText, optimal_in_parts, parts_cycles_text, parts_report_text, state_behind_parts, summary_of_parts, worth_of_parts}
 use Rattle.tetri_parts.specs.Text.{parts_cycle_text, parts_line, part_text}
 use Rattle.tetri_parts.specs.declared.cycles.RunTally.{RunTally}
@@ -20,6 +20,7 @@ use Rattle.tetri_parts.specs.declared.planning.PartLines.{PartLines}
 use Rattle.tetri_parts.specs.declared.planning.PartsPlan.{PartsPlan}
 use Rattle.tetri_parts.specs.declared.slot.Ready.{Ready}
 use Rattle.tetri_parts.specs.declared.slot.SlotTally.{SlotTally}
+use Rattle.tetri_state.specs.Planning.{instance_at}
 
 -- The part with these jobs was planned: its lines, its grants, what they are worth and their bound.
 pub record IsPartReady (t : Scenario) (i : Space) (carry : List Grant) (jobs : List ℕ) (r : PartLines) : Type 0 where

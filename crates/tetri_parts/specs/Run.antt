@@ -6,8 +6,9 @@ use Rattle.tetri_state.specs.Launch.{worth_launched}
 use Rattle.tetri_state.specs.Reached.{state_after}
 use Rattle.tetri_state.specs.Snapshot.{Snapshot}
 use Rattle.tetri_trace.specs.Scenario.{Scenario}
-use Rattle.tetri_parts.specs.Cycle.{IsPartsCycle, PartsCycle, instance_at, optimal_count}
+use Rattle.tetri_parts.specs.Cycle.{IsPartsCycle, PartsCycle, optimal_count}
 use Rattle.tetri_parts.specs.Text.{parts_cycle_text}
+use Rattle.tetri_state.specs.Planning.{instance_at}
 
 -- the state in which the next cycle begins
 abbrev pub state_behind_parts : Scenario → List PartsCycle → Snapshot

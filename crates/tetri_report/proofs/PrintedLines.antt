@@ -25,7 +25,7 @@ use Rattle.tetri_io.proofs.TextLemmas.{AllAvoid, parts_of_joined}
 use Rattle.tetri_state.specs.declared.happened.PieceId.{PieceId}
 use Rattle.tetri_trace.specs.Scenario.{Scenario, Submission, job_names}
 use Rattle.tetri_trace.specs.Sound.{IsSound, IsSoundSubmission}
-use Rattle.tetri_report.specs.Line.{entry_in, grant_in, job_in, kind_in, large_number, line_by_tag, line_in, line_of_kind, line_of_words, mark_in, node_in, nodes_in, piece_in, plan_in, small_number, summary_of_entries}
+use Rattle.tetri_report.specs.Line.{entry_in, grant_in, job_in, kind_in, large_number, line_by_tag, line_in, line_of_kind, line_of_words, mark_in, node_in, nodes_in, piece_in, plan_in, summary_of_entries}
 use Rattle.tetri_report.specs.Printable.{IsPrintableNode}
 use Rattle.tetri_report.specs.Text.{job_name}
 use Rattle.tetri_report.specs.declared.cycle.Summary.{Summary}
@@ -33,6 +33,7 @@ use Rattle.tetri_report.specs.declared.line.Kind.{Kind}
 use Rattle.tetri_report.specs.declared.line.PlanLine.{PlanLine}
 use Rattle.tetri_report.specs.declared.line.ReportLine.{ReportLine}
 use Rattle.tetri_report.specs.declared.line.ReportLine.TheVariants as lines
+use Rattle.tetri_cert.specs.Numbers.{small_number}
 
 small_back : (n : ℕ) → n < 2 ^ 32 → small_number (decimal n) ≡ Some n
 small_back n h = number_below-decimal (2 ^ 32) n (lit≤ tt) h

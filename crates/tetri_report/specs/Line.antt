@@ -1,6 +1,7 @@
 -- What one line of a report says.
 use Rattle.std.specs.Prelude.{ℕ, ◌++◌, ◌^◌, List, [], ◌∷◌, length, drop, take, Option, Some, None, if◌then◌else◌, bytes_eq, codes, option_and_then, option_map}
 use Rattle.tetri_cert.specs.NodeText.{node_by_tag}
+use Rattle.tetri_cert.specs.Numbers.{small_number}
 use Rattle.tetri_cert.specs.declared.plan_mark.PlanMark.{PlanMark}
 use Rattle.tetri_cert.specs.declared.plan_mark.PlanMark.TheVariants.{Optimal, Spent, Wide}
 use Rattle.tetri_cluster.specs.Cluster.{names_of}
@@ -15,10 +16,7 @@ use Rattle.tetri_report.specs.declared.line.ReportLine.{ReportLine}
 use Rattle.tetri_report.specs.declared.line.ReportLine.TheVariants as lines
 use Rattle.tetri_base.specs.OptionSteps.{◌>>=◌}
 
--- numbers of jobs, leaves, slots and cycles; worths and counts; the worth of a whole run
-abbrev pub small_number : List ℕ → Option ℕ
-small_number word = number_below (2 ^ 32) word
-
+-- worths and counts; the worth of a whole run
 abbrev pub large_number : List ℕ → Option ℕ
 large_number word = number_below (2 ^ 64) word
 

@@ -1,9 +1,10 @@
 // A line of a report, read.
 ghost use Rattle.std.specs.Prelude.{◌≡◌, ℕ, ◌≤◌, ◌<◌, ◌^◌, IfOk, IfSome, map, option_map, length};
 ghost use Rattle.tetri_io.specs.Numbers.{number_below};
-ghost use Rattle.tetri_report.specs.Line.{cycle_in, entry_in, grant_in, huge_number, kind_in, line_of_kind, job_in, lone_job, summary_of_entries, large_number, line_in, line_of_words, mark_in, node_in, nodes_in, piece_in, plan_in, small_number, summary_in, tops_in};
+ghost use Rattle.tetri_report.specs.Line.{cycle_in, entry_in, grant_in, huge_number, kind_in, line_of_kind, job_in, lone_job, summary_of_entries, large_number, line_in, line_of_words, mark_in, node_in, nodes_in, piece_in, plan_in, summary_in, tops_in};
 ghost use Rattle.tetri_report.specs.declared.line.ReportLine.TheVariants as lines;
 ghost use Rattle.tetri_trace.specs.Scenario.{scenario};
+ghost use Rattle.tetri_cert.specs.Numbers.{small_number};
 
 use crate::cycle::Summary;
 use crate::line::{Kind, PlanLine, ReportLine};

@@ -25,7 +25,7 @@ use Rattle.tetri_trace.specs.Scenario.{Scenario}
 use Rattle.tetri_trace.specs.Sound.{IsSound}
 use Rattle.tetri_plan.proofs.KeptLemmas.{carried_worth, chosen_bounds, given_bounds, kept_bounds}
 use Rattle.tetri_run.specs.Advised.{AreListsOf, BeginsWithin, IsAdvice, IsAdvisedRun, IsOnlyRun, IsWorthCreeds, IsWorthFirst}
-use Rattle.tetri_run.specs.Cycle.{IsPlannedCycle, instance_at}
+use Rattle.tetri_run.specs.Cycle.{IsPlannedCycle}
 use Rattle.tetri_run.specs.Run.{AnyLists, IsPlannedRun, IsRunOf, state_behind}
 use Rattle.tetri_run.proofs.OneRun.{one_run}
 use Rattle.tetri_run.proofs.RunLemmas.{append_known-nil, run_of, run_reaches}
@@ -33,6 +33,7 @@ use Rattle.tetri_run.specs.Progress.{RanSlot, RanSlots, StoppedBetween, StoppedI
 use Rattle.tetri_run.specs.declared.cycles.RunTally.{RunTally}
 use Rattle.tetri_run.specs.declared.slot.SlotTally.{SlotTally}
 use Rattle.tetri_run.specs.declared.telling.Telling.{Telling}
+use Rattle.tetri_state.specs.Planning.{instance_at}
 
 -- ---- lists that may be given
 -- what was planned with lists that may be given so was planned with lists that may be given otherwise

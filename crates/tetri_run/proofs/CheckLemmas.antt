@@ -23,7 +23,7 @@ use Rattle.tetri_space.specs.Space.{Space}
 use Rattle.tetri_space.specs.Sound.{IsSound as IsSoundSpace}
 use Rattle.tetri_space.specs.Total.{total_in}
 use Rattle.tetri_state.specs.Begin.{begin}
-use Rattle.tetri_state.specs.Planning.{IsCarry}
+use Rattle.tetri_state.specs.Planning.{IsCarry, instance_at}
 use Rattle.tetri_state.specs.Reached.{IsReached, between}
 use Rattle.tetri_state.specs.Snapshot.{Snapshot}
 use Rattle.tetri_state.proofs.InstanceLemmas.{instance_sound}
@@ -32,7 +32,7 @@ use Rattle.tetri_trace.specs.Scenario.{Scenario}
 use Rattle.tetri_trace.specs.Sound.{IsSound}
 use Rattle.tetri_report.proofs.ReportLaws.{corrected_itself}
 use Rattle.tetri_run.specs.Check.{Checking, ComesTo, FitsRun, IsAccepted, IsAssured, IsInPlace, IsRefused, IsRight, IsShort, checked_behind, faulty, lines_in, malformed, out_of_place, too_long, unchecked}
-use Rattle.tetri_run.specs.Cycle.{IsCycle, instance_at}
+use Rattle.tetri_run.specs.Cycle.{IsCycle}
 use Rattle.tetri_run.specs.Faulty.{IsFaulty, planned_badly, corrected_at, told_badly}
 use Rattle.tetri_run.specs.Run.{BoundsHold, IsRun, in_order, state_behind, summary_of}
 use Rattle.tetri_run.specs.declared.why.Why.{Why}

@@ -14,12 +14,12 @@ use Rattle.tetri_space.specs.Space.{Space}
 use Rattle.tetri_space.specs.Total.{total_in}
 use Rattle.tetri_state.specs.Begin.{Occurrences, occurring}
 use Rattle.tetri_state.specs.Launch.{launched_in, start_of}
-use Rattle.tetri_state.specs.Planning.{IsCarry}
+use Rattle.tetri_state.specs.Planning.{IsCarry, instance_at}
 use Rattle.tetri_state.specs.Snapshot.{Snapshot}
 use Rattle.tetri_strl.specs.declared.grants.Grant.{Grant}
 use Rattle.tetri_trace.specs.Scenario.{Scenario}
 use Rattle.tetri_run.specs.Checked.{AnswersCycle, AnswersPlan}
-use Rattle.tetri_run.specs.Cycle.{IsCycle, instance_at}
+use Rattle.tetri_run.specs.Cycle.{IsCycle}
 use Rattle.tetri_run.specs.Faulty.{IsFaulty, planned_badly, corrected_at, told_badly}
 use Rattle.tetri_run.specs.declared.halt.CheckHalt.{CheckHalt}
 use Rattle.tetri_run.specs.declared.halt.CheckHalt.TheVariants.{Refused, ReadFault, NoMemory}

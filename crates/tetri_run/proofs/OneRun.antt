@@ -15,9 +15,10 @@ use Rattle.tetri_state.specs.Launch.{launched_in, start_of}
 use Rattle.tetri_state.specs.Snapshot.{Snapshot}
 use Rattle.tetri_trace.specs.Scenario.{Scenario}
 use Rattle.tetri_run.specs.Advised.{AreListsOf}
-use Rattle.tetri_run.specs.Cycle.{IsPlannedCycle, instance_at}
+use Rattle.tetri_run.specs.Cycle.{IsPlannedCycle}
 use Rattle.tetri_run.specs.Run.{IsPlannedRun, state_behind}
 use Rattle.tetri_run.proofs.CheckLemmas.{carry_same}
+use Rattle.tetri_state.specs.Planning.{instance_at}
 
 -- a cycle by its parts
 abbrev block_by : ℕ → Occurrences → Planned → List ℕ → List ℕ → Block

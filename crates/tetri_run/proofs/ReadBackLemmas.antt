@@ -26,10 +26,11 @@ use Rattle.tetri_trace.specs.Scenario.{Scenario}
 use Rattle.tetri_trace.specs.Sound.{IsSound}
 use Rattle.tetri_io.specs.Lines.{lines_from}
 use Rattle.tetri_run.specs.Check.{IsAccepted, IsShort, lines_in}
-use Rattle.tetri_run.specs.Cycle.{IsPlannedCycle, instance_at}
+use Rattle.tetri_run.specs.Cycle.{IsPlannedCycle}
 use Rattle.tetri_run.specs.Run.{IsPlannedRun, cycles_text, in_order, report_text, state_behind, summary_of}
 use Rattle.tetri_run.proofs.PrintLemmas.{cycle_printable}
 use Rattle.tetri_run.proofs.RunLemmas.{run_of, run_reaches}
+use Rattle.tetri_state.specs.Planning.{instance_at}
 
 cycles_text-in_order : (t : Scenario) (past : List Block) → cycles_text t past ≡ flat_map (cycle_text t) (in_order past)
 cycles_text-in_order t [] = refl

@@ -17,13 +17,13 @@ use Rattle.tetri_trace.specs.Scenario.{Scenario}
 use Rattle.tetri_trace.specs.Sound.{IsSound}
 use Rattle.tetri_run.specs.Check.{Checking, ComesTo, IsInPlace, IsPassed, IsRefused, IsRefusedAt, IsRight, checked_behind, faulty, lines_in, malformed, out_of_place, too_long, unchecked}
 use Rattle.tetri_run.specs.Checked.{IsInOrder}
-use Rattle.tetri_run.specs.Cycle.{instance_at}
 use Rattle.tetri_run.specs.Faulty.{IsFaulty, corrected_at, planned_badly, told_badly, why_of}
 use Rattle.tetri_run.specs.Run.{IsRun, state_behind}
 use Rattle.tetri_run.specs.declared.why.Why.{Why}
 use Rattle.tetri_run.proofs.CheckLemmas.{carry_same, instance_good, ok_not_err, ok_same, right_is_not_faulty, run_on}
 use Rattle.tetri_run.proofs.RunLemmas.{now_behind, run_reaches}
 use Rattle.tetri_run.proofs.StepLemmas.{in_order_on, not_closed, unchecked_in_order}
+use Rattle.tetri_state.specs.Planning.{instance_at}
 
 -- How a check stands between two lines: the cycles that were accepted are a run, and the lines so far may stand.
 record IsSane (t : Scenario) (c : Checking) : Type 0 where

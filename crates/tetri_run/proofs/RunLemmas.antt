@@ -17,13 +17,14 @@ use Rattle.tetri_state.specs.Snapshot.{Snapshot}
 use Rattle.tetri_space.specs.Space.{Space}
 use Rattle.tetri_strl.specs.declared.grants.Grant.{Grant}
 use Rattle.tetri_trace.specs.Scenario.{Scenario}
-use Rattle.tetri_run.specs.Cycle.{IsPlannedCycle, instance_at}
+use Rattle.tetri_run.specs.Cycle.{IsPlannedCycle}
 use Rattle.tetri_run.specs.Run.{IsPlannedRun, IsRun, optimal_cycles, plans_of, state_behind, summary_of, worth_of_run}
 use Rattle.tetri_run.specs.Progress.{RanAll, RanSlot, RanSlots, StoppedBetween, StoppedInSlot, StoppedInText, WroteRun, summary_at}
 use Rattle.tetri_run.specs.Telling.{AreTold, IsTold, NextText, cycle, summary}
 use Rattle.tetri_run.specs.declared.cycles.RunTally.{RunTally}
 use Rattle.tetri_run.specs.declared.slot.SlotTally.{SlotTally}
 use Rattle.tetri_run.specs.declared.telling.Telling.{Telling}
+use Rattle.tetri_state.specs.Planning.{instance_at}
 
 pub run_plans : (t : Scenario) (past : List Block) → IsRun t past → ArePlans t (plans_of past)
 run_plans t [] run = tt

@@ -4,7 +4,7 @@ use Rattle.std.specs.Prelude.{Option, Some, Result, Ok}
 use Rattle.tetri_report.specs.Block.{Block}
 use Rattle.tetri_trace.specs.Lines.{scenario_in}
 use Rattle.tetri_trace.specs.Scenario.{Scenario}
-use Rattle.tetri_trace.specs.declared.fault.TraceWhy.{TraceWhy}
+use Rattle.tetri_notice.specs.declared.fault.TraceWhy.{TraceWhy}
 use Rattle.tetri_advice.specs.Heard.{Heard}
 use Rattle.tetri_advice.specs.Seat.{Seat}
 use Rattle.tetri_trace.specs.Sound.{IsSound}

@@ -14,8 +14,8 @@ use Rattle.tetri_space.specs.Space.{Space}
 use Rattle.tetri_space.specs.Total.{total_in}
 use Rattle.tetri_state.specs.Snapshot.{Snapshot}
 use Rattle.tetri_trace.specs.Scenario.{Scenario}
-use Rattle.tetri_run.specs.Cycle.{instance_at}
 use Rattle.tetri_run.specs.Run.{IsPlannedRun, IsRunOf}
+use Rattle.tetri_state.specs.Planning.{instance_at}
 
 -- These lists were given of the instance where a panel was asked once and then taught: the advisors that sat and the panel's count of
 -- misses before it, and those afterwards.

@@ -2,7 +2,7 @@
 use Rattle.std.specs.Prelude.{ℕ, List, Option, Result}
 use Rattle.tetri_parts.specs.Progress.{StoppedBetweenParts, StoppedInPartsText, WroteParts}
 use Rattle.tetri_trace.specs.Scenario.{Scenario}
-use Rattle.tetri_trace.specs.declared.fault.TraceWhy.{TraceWhy}
+use Rattle.tetri_notice.specs.declared.fault.TraceWhy.{TraceWhy}
 use Rattle.tetri_run.specs.Promised.{IsPromisedBy}
 use Rattle.tetri_run.specs.declared.status.Status.{Status}
 

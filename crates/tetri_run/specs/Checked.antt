@@ -28,7 +28,7 @@ use Rattle.tetri_state.specs.Reached.{IsReached, between}
 use Rattle.tetri_state.specs.Snapshot.{Snapshot}
 use Rattle.tetri_trace.specs.Scenario.{Scenario}
 use Rattle.tetri_run.specs.Check.{Checking, FitsRun, IsInPlace, IsPassed, IsRefused, IsRight, IsShort, checked_behind}
-use Rattle.tetri_run.specs.Cycle.{IsCycle, instance_at}
+use Rattle.tetri_run.specs.Cycle.{IsCycle}
 use Rattle.tetri_run.specs.Faulty.{IsFaulty, why_of}
 use Rattle.tetri_run.specs.Progress.{summary_at}
 use Rattle.tetri_run.specs.Run.{IsRun, optimal_count, optimal_cycles, state_behind, summary_of, worth_of_run}
@@ -43,6 +43,7 @@ use Rattle.tetri_run.specs.declared.check.Progress.{Progress}
 use Rattle.tetri_run.specs.declared.cycles.RunTally.{RunTally}
 use Rattle.tetri_run.specs.declared.why.Why.{Why}
 use Rattle.tetri_run.specs.declared.why.Why.TheVariants.{Malformed, WrongEvents}
+use Rattle.tetri_state.specs.Planning.{instance_at}
 
 -- what a verdict ends a check with, where the cycle's first line has this number
 abbrev pub AnswersVerdict : CheckHalt → Verdict → ℕ → Block → Type 0

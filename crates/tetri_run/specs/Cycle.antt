@@ -13,15 +13,11 @@ use Rattle.tetri_space.specs.GrantOrder.{ComesBefore}
 use Rattle.tetri_space.specs.Lawful.{IsLawful}
 use Rattle.tetri_space.specs.Space.{Space}
 use Rattle.tetri_space.specs.Total.{total_in}
-use Rattle.tetri_state.specs.Begin.{begin, occurring}
+use Rattle.tetri_state.specs.Begin.{occurring}
 use Rattle.tetri_state.specs.Launch.{start_of, launched_in}
-use Rattle.tetri_state.specs.Planning.{IsCarry, instance_of}
+use Rattle.tetri_state.specs.Planning.{IsCarry, instance_at}
 use Rattle.tetri_state.specs.Snapshot.{Snapshot}
 use Rattle.tetri_trace.specs.Scenario.{Scenario}
-
--- what the cycle plans for that begins in this state
-abbrev pub instance_at : Scenario → Snapshot → Space
-instance_at t s = instance_of t (begin t s)
 
 -- The plan of a cycle is honest for this instance, worth at least what is carried over, and certified for this budget; each grant is
 -- told with its leaf's start, and exactly the launched jobs are listed.

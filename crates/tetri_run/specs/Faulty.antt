@@ -12,10 +12,9 @@ use Rattle.tetri_judge.specs.PlanOf.{planned}
 use Rattle.tetri_space.specs.Total.{total_in}
 use Rattle.tetri_state.specs.Begin.{occurring}
 use Rattle.tetri_state.specs.Launch.{launched_in, start_of}
-use Rattle.tetri_state.specs.Planning.{IsCarry}
+use Rattle.tetri_state.specs.Planning.{IsCarry, instance_at}
 use Rattle.tetri_state.specs.Snapshot.{Snapshot}
 use Rattle.tetri_trace.specs.Scenario.{Scenario}
-use Rattle.tetri_run.specs.Cycle.{instance_at}
 use Rattle.tetri_run.specs.declared.why.Why.{Why}
 use Rattle.tetri_run.specs.declared.why.Why.TheVariants as whys
 

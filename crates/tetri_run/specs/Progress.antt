@@ -16,13 +16,14 @@ use Rattle.tetri_state.specs.Snapshot.{Snapshot}
 use Rattle.tetri_strl.specs.declared.grants.Grant.{Grant}
 use Rattle.tetri_trace.specs.Scenario.{Scenario}
 use Rattle.tetri_run.specs.Check.{IsAccepted}
-use Rattle.tetri_run.specs.Cycle.{IsPlannedCycle, instance_at}
+use Rattle.tetri_run.specs.Cycle.{IsPlannedCycle}
 use Rattle.tetri_run.specs.Run.{IsPlannedRun, in_order, optimal_count, optimal_cycles, report_text, state_behind, summary_of, worth_of_run}
 use Rattle.tetri_run.specs.Telling.{AreTold, IsTold, NextText}
 use Rattle.tetri_run.specs.declared.slot.Ready.{Ready}
 use Rattle.tetri_run.specs.declared.slot.SlotTally.{SlotTally}
 use Rattle.tetri_run.specs.declared.cycles.RunTally.{RunTally}
 use Rattle.tetri_run.specs.declared.telling.Telling.{Telling}
+use Rattle.tetri_state.specs.Planning.{instance_at}
 
 -- A cycle is ready that begins in this state, planned with lists that may be given: its lines, what it launches, and its numbers.
 pub record IsReady (telling : Telling) (MayBeGiven : Space → List (List Grant) → Type 0) (t : Scenario) (old : Snapshot) (r : Ready) : Type 0 where

@@ -1,7 +1,7 @@
 -- What a status promises of what was written for a trace.
 use Rattle.std.specs.Prelude.{◌≡◌, ◌⊎◌, ℕ, List, Option, Result, Ok, Err}
 use Rattle.tetri_trace.specs.Scenario.{Scenario}
-use Rattle.tetri_trace.specs.declared.fault.TraceWhy.{TraceWhy}
+use Rattle.tetri_notice.specs.declared.fault.TraceWhy.{TraceWhy}
 use Rattle.tetri_run.specs.declared.status.Status.{Status}
 use Rattle.tetri_run.specs.declared.status.Status.TheVariants.{Done, Refused, Usage, ReadFault, WriteFault, BadTrace, NoMemory}
 

@@ -14,7 +14,8 @@ use Rattle.tetri_state.specs.Reached.{state_after}
 use Rattle.tetri_state.specs.declared.pieces.Piece.{Piece}
 use Rattle.tetri_state.specs.Snapshot.{Snapshot}
 use Rattle.tetri_trace.specs.Scenario.{Scenario}
-use Rattle.tetri_run.specs.Cycle.{IsBoundedCycle, IsCycle, IsPlannedCycle, instance_at}
+use Rattle.tetri_run.specs.Cycle.{IsBoundedCycle, IsCycle, IsPlannedCycle}
+use Rattle.tetri_state.specs.Planning.{instance_at}
 
 abbrev pub plans_of : List Block → List (List Grant)
 plans_of past = map (λ b. b.grants) past

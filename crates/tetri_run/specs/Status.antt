@@ -2,17 +2,15 @@
 use Rattle.std.specs.Prelude.{◌≡◌, ◌⊎◌, ℕ, List, [], ◌++◌, Option, Some, None, Result, Ok, Err, codes, decimal}
 use Rattle.std.specs.Io.KnownBytes.{append_known}
 use Rattle.tetri_trace.specs.Scenario.{Scenario}
-use Rattle.tetri_trace.specs.Words.{why_words}
-use Rattle.tetri_trace.specs.declared.fault.TraceWhy.{TraceWhy}
+use Rattle.tetri_notice.specs.Words.{why_words}
+use Rattle.tetri_notice.specs.declared.fault.TraceWhy.{TraceWhy}
 use Rattle.tetri_algebra.specs.Counts.{Rose}
-use Rattle.tetri_cert.specs.declared.faults.TreeWhy.{TreeWhy}
-use Rattle.tetri_cert.specs.declared.faults.TreeWhy.TheVariants as tree_whys
+use Rattle.tetri_cert.specs.Words.{tree_words}
 use Rattle.tetri_io.specs.Sink.{AppendsPart}
 use Rattle.tetri_report.specs.Block.{Block}
-use Rattle.tetri_space.specs.declared.rules.Rule.{Rule}
-use Rattle.tetri_space.specs.declared.rules.Rule.TheVariants as rules
-use Rattle.tetri_trace.specs.declared.fault.TraceFault.{TraceFault}
-use Rattle.tetri_trace.specs.declared.fault.TraceFault.TheVariants as trace_faults
+use Rattle.tetri_space.specs.Words.{unlawful_words}
+use Rattle.tetri_notice.specs.declared.fault.TraceFault.{TraceFault}
+use Rattle.tetri_notice.specs.declared.fault.TraceFault.TheVariants as trace_faults
 use Rattle.tetri_run.specs.Check.{IsAccepted, IsAssured, IsRefusedAt}
 use Rattle.tetri_run.specs.Progress.{StoppedBetween, StoppedInSummary, StoppedInText, WroteReport, WroteRun, WroteSummary}
 use Rattle.tetri_run.specs.Promised.{IsPromisedBy}
@@ -124,38 +122,9 @@ IsLoadAnswer IsSuch NoMemory t before after = after ≡ before
 unfoldable pub bad_trace_words : ℕ → TraceWhy → List ℕ
 bad_trace_words line why = codes "bad trace: line " ++ decimal line ++ codes ": " ++ why_words why ++ codes "\n"
 
--- a rule of lawful allotments, with what shows that it is broken
-abbrev pub rule_name : Rule → List ℕ
-rule_name rules.NotPending = codes "not-pending"
-rule_name rules.NotLive = codes "not-live"
-rule_name (rules.Doubled earlier) = codes "doubled"
-rule_name rules.BadNodes = codes "bad-nodes"
-rule_name rules.TooMany = codes "too-many"
-rule_name (rules.Outside node) = codes "outside"
-rule_name (rules.NotFree node) = codes "not-free"
-rule_name (rules.Clash earlier node) = codes "clash"
-
 -- a value after a space
 abbrev pub value : ℕ → List ℕ
 value n = codes " " ++ decimal n
-
-abbrev pub rule_values : Rule → List ℕ
-rule_values (rules.Doubled earlier) = value earlier
-rule_values (rules.Outside node) = value node
-rule_values (rules.NotFree node) = value node
-rule_values (rules.Clash earlier node) = value earlier ++ value node
-rule_values _ = []
-
--- what is wrong with a certificate
-abbrev pub tree_words : TreeWhy → List ℕ
-tree_words tree_whys.Kind = codes "kind"
-tree_words tree_whys.Shape = codes "shape"
-tree_words tree_whys.Column = codes "column"
-tree_words tree_whys.At = codes "at"
-tree_words tree_whys.Row = codes "row"
-tree_words tree_whys.Negative = codes "negative"
-tree_words tree_whys.Denominator = codes "denominator"
-tree_words tree_whys.Point = codes "point"
 
 -- the name of a test that a report fails
 abbrev pub refusal_name : Why → List ℕ
@@ -172,7 +141,7 @@ refusal_name refusals.WrongMark = codes "wrong-mark"
 refusal_name refusals.WrongEvents = codes "wrong-events"
 
 abbrev pub refusal_values : Why → List ℕ
-refusal_values (refusals.Unlawful u) = value u.grant ++ codes " " ++ rule_name u.rule ++ rule_values u.rule
+refusal_values (refusals.Unlawful u) = codes " " ++ unlawful_words u
 refusal_values (refusals.WrongValue printed found) = value printed ++ value found
 refusal_values (refusals.WasteGrant place) = value place
 refusal_values (refusals.BelowCarry printed carry) = value printed ++ value carry

@@ -7,10 +7,10 @@ use Rattle.tetri_space.specs.Space.{Space}
 use Rattle.tetri_space.specs.Total.{total_in}
 use Rattle.tetri_tight.specs.Tightened.{IsTightText}
 use Rattle.tetri_trace.specs.Scenario.{Scenario}
-use Rattle.tetri_run.specs.Cycle.{instance_at}
 use Rattle.tetri_run.specs.Run.{state_behind, summary_of}
 use Rattle.tetri_run.specs.declared.telling.Telling.{Telling}
 use Rattle.tetri_run.specs.declared.telling.Telling.TheVariants.{Report, Tight}
+use Rattle.tetri_state.specs.Planning.{instance_at}
 
 -- The text tells what cuts make of the bound of a cycle with this instance: its value is attained by its grants, which are lawful, and no
 -- lawful allotment is worth more than the tightened bound.

@@ -6,7 +6,7 @@ ghost use Rattle.tetri_io.specs.Sink.{AppendsPart};
 ghost use Rattle.tetri_run.specs.Check.{IsAccepted};
 ghost use Rattle.tetri_run.specs.Status.{IsCheckAnswer, accepted_text};
 ghost use Rattle.tetri_trace.specs.Scenario.{scenario};
-ghost use Rattle.tetri_trace.specs.declared.fault.TraceWhy.{TraceWhy};
+ghost use Rattle.tetri_notice.specs.declared.fault.TraceWhy.{TraceWhy};
 ghost use Rattle.tetri_trace.specs.Sound.{IsSound};
 
 use crate::check::check_report;

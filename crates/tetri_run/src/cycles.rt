@@ -10,7 +10,7 @@ ghost use Rattle.tetri_run.specs.Status.{IsRunAnswer, IsSilent};
 ghost use Rattle.tetri_run.specs.declared.why.Why.{Why};
 ghost use Rattle.tetri_trace.specs.Scenario.{scenario};
 ghost use Rattle.tetri_trace.specs.Sound.{IsSound};
-ghost use Rattle.tetri_trace.specs.declared.fault.TraceWhy.{TraceWhy};
+ghost use Rattle.tetri_notice.specs.declared.fault.TraceWhy.{TraceWhy};
 
 use crate::halt::Halt;
 use crate::slot::run_slot;

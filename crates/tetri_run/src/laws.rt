@@ -5,7 +5,6 @@ ghost use Rattle.tetri_advice.specs.declared.creed.Creed.{Creed};
 ghost use Rattle.tetri_report.specs.Block.{Block};
 ghost use Rattle.tetri_run.specs.Advised.{AreListsOf, BeginsWithin, IsAdvisedRun};
 ghost use Rattle.tetri_run.specs.Check.{IsRefusedAt};
-ghost use Rattle.tetri_run.specs.Cycle.{instance_at};
 ghost use Rattle.tetri_run.specs.Run.{AnyLists, IsPlannedRun, IsRun, RunsOnBehind, state_behind};
 ghost use Rattle.tetri_run.specs.declared.why.Why.{Why};
 ghost use Rattle.tetri_space.specs.Space.{Covers, leaf_in};
@@ -18,6 +17,7 @@ ghost use Rattle.tetri_strl.specs.declared.expr.Leaf.{Leaf};
 ghost use Rattle.tetri_strl.specs.declared.grants.Grant.{Grant};
 ghost use Rattle.tetri_trace.specs.Scenario.{Scenario, scenario};
 ghost use Rattle.tetri_trace.specs.Sound.{IsSound};
+ghost use Rattle.tetri_state.specs.Planning.{instance_at};
 
 use tetri_state::{
     no_two_running_pieces_share_a_node, nodes_of_running_pieces_are_taken,

@@ -10,7 +10,7 @@ ghost use Rattle.tetri_run.specs.Status.{IsLoadAnswer, IsSilent};
 ghost use Rattle.tetri_run.specs.declared.why.Why.{Why};
 ghost use Rattle.tetri_trace.specs.Scenario.{Scenario, scenario};
 ghost use Rattle.tetri_trace.specs.Sound.{IsSound};
-ghost use Rattle.tetri_trace.specs.declared.fault.TraceWhy.{TraceWhy};
+ghost use Rattle.tetri_notice.specs.declared.fault.TraceWhy.{TraceWhy};
 
 use crate::cycles::{run_slots, summary_is_in_range};
 use crate::halt::Halt;

@@ -4,17 +4,14 @@ ghost use Rattle.std.specs.Io.KnownBytes.{append_known};
 ghost use Rattle.tetri_algebra.specs.Counts.{Rose};
 ghost use Rattle.tetri_io.specs.Sink.{AppendsPart};
 ghost use Rattle.tetri_run.specs.Ended.{NeedsMemory};
-ghost use Rattle.tetri_run.specs.Status.{bad_trace_words, refusal_name, refusal_values, refused_words, rule_name, rule_values, status_words, tree_words};
-ghost use Rattle.tetri_run.specs.declared.why.Why.TheVariants as whys;
-ghost use Rattle.tetri_trace.specs.declared.fault.TraceWhy.{TraceWhy};
+ghost use Rattle.tetri_run.specs.Status.{bad_trace_words, refusal_name, refusal_values, refused_words, status_words};
+ghost use Rattle.tetri_notice.specs.declared.fault.TraceWhy.{TraceWhy};
 
 use crate::status::Status;
 use crate::why::Why;
 use std::alloc::{AllocError, Global};
 use std::fmt::Write;
-use tetri_cert::TreeWhy;
 use tetri_io::{Failed, Sink, send_all};
-use tetri_space::{Rule, Unlawful};
 use tetri_trace::TraceWhy;
 use thiserror::Error;
 
@@ -62,50 +59,6 @@ fn bad_trace_line(alloc: Global, line: u64, why: TraceWhy) -> Result<String, All
     Ok(out)
 }
 
-// A rule of lawful allotments.
-fn rule_name(rule: Rule) -> &'static str
-    ensures { result.now ≡ rule_name rule }
-{
-    match rule {
-        Rule::NotPending => "not-pending",
-        Rule::NotLive => "not-live",
-        Rule::Doubled(_) => "doubled",
-        Rule::BadNodes => "bad-nodes",
-        Rule::TooMany => "too-many",
-        Rule::Outside(_) => "outside",
-        Rule::NotFree(_) => "not-free",
-        Rule::Clash(..) => "clash",
-    }
-}
-
-// Adds what shows that a rule is broken, each after a space.
-fn add_rule_values(out: &mut String, rule: Rule) -> Result<(), AllocError>
-    ensures { OnOk result (string_bytes out.new ≡ string_bytes out.old ++ rule_values rule) }
-{
-    match rule {
-        Rule::Doubled(earlier) => write!(out, " {earlier}"),
-        Rule::Outside(node) | Rule::NotFree(node) => write!(out, " {node}"),
-        Rule::Clash(earlier, node) => write!(out, " {earlier} {node}"),
-        _ => Ok(()),
-    }
-}
-
-// What is wrong with a certificate.
-fn tree_word(why: TreeWhy) -> &'static str
-    ensures { result.now ≡ tree_words why }
-{
-    match why {
-        TreeWhy::Kind => "kind",
-        TreeWhy::Shape => "shape",
-        TreeWhy::Column => "column",
-        TreeWhy::At => "at",
-        TreeWhy::Row => "row",
-        TreeWhy::Negative => "negative",
-        TreeWhy::Denominator => "denominator",
-        TreeWhy::Point => "point",
-    }
-}
-
 // The name of a test that a report fails.
 fn refusal_name(why: Why) -> &'static str
     ensures { result.now ≡ refusal_name why }
@@ -125,26 +78,21 @@ fn refusal_name(why: Why) -> &'static str
     }
 }
 
-// Adds the grant that is not lawful, and the rule that it breaks.
-fn add_unlawful(out: &mut String, unlawful: Unlawful) -> Result<(), AllocError>
-    ensures { OnOk result (string_bytes out.new ≡ string_bytes out.old ++ refusal_values (whys.Unlawful unlawful)) }
-{
-    write!(out, " {} {}", unlawful.grant, rule_name(unlawful.rule))?;
-    add_rule_values(out, unlawful.rule)
-}
-
 // Adds the values that show it, each after a space.
 fn add_refusal_values(out: &mut String, why: Why) -> Result<(), AllocError>
     ensures { OnOk result (string_bytes out.new ≡ string_bytes out.old ++ refusal_values why) }
 {
     match why {
-        Why::Unlawful(unlawful) => add_unlawful(out, unlawful),
+        Why::Unlawful(unlawful) => {
+            out.push_str(" ")?;
+            unlawful.print_onto(out)
+        }
         Why::WrongValue { printed, found } | Why::WrongBound { printed, found } => {
             write!(out, " {printed} {found}")
         }
         Why::WasteGrant(place) => write!(out, " {place}"),
         Why::BelowCarry { printed, carry } => write!(out, " {printed} {carry}"),
-        Why::BadTree { node, why } => write!(out, " {node} {}", tree_word(why)),
+        Why::BadTree { node, why } => write!(out, " {node} {}", why.words()),
         Why::Past { node, column } => write!(out, " {node} {column}"),
         _ => Ok(()),
     }

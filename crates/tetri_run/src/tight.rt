@@ -8,7 +8,7 @@ ghost use Rattle.tetri_run.specs.Status.{IsSilent, IsTightPromised};
 ghost use Rattle.tetri_run.specs.declared.why.Why.{Why};
 ghost use Rattle.tetri_trace.specs.Lines.{scenario_in};
 ghost use Rattle.tetri_trace.specs.Scenario.{Scenario};
-ghost use Rattle.tetri_trace.specs.declared.fault.TraceWhy.{TraceWhy};
+ghost use Rattle.tetri_notice.specs.declared.fault.TraceWhy.{TraceWhy};
 
 use crate::cycles::run_told;
 use crate::status::Status;

@@ -10,7 +10,7 @@ ghost use Rattle.tetri_run.specs.ByParts.{IsPartsPromised};
 ghost use Rattle.tetri_run.specs.Check.{IsAccepted};
 ghost use Rattle.tetri_run.specs.Status.{IsCheckPromised, IsLoadAnswer, IsPromised, IsPromisedOf, IsRefusal, IsSilent, IsTightPromised, RoseOf, status_of, trace_of};
 ghost use Rattle.tetri_run.specs.declared.why.Why.{Why};
-ghost use Rattle.tetri_trace.specs.declared.fault.TraceWhy.{TraceWhy};
+ghost use Rattle.tetri_notice.specs.declared.fault.TraceWhy.{TraceWhy};
 ghost use Rattle.tetri_run.specs.Words.{Asked, asked, texts, to_admit, to_check, to_load, to_parts, to_plan, to_tight};
 ghost use Rattle.tetri_trace.specs.Lines.{scenario_in};
 ghost use Rattle.tetri_trace.specs.Scenario.{Scenario};

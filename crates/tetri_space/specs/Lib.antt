@@ -12,3 +12,4 @@ pub mod Space
 pub mod Spans
 pub mod Total
 pub mod Trimmed
+pub mod Words

@@ -20,6 +20,7 @@ mod runs;
 mod spans;
 mod totals;
 mod trimming;
+mod words;
 
 pub use closure::Closure;
 pub use closures::Closures;

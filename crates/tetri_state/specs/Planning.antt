@@ -9,6 +9,7 @@ use Rattle.tetri_space.specs.Space.{Bid, Space, leaf_in}
 use Rattle.tetri_space.specs.Lawful.{IsLawful}
 use Rattle.tetri_trace.specs.Scenario.{Scenario}
 use Rattle.tetri_state.specs.declared.pieces.Piece.{Piece}
+use Rattle.tetri_state.specs.Begin.{begin}
 use Rattle.tetri_state.specs.Snapshot.{Snapshot, offered}
 
 abbrev pub expected_or : ℕ → Option Piece → ℕ
@@ -40,6 +41,10 @@ instance_of t s = record {
   closures = t.closures;
   bids = map (bid_of t s.now) s.pending;
 }
+
+-- what the cycle plans for that begins in this state
+abbrev pub instance_at : Scenario → Snapshot → Space
+instance_at t s = instance_of t (begin t s)
 
 -- the leaf is there, and starts in the window
 abbrev pub is_live : Space → Option Leaf → Bool

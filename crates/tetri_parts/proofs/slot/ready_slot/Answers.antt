@@ -5,11 +5,11 @@ use Rattle.tetri_space.specs.Space.{Bid, Space, space}
 use Rattle.tetri_state.specs.Begin.{Occurrences, occurrences, occurring}
 use Rattle.tetri_state.specs.Known.{AreOfJobs}
 use Rattle.tetri_state.specs.Launch.{launched_in, starts_now, worth_launched}
-use Rattle.tetri_state.specs.Planning.{IsCarry, instance_of}
+use Rattle.tetri_state.specs.Planning.{IsCarry, instance_at, instance_of}
 use Rattle.tetri_state.specs.Readied.{Fits, IsLaunchOf}
 use Rattle.tetri_state.specs.Snapshot.{Snapshot}
 use Rattle.tetri_trace.specs.Scenario.{scenario}
-use Rattle.tetri_parts.specs.Cycle.{ArePlansByPart, PartsCycle, instance_at}
+use Rattle.tetri_parts.specs.Cycle.{ArePlansByPart, PartsCycle}
 use Rattle.tetri_parts.proofs.PrintLaws.{kept_within}
 use Rattle.tetri_parts.proofs.RunLemmas.{cycle_lines}
 use Rattle.tetri_parts.proofs.slot.ready_slot.Goals as goal

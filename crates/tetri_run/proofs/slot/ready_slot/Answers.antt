@@ -7,13 +7,13 @@ use Rattle.tetri_space.specs.Space.{Bid, Space, space}
 use Rattle.tetri_state.specs.Begin.{occurrences}
 use Rattle.tetri_state.specs.Known.{AreOfJobs}
 use Rattle.tetri_state.specs.Launch.{worth_launched}
-use Rattle.tetri_state.specs.Planning.{IsCarry, instance_of}
+use Rattle.tetri_state.specs.Planning.{IsCarry, instance_at, instance_of}
 use Rattle.tetri_state.specs.Readied.{Fits, IsLaunchOf}
 use Rattle.tetri_state.specs.Snapshot.{Snapshot}
 use Rattle.tetri_trace.specs.Scenario.{scenario}
 use Rattle.tetri_judge.specs.PlanOf.{planned}
 use Rattle.tetri_plan.specs.Chosen.{IsChosen}
-use Rattle.tetri_run.specs.Cycle.{IsPlanFor, instance_at}
+use Rattle.tetri_run.specs.Cycle.{IsPlanFor}
 use Rattle.tetri_run.specs.Advised.{IsAdvice}
 use Rattle.tetri_run.specs.Telling.{IsTold}
 use Rattle.tetri_run.proofs.PrintLemmas.{cycle_printable}
