@@ -117,7 +117,7 @@ above_not_below : (a : ℚ) → is_positive a ≡ true → NotBelow a
 above_not_below a s = record { sign = above_sign a.num s }
 
 -- ---- the objective's coefficients
-get-plus_scaled : (f : ℚ) (u v : List ℚ) (k : ℕ) → get_or (plus_scaled ℚ_ring f u v) k zero_ℚ ≡ ◌+ℚ◌ (get_or u k zero_ℚ) (◌*ℚ◌ f (get_or v k zero_ℚ))
+pub get-plus_scaled : (f : ℚ) (u v : List ℚ) (k : ℕ) → get_or (plus_scaled ℚ_ring f u v) k zero_ℚ ≡ ◌+ℚ◌ (get_or u k zero_ℚ) (◌*ℚ◌ f (get_or v k zero_ℚ))
 get-plus_scaled f [] [] k = ring ℚ_ring (f ∷ []) nil (nil ⊕ var 0 ⊗ nil) refl
 get-plus_scaled f [] (b ∷ v) zero = refl
 get-plus_scaled f [] (b ∷ v) (suc k) = get-plus_scaled f [] v k

@@ -49,3 +49,8 @@ pub mod MixedChoices
 pub mod WholeTables
 pub mod WholeStart
 pub mod WholeEntering
+pub mod HolderBits
+pub mod HolderRows
+pub mod HolderPivots
+pub mod HolderTerms
+pub mod BelowRows

@@ -1,5 +1,5 @@
 -- Dictionaries of whole numbers beside their tables.
-use Rattle.std.proofs.Common.{◌≡◌, ℕ, ◌+◌, ◌^◌, ◌<◌, sym, ap, ◌∙◌, subst, arith, List, length, get_or, set, Option, None, Result, Ok}
+use Rattle.std.proofs.Common.{◌≡◌, ℕ, ◌+◌, ◌^◌, ◌<◌, sym, ap, ◌∙◌, subst, arith, List, Bool, length, get_or, set, Option, None, Result, Ok}
 use Prim.Native.Nat.{suc}
 use Rattle.std.specs.Global.{Vec}
 use Rattle.std.specs.Vec.{with_items}
@@ -12,6 +12,8 @@ use Rattle.tetri_simplex.specs.declared.fault.PivotFault.TheVariants.{Past, NoMe
 use Rattle.tetri_simplex.specs.declared.mixed.MixedRow.{MixedRow}
 use Rattle.tetri_simplex.specs.declared.whole.Whole.{Whole}
 use Rattle.tetri_simplex.specs.Choices.{entering, entering_from, leaving, leaving_from}
+use Rattle.tetri_simplex.specs.Below.{below_of}
+use Rattle.tetri_simplex.specs.Holders.{AreHolders}
 use Rattle.tetri_simplex.specs.Faults.{IsFault}
 use Rattle.tetri_simplex.specs.Mixed.{mixed_row, mixed_rows, IsMixedRow, AreMixedRows}
 use Rattle.tetri_simplex.specs.Pivots.{pivoted, pivoted_rows}
@@ -37,10 +39,9 @@ coefficient_read t i j r x h e xe =
     let s : j + 1 ≡ suc j = omega arith in
     xe ∙ ap (λ k. get_or (mixed_row r) k zero_ℚ) s ∙ sym (coefficient_at (mixed_row r) j) ∙ sym (ap (λ (xs : List ℚ). get_or (coefficients_of xs) j zero_ℚ) (row_read t i r h e))
 
-pub leaving_is : (t : Whole) (basic : List ℕ) (rows : List MixedRow) (o : Option ℕ) → basic ≡ t.basic.items → rows ≡ t.rows.items → o ≡ leaving_from basic 0 basic (mixed_rows rows) None → o ≡ leaving (table_of t)
+pub leaving_is : (t : Whole) (basic : List ℕ) (below : List Bool) (o : Option ℕ) → IsWhole t → basic ≡ t.basic.items → below ≡ t.below.items → ((rows : List (List ℚ)) → below ≡ below_of rows → o ≡ leaving_from basic 0 basic rows None) → o ≡ leaving (table_of t)
 unfolding leaving
-leaving_is t basic rows o be re e =
-    e ∙ ap (λ bs. leaving_from bs 0 bs (mixed_rows rows) None) be ∙ ap (λ us. leaving_from t.basic.items 0 t.basic.items (mixed_rows us) None) re
+leaving_is t basic below o s be re h = h (mixed_rows t.rows.items) (re ∙ s.below) ∙ ap (λ bs. leaving_from bs 0 bs (mixed_rows t.rows.items) None) be
 
 pub entering_is : (t : Whole) (i k : ℕ) (vs : List ℕ) (r o : MixedRow) → vs ≡ t.nonbasic.items → i < length t.rows.items → length t.basic.items < length t.rows.items → k ≡ length t.basic.items →
     r ≡ get_or t.rows.items i r → o ≡ get_or t.rows.items k o → entering_from vs i 0 (coefficients_of (mixed_row r)) (coefficients_of (mixed_row o)) None ≡ entering (table_of t) i
@@ -73,8 +74,8 @@ pivoted_fault t n i j old NoMemory ne oe e = tt
 
 -- what a pivot leaves is sound
 pub pivot_sound : (t after : Whole) (n i j x y : ℕ) (old new : List MixedRow) → IsWhole t → n ≡ length t.nonbasic.items → old ≡ t.rows.items → length new ≡ length old →
-    after.nonbasic.items ≡ set t.nonbasic.items j x → after.basic.items ≡ set t.basic.items i y → after.rows ≡ with_items t.rows new → AreMixedRows n new → IsWhole after
-pivot_sound t after n i j x y old new s ne oe le ae be ce h =
+    after.nonbasic.items ≡ set t.nonbasic.items j x → after.basic.items ≡ set t.basic.items i y → after.rows ≡ with_items t.rows new → AreMixedRows n new → after.below.items ≡ below_of (mixed_rows new) → AreHolders n after.holders.items (mixed_rows new) → IsWhole after
+pivot_sound t after n i j x y old new s ne oe le ae be ce h bh hh =
     let a : length after.nonbasic.items ≡ length t.nonbasic.items = ap (λ (zs : List ℕ). length zs) ae ∙ length-set t.nonbasic.items j x in
     let b : length after.basic.items ≡ length t.basic.items = ap (λ (zs : List ℕ). length zs) be ∙ length-set t.basic.items i y in
     let d : after.rows.items ≡ new = ap (λ (v : Vec MixedRow). v.items) ce ∙ items_are t.rows new (le ∙ ap length oe) in
@@ -82,6 +83,8 @@ pivot_sound t after n i j x y old new s ne oe le ae be ce h =
     record {
       rows = m ∙ s.rows ∙ ap (λ z. z + 1) (sym b);
       wide = subst (λ (us : List MixedRow). AreMixedRows (length after.nonbasic.items) us) (sym d) (subst (λ z. AreMixedRows z new) (ne ∙ sym a) h);
+      below = bh ∙ ap (λ (us : List MixedRow). below_of (mixed_rows us)) (sym d);
+      holders = subst (λ (us : List MixedRow). AreHolders (length after.nonbasic.items) after.holders.items (mixed_rows us)) (sym d) (subst (λ z. AreHolders z after.holders.items (mixed_rows new)) (ne ∙ sym a) hh);
       few_rows = subst (λ z. z < 2 ^ 32) (sym m) s.few_rows;
       few_columns = subst (λ z. z < 2 ^ 31) (sym a) s.few_columns;
     }

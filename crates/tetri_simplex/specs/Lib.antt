@@ -18,3 +18,5 @@ pub mod Sparse
 pub mod Mixed
 pub mod Whole
 pub mod WholeRatios
+pub mod Holders
+pub mod Below

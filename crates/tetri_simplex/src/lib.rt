@@ -8,6 +8,7 @@ mod fault;
 mod first_places;
 mod fractions;
 mod full;
+mod holders;
 mod laws;
 mod lines;
 mod merging;

@@ -1,14 +1,17 @@
 //! Rows that are whole numbers over one denominator where these are short, and fractions else. Such
 //! rows under a pivot.
 
-ghost use Rattle.std.specs.Prelude.{◌≡◌, ◌≢◌, ℕ, ◌+◌, ◌<◌, ◌≤◌, ◌^◌, length, get_or, set, suc, [], Ok, Err, Some, None, MatchOption, MatchResult, IfOk, IfSome, IsTrue, pos};
+ghost use Rattle.std.specs.Prelude.{◌≡◌, ◌≢◌, ℕ, List, ◌+◌, ◌/◌, ◌<◌, ◌≤◌, ◌^◌, length, get_or, set, suc, [], Ok, Err, Some, None, MatchOption, MatchResult, IfOk, IfSome, IsTrue, pos};
+ghost use Rattle.tetri_algebra.specs.Rational.{ℚ};
 ghost use Rattle.tetri_algebra.specs.RationalRing.{zero_ℚ};
 ghost use Rattle.tetri_num.specs.Frac.{value};
 ghost use Rattle.tetri_rows.specs.Rows.{meaning};
 ghost use Rattle.tetri_simplex.specs.Choices.{leaving_from, entering_from, has_positive};
 ghost use Rattle.tetri_simplex.specs.Candidates.{candidate_of, IsCandidate};
+ghost use Rattle.tetri_simplex.specs.Below.{below_of};
 ghost use Rattle.tetri_simplex.specs.Faults.{IsFault};
 ghost use Rattle.tetri_simplex.specs.Fractions.{values};
+ghost use Rattle.tetri_simplex.specs.Holders.{IsHolder};
 ghost use Rattle.tetri_simplex.specs.Mixed.{mixed_row, mixed_rows, AreWholeNumbers, IsMixedRow, AreMixedRows, AreTermsOfRow, IsReplacedAt};
 ghost use Rattle.tetri_simplex.specs.Pivots.{solved_row, replaced_row, next_row, pivoted_rows};
 ghost use Rattle.tetri_simplex.specs.Steps.{each};
@@ -17,6 +20,7 @@ ghost use Rattle.tetri_simplex.specs.Tables.{coefficients_of, is_negative, is_po
 use crate::choices::{Candidate, has_positive, lesser_place, lesser_ratio};
 use crate::fault::PivotFault;
 use crate::fractions::{is_negative, is_positive, is_zero, negated};
+use crate::holders::{clear_bit, next_set};
 use crate::rows::{replace_row, solved_row};
 use crate::whole_choices::entering_whole;
 use std::alloc::{AllocError, Global};
@@ -71,16 +75,16 @@ fn is_positive_at(columns: u32, row: &MixedRow, k: usize) -> bool
 }
 
 /// The basic place that leaves: of those with a constant below 0 the one with the least variable.
-pub(crate) fn leaving_row(columns: u32, basic: &[usize], rows: &[MixedRow]) -> Option<u32>
-    requires rows { AreMixedRows columns rows.now }
-    requires few { length rows.now < 2 ^ 32 }
-    requires enough { length basic.now < length rows.now }
-    ensures place { result ≡ leaving_from basic.now 0 basic.now (mixed_rows rows.now) None }
+/// `below` tells which rows' constants are below 0.
+pub(crate) fn leaving_row(basic: &[usize], below: &[bool]) -> Option<u32>
+    requires few { length below.now < 2 ^ 32 }
+    requires enough { length basic.now < length below.now }
+    ensures place { (rows : List (List ℚ)) → below.now ≡ below_of rows → result ≡ leaving_from basic.now 0 basic.now rows None }
     ensures within { IfSome result (λ i. i < length basic.now) }
 {
     let mut best = None;
     for k in 0..basic.len() {
-        if is_negative_at(columns, &rows[k], 0) {
+        if below[k] {
             best = lesser_place(basic, best, k as u32);
         }
     }
@@ -218,7 +222,7 @@ fn solved_mixed(
 
 // Whether the number at place k is 0.
 #[inline(always)]
-fn is_zero_at(columns: u32, row: &MixedRow, k: usize) -> bool
+pub(crate) fn is_zero_at(columns: u32, row: &MixedRow, k: usize) -> bool
     requires row { IsMixedRow columns row.now }
     requires within { k ≤ columns }
     ensures { IsTrue result → get_or (mixed_row row.now) k zero_ℚ ≡ zero_ℚ }
@@ -332,12 +336,13 @@ fn replaced_mixed(
     }
 }
 
-// Puts the solved row in for the variable at place j of the row at place k. A row without the
-// variable stays untouched.
+// Puts the solved row in for the variable at place j of the row at place k.
+#[inline(always)]
 fn replace_at(
     alloc: Global,
     columns: u32,
     rows: &mut [MixedRow],
+    below: &mut [bool],
     solved: &MixedRow,
     terms: &Terms,
     k: usize,
@@ -346,19 +351,19 @@ fn replace_at(
     requires rows { AreMixedRows columns rows.old }
     requires few { length rows.old < 2 ^ 32 }
     requires row { k < length rows.old }
+    requires below { below.old ≡ below_of (mixed_rows rows.old) }
     requires solved { IsMixedRow columns solved.now }
     requires terms { AreTermsOfRow solved.now terms.now }
     requires place { j < columns }
     ensures formed { let next = replaced_row columns k j (mixed_row solved.now) (get_or (mixed_rows rows.old) k []) in
         MatchResult result (λ _. IsReplacedAt columns k j (mixed_row solved.now) rows.old rows.new) (λ e. IsFault e next) }
     ensures sound { IfOk result (λ _. AreMixedRows columns rows.new) }
+    ensures below { IfOk result (λ _. below.new ≡ below_of (mixed_rows rows.new)) }
 {
-    if is_zero_at(columns, &rows[k], j as usize + 1) {
-        return Ok(());
-    }
     let old = mem::replace(&mut rows[k], MixedRow::Fractions(Vec::new(alloc)));
     match replaced_mixed(alloc, columns, old, solved, terms, k as u32, j) {
         Ok(new) => {
+            below[k] = is_negative_at(columns, &new, 0);
             rows[k] = new;
             Ok(())
         }
@@ -366,11 +371,15 @@ fn replace_at(
     }
 }
 
-// Puts the solved row in for the variable at place j in each row but that at place i.
+// Puts the solved row in for the variable at place j in each row but that at place i. A row without
+// the variable stays untouched, and its bit in `own` is cleared; where `own` has no bit, the row is not
+// even looked at.
 fn replace_mixed(
     alloc: Global,
     columns: u32,
     rows: &mut [MixedRow],
+    below: &mut [bool],
+    own: &mut [u64],
     solved: &MixedRow,
     terms: &Terms,
     i: u32,
@@ -379,30 +388,46 @@ fn replace_mixed(
     requires rows { AreMixedRows columns rows.old }
     requires few { length rows.old < 2 ^ 32 }
     requires row { i < length rows.old }
+    requires below { below.old ≡ below_of (mixed_rows rows.old) }
+    requires holder { IsHolder own.old (mixed_rows rows.old) j }
+    requires wide { length own.old ≡ length rows.old / 64 + 1 }
     requires solved { IsMixedRow columns solved.now }
     requires terms { AreTermsOfRow solved.now terms.now }
     requires place { j < columns }
     ensures formed { let next = each (next_row columns i j (mixed_row solved.now)) 0 (mixed_rows rows.old) in
         MatchResult result (λ _. next ≡ Ok (set (mixed_rows rows.new) i (mixed_row solved.now))) (λ e. IsFault e next) }
     ensures sound { IfOk result (λ _. AreMixedRows columns rows.new) }
+    ensures below { IfOk result (λ _. below.new ≡ below_of (mixed_rows rows.new)) }
+    ensures holder { IsHolder own.new (mixed_rows rows.old) j }
 {
-    for k in 0..rows.len() {
-        if k != i as usize {
-            match replace_at(alloc, columns, rows, solved, terms, k, j) {
+    let mut from = 0;
+    for _ in 0..rows.len() {
+        let k = next_set(own, from, rows.len());
+        if k == rows.len() {
+            return Ok(());
+        }
+        if is_zero_at(columns, &rows[k], j as usize + 1) {
+            clear_bit(own, k);
+        } else if k != i as usize {
+            match replace_at(alloc, columns, rows, below, solved, terms, k, j) {
                 Ok(()) => {}
                 Err(fault) => return Err(fault),
             }
         }
+        from = k + 1;
     }
     Ok(())
 }
 
-/// Exchanges the basic place i and the nonbasic place j in the rows of a dictionary. What `terms`
-/// holds does not matter.
+/// Exchanges the basic place i and the nonbasic place j in the rows of a dictionary. `below` tells which
+/// constants are below 0, and `own` the rows that may hold the variable; the bits of those that do not are
+/// cleared. What `terms` holds does not matter; in the end it has the terms of row i, where that is whole.
 pub(crate) fn pivot_mixed(
     alloc: Global,
     columns: u32,
     rows: &mut [MixedRow],
+    below: &mut [bool],
+    own: &mut [u64],
     terms: &mut Terms,
     i: u32,
     j: u32,
@@ -411,10 +436,16 @@ pub(crate) fn pivot_mixed(
     requires few { length rows.old < 2 ^ 32 }
     requires row { i < length rows.old }
     requires place { j < columns }
+    requires below { below.old ≡ below_of (mixed_rows rows.old) }
+    requires holder { IsHolder own.old (mixed_rows rows.old) j }
+    requires wide { length own.old ≡ length rows.old / 64 + 1 }
     requires pivot { (get_or (get_or (mixed_rows rows.old) i []) (suc j) zero_ℚ).num ≢ pos 0 }
     ensures formed { let next = pivoted_rows columns i j (mixed_rows rows.old) in
         MatchResult result (λ _. next ≡ Ok (mixed_rows rows.new)) (λ e. IsFault e next) }
     ensures sound { IfOk result (λ _. AreMixedRows columns rows.new) }
+    ensures below { IfOk result (λ _. below.new ≡ below_of (mixed_rows rows.new)) }
+    ensures holder { IsHolder own.new (mixed_rows rows.old) j }
+    ensures terms { IfOk result (λ _. (r : MixedRow) → AreTermsOfRow (get_or rows.new i r) terms.new) }
 {
     let solved = match solved_mixed(alloc, columns, &rows[i as usize], i, j) {
         Ok(solved) => solved,
@@ -423,11 +454,28 @@ pub(crate) fn pivot_mixed(
     if list_terms(columns, &solved, terms).is_err() {
         return Err(PivotFault::NoMemory);
     }
-    match replace_mixed(alloc, columns, rows, &solved, terms, i, j) {
+    match replace_mixed(alloc, columns, rows, below, own, &solved, terms, i, j) {
         Ok(()) => {
+            below[i as usize] = is_negative_at(columns, &solved, 0);
             rows[i as usize] = solved;
             Ok(())
         }
         Err(fault) => Err(fault),
     }
+}
+
+/// Which rows' constants are below 0.
+pub(crate) fn below_of(
+    alloc: Global,
+    columns: u32,
+    rows: &[MixedRow],
+) -> Result<Vec<bool>, AllocError>
+    requires { AreMixedRows columns rows.now }
+    ensures { IfOk result (λ v. v.items ≡ below_of (mixed_rows rows.now)) }
+{
+    let mut below = Vec::new(alloc);
+    for k in 0..rows.len() {
+        below.push(is_negative_at(columns, &rows[k], 0))?;
+    }
+    Ok(below)
 }

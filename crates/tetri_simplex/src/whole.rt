@@ -3,7 +3,8 @@
 use crate::choices::Candidate;
 use crate::dictionary::Dictionary;
 use crate::fault::PivotFault;
-use crate::mixed::{MixedRow, entering_row, leaving_row, number_at, pivot_mixed, rises};
+use crate::holders::pivot_held;
+use crate::mixed::{MixedRow, entering_row, leaving_row, number_at, rises};
 use crate::whole_start::first_whole;
 use std::alloc::{AllocError, Global};
 use std::mem;
@@ -20,6 +21,10 @@ pub struct Whole {
     pub(crate) basic: Vec<usize>,
     // the rows of the basic places, and last the objective's
     pub(crate) rows: Vec<MixedRow>,
+    // whether the constant of each row is below 0
+    pub(crate) below: Vec<bool>,
+    // for each nonbasic place, which rows may have its variable
+    pub(crate) holders: Vec<Vec<u64>>,
     // where a pivot lists the terms of the entering variable's row
     pub(crate) terms: Terms,
 }
@@ -54,7 +59,7 @@ impl Dictionary for Whole {
     }
 
     fn leaving(&self) -> Option<u32> {
-        leaving_row(self.nonbasic.len() as u32, &self.basic, &self.rows)
+        leaving_row(&self.basic, &self.below)
     }
 
     fn rises(&self, row: u32) -> bool {
@@ -69,7 +74,18 @@ impl Dictionary for Whole {
     fn pivot(&mut self, alloc: Global, row: u32, column: u32) -> Result<(), PivotFault> {
         let columns = self.nonbasic.len() as u32;
         let rows = &mut self.rows;
-        match pivot_mixed(alloc, columns, rows, &mut self.terms, row, column) {
+        let below = &mut self.below;
+        let holders = &mut self.holders;
+        match pivot_held(
+            alloc,
+            columns,
+            rows,
+            below,
+            holders,
+            &mut self.terms,
+            row,
+            column,
+        ) {
             Ok(()) => {
                 mem::swap(
                     &mut self.nonbasic[column as usize],

@@ -12,8 +12,9 @@ ghost use Rattle.tetri_simplex.specs.Sparse.{AreEntries, AreLines, line_of, line
 ghost use Rattle.tetri_simplex.specs.Start.{first_table};
 ghost use Rattle.tetri_simplex.specs.Whole.{table_of, IsWhole};
 
+use crate::holders::holders_of;
 use crate::lines::{Entry, Line, number_of};
-use crate::mixed::MixedRow;
+use crate::mixed::{MixedRow, below_of};
 use crate::start_lines::first_sparse;
 use crate::whole::Whole;
 use std::alloc::{AllocError, Global};
@@ -108,11 +109,16 @@ pub(crate) fn first_whole(alloc: Global, p: &Program, r: &Region) -> Result<Whol
     ensures sound { IfOk result (λ t. IsWhole t) }
 {
     let sparse = first_sparse(alloc, p, r)?;
-    let rows = rows_of_lines(alloc, sparse.nonbasic.len() as u32, &sparse.lines)?;
+    let columns = sparse.nonbasic.len() as u32;
+    let rows = rows_of_lines(alloc, columns, &sparse.lines)?;
+    let below = below_of(alloc, columns, &rows)?;
+    let holders = holders_of(alloc, columns, &rows)?;
     Ok(Whole {
         nonbasic: sparse.nonbasic,
         basic: sparse.basic,
         rows,
+        below,
+        holders,
         terms: Terms::new(alloc),
     })
 }

@@ -4,8 +4,9 @@
 //! limits for each row and each column of the square, over full tables, over rows of entries or over
 //! rows of whole numbers. `tetri_simplex_bench full|sparse|whole FILE` runs the program of a file of
 //! numbers (`read::program`). It writes the multiplier and the sum of the weights of the best point to
-//! standard output, and the nanoseconds of the run to standard error. Without arguments it runs a
-//! small program in each way, and no time is written.
+//! standard output, and the nanoseconds of the run to standard error. Without arguments it runs three small
+//! squares in each way, and no time is written: one with short numbers; one in which the objective's numbers,
+//! over their least common denominator, are no longer short in the middle of the run and short again at its end; and one in which they stay long.
 #![tactic(auto)]
 
 ghost use Rattle.std.specs.Prelude.{◌≤◌};
@@ -61,21 +62,38 @@ fn main(rt: HostRuntime) -> io::Result<()> {
         let p = program(alloc, &mut numbers)?;
         return measure(&rt, alloc, &p, kind, true);
     }
+    if given == 0 {
+        run_each(&rt, alloc, 3, 3)?;
+        run_each(&rt, alloc, 6, 11)?;
+        return run_each(&rt, alloc, 6, 17);
+    }
     let [side, kinds] = sizes;
     if 1 <= side && side <= 64 && 1 <= kinds && kinds <= 100 {
         let p = square(alloc, side, kinds)?;
-        if given == 0 {
-            measure(&rt, alloc, &p, Kind::Full, false)?;
-            measure(&rt, alloc, &p, Kind::Sparse, false)?;
-            measure(&rt, alloc, &p, Kind::Whole, false)
-        } else {
-            measure(&rt, alloc, &p, kind, true)
-        }
+        measure(&rt, alloc, &p, kind, true)
     } else {
         eprintln!(rt;
             "usage: tetri_simplex_bench full|sparse|whole SIDE KINDS, or full|sparse|whole FILE"
         )
     }
+}
+
+// Runs a square over each kind of dictionary.
+fn run_each(
+    rt: &(impl CpuClock + Print + Eprint),
+    alloc: Global,
+    side: u32,
+    kinds: u32,
+) -> io::Result<()>
+    requires some { 1 ≤ side }
+    requires small { side ≤ 64 }
+    requires kinds { 1 ≤ kinds }
+    requires few_kinds { kinds ≤ 100 }
+{
+    let p = square(alloc, side, kinds)?;
+    measure(rt, alloc, &p, Kind::Full, false)?;
+    measure(rt, alloc, &p, Kind::Sparse, false)?;
+    measure(rt, alloc, &p, Kind::Whole, false)
 }
 
 fn sum(weights: &[Weight]) -> i128 {

@@ -1,4 +1,5 @@
-use Rattle.std.proofs.Common.{get_or}
+use Rattle.std.proofs.Common.{get_or, refl}
+use Rattle.tetri_simplex.proofs.BelowRows.{below_set}
 use Rattle.tetri_simplex.proofs.MixedPivots.{own_read, mixed_fault, mixed_pivoted, mixed_unsolved}
 use Rattle.tetri_simplex.proofs.mixed.pivot_mixed.Goals as goal
 
@@ -12,3 +13,7 @@ returns-in-Ok-replace_mixed-clause-formed c =
 pub returns-in-Err-replace_mixed-clause-formed : goal.returns-in-Err-replace_mixed-clause-formed
 returns-in-Err-replace_mixed-clause-formed c =
     mixed_fault c.args.columns c.args.i c.args.j c.args.rows.now (get_or c.args.rows.now c.args.i c.index-rows-i.result) c.in-Ok.solved c.in-Err-replace_mixed.fault c.requires.row (own_read c.args.rows.now c.args.i c.index-rows-i.result c.requires.row) c.in-Ok.ensures.formed c.in-Err-replace_mixed.ensures.formed
+
+pub returns-in-Ok-replace_mixed-clause-below : goal.returns-in-Ok-replace_mixed-clause-below
+returns-in-Ok-replace_mixed-clause-below c =
+    below_set c.replace_mixed.new.below _ c.replace_mixed.new.rows _ c.args.i c.is_negative_at.result c.in-Ok.solved c.in-Ok-replace_mixed.ensures.below refl refl c.is_negative_at.ensures

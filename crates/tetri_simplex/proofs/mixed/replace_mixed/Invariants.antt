@@ -1,12 +1,19 @@
-use Rattle.std.proofs.Common.{◌≡◌}
+use Rattle.std.proofs.Common.{◌≡◌, ◌≤◌, ℕ, [], length, get_or}
+use Rattle.tetri_simplex.specs.Below.{below_of}
+use Rattle.tetri_simplex.specs.Holders.{IsHolder}
 use Rattle.tetri_simplex.specs.Mixed.{mixed_row, mixed_rows, AreMixedRows}
 use Rattle.tetri_simplex.specs.Pivots.{next_row}
 use Rattle.tetri_simplex.specs.Steps.{each}
 use Rattle.tetri_simplex.proofs.TableRows.{rest_of}
 use Rattle.tetri_simplex.proofs.mixed.replace_mixed.Given as goal
 
-abbrev pub invariant-loop-k : goal.invariant-loop-k
-invariant-loop-k l = record {
-  formed : rest_of (next_row l.columns l.i l.j (mixed_row l.solved)) l.i (mixed_row l.solved) (mixed_rows l.rows) l.k ≡ each (next_row l.columns l.i l.j (mixed_row l.solved)) 0 (mixed_rows l.fn.rows);
+abbrev pub invariant-loop : goal.invariant-loop
+invariant-loop l = record {
+  formed : rest_of (next_row l.columns l.i l.j (mixed_row l.solved)) l.i (mixed_row l.solved) (mixed_rows l.rows) l.from ≡ each (next_row l.columns l.i l.j (mixed_row l.solved)) 0 (mixed_rows l.fn.rows);
   sound : AreMixedRows l.columns l.rows;
+  below : l.below ≡ below_of (mixed_rows l.rows);
+  holder : IsHolder l.own (mixed_rows l.fn.rows) l.j;
+  there : (q : ℕ) → l.from ≤ q → get_or (mixed_rows l.rows) q [] ≡ get_or (mixed_rows l.fn.rows) q [];
+  least : l.counter ≤ l.from;
+  most : l.from ≤ length l.rows;
 }

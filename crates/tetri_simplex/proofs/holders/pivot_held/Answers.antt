@@ -1,0 +1,26 @@
+use Rattle.std.proofs.Common.{◌≡◌, ◌<◌, ℕ, List, length, get_or, ap, sym, subst, ◌∙◌, inl, inr, ⊎_elim}
+use Rattle.std.specs.Global.{Vec}
+use Rattle.std.specs.Prelude.{All}
+use Rattle.std.specs.Vec.{with_items}
+use Rattle.tetri_simplex.specs.Holders.{bit}
+use Rattle.tetri_simplex.proofs.FullTables.{items_are}
+use Rattle.tetri_simplex.proofs.HolderPivots.{held_after}
+use Rattle.tetri_simplex.proofs.MixedPivots.{own_read}
+use Rattle.tetri_simplex.proofs.holders.pivot_held.Goals as goal
+
+pub returns-in-Ok-clause-holders : goal.returns-in-Ok-clause-holders
+returns-in-Ok-clause-holders c =
+    let hs = c.args.holders.now in
+    let own = c.pivot_mixed.new.own in
+    let v = with_items c.in_ok-own.own own in
+    let old = c.deref_mut.ensures.value in
+    let ve : v.items ≡ own = items_are c.in_ok-own.own own (c.pivot_mixed.auto.own ∙ ap length old) in
+    let read : c.deref-in-Ok.result.now ≡ own = c.deref-in-Ok.ensures.value ∙ ve in
+    let h = c.requires.holders in
+    let l : c.args.j < length hs = subst (λ z. c.args.j < z) (sym h.columns) c.requires.place in
+    let wide = c.pivot_mixed.auto.own ∙ ap length (old ∙ c.in_ok-own.ensures ∙ c.deref.ensures.value) ∙ h.words c.args.j c.index-holders-j.result l in
+    let i : c.args.i < length c.pivot_mixed.new.rows = subst (λ z. c.args.i < z) (sym c.pivot_mixed.auto.rows) c.requires.row in
+    held_after c.args.columns c.args.i c.args.j c.args.rows.now c.pivot_mixed.new.rows hs c.spread.new.holders own v (get_or c.pivot_mixed.new.rows c.args.i c.index-rows-i.result) h c.requires.row c.requires.place c.in-Ok.ensures.formed c.requires.pivot
+    c.pivot_mixed.ensures.holder c.pivot_mixed.auto.rows (own_read c.pivot_mixed.new.rows c.args.i c.index-rows-i.result i) ve wide c.spread.auto.holders
+    (subst (λ (us : List ℕ). All (λ (u : Vec ℕ). length u.items ≡ length us) c.spread.new.holders) read c.spread.ensures.words) c.spread.ensures.before
+    (λ p q m b. ⊎_elim (λ z. inl z) (λ z. inr (subst (λ (us : List ℕ). bit us q ≡ 0) read z)) (c.spread.ensures.own p q m b))
