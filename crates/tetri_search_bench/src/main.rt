@@ -3,7 +3,8 @@
 //! `tetri_search_bench [time] TRACE LOW BUDGET ..` searches, for each three words, the program of the
 //! instance that the trace in a file has at slot 0, knowing that LOW can be had. It writes the
 //! program's columns and rows, the best objective, the bound and the nodes, and then the tree's lines;
-//! with `time` no lines, and the nanoseconds of the search to standard error.
+//! with `time` no lines, but three numbers to standard error: the nanoseconds of the search, the
+//! nanoseconds of the dual runs of its nodes alone, made anew, and how many runs these are.
 #![tactic(auto)]
 
 ghost use Rattle.std.specs.Prelude.{IfOk, IfSome};
@@ -12,6 +13,9 @@ ghost use Rattle.tetri_space.specs.Space.{space};
 ghost use Rattle.tetri_trace.specs.Scenario.{scenario};
 ghost use Rattle.tetri_trace.specs.Sound.{IsSound};
 
+mod runs;
+
+use runs::all_runs;
 use std::alloc::{AllocError, Global};
 use std::rt::Files;
 use std::time::CpuClock;
@@ -69,7 +73,9 @@ fn measure(
         found.best, found.bound, found.nodes
     )?;
     if timed {
-        return eprintln!(rt; "{}", end.saturating_sub(start).as_nanos());
+        let runs = all_runs(rt, alloc, &c.program, low, found.marks.as_slice())?;
+        let whole = end.saturating_sub(start).as_nanos();
+        return eprintln!(rt; "{whole} {} {}", runs.time.as_nanos(), runs.count);
     }
     let lines = tree_lines(alloc, &found)?;
     print!(rt; "{lines}")
