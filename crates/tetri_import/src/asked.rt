@@ -1,0 +1,158 @@
+// The command line.
+use clap::{Arg, ArgMatches, Command, Error, value_parser};
+use std::alloc::Global;
+use tetri_logs::{Format, seconds_in};
+use tetri_placing::{Options, Worth};
+use tetri_request::Class;
+
+/// What is asked for: a log with its format, and how it becomes a trace.
+#[derive(Drop)]
+pub struct Asked<'a> {
+    pub format: Format,
+    pub log: &'a str,
+    pub options: Options,
+}
+
+// An option that holds a number.
+fn number<'a>(alloc: Global, name: &'a str, help: &'a str) -> Arg<'a> {
+    Arg::new(alloc, name)
+        .long(name)
+        .value_name("N")
+        .value_parser(value_parser!(u32))
+        .help(help)
+}
+
+// An option that holds a time.
+fn time<'a>(alloc: Global, name: &'a str, help: &'a str) -> Arg<'a> {
+    Arg::new(alloc, name)
+        .long(name)
+        .value_name("TIME")
+        .help(help)
+}
+
+// An option that holds one of a few words, the first by default.
+fn choice<'a>(alloc: Global, name: &'a str, words: &'a [&'a str], help: &'a str) -> Arg<'a> {
+    Arg::new(alloc, name)
+        .long(name)
+        .value_parser(words)
+        .help(help)
+}
+
+/// The command line of the program.
+pub fn command<'a>(alloc: Global) -> Result<Command<'a>, Error> {
+    let format = Arg::new(alloc, "format")
+        .required(true)
+        .value_parser(["swf", "sacct"].as_slice());
+    let log = Arg::new(alloc, "log").required(true);
+    let command = Command::new(alloc, "tetri_import")
+        .about("Writes the trace of an accounting log")
+        .arg(format)?
+        .arg(log)?
+        .arg(number(alloc, "slot", "seconds of a slot [default: 300]"))?
+        .arg(number(
+            alloc,
+            "processors",
+            "processors of a node [default: what the log says, or 1]",
+        ))?
+        .arg(number(
+            alloc,
+            "nodes",
+            "number of nodes [default: what the log says]",
+        ))?
+        .arg(number(
+            alloc,
+            "window",
+            "slots in which leaves may start [default: 16]",
+        ))?
+        .arg(number(alloc, "budget", "nodes of a search tree [default: 200]"))?
+        .arg(number(
+            alloc,
+            "unit",
+            "what each worth is multiplied by [default: 1]",
+        ))?
+        .arg(number(alloc, "jobs", "how many jobs are taken at most"))?
+        .arg(number(alloc, "slack", "slots that a job may wait [default: 288]"))?
+        .arg(time(
+            alloc,
+            "from",
+            "jobs that are submitted at this time or later",
+        ))?
+        .arg(time(alloc, "to", "jobs that are submitted before this time"))?
+        .arg(choice(
+            alloc,
+            "worth",
+            &["node-slots", "job"],
+            "what a job is worth",
+        ))?
+        .arg(choice(
+            alloc,
+            "class",
+            &["steady", "decay"],
+            "whether waiting costs",
+        ))?;
+    Ok(command)
+}
+
+fn number_of(matches: &ArgMatches, name: &str) -> Option<u32> {
+    matches.get_one::<u32>(name)
+}
+
+// The second since 1970 that a text says: a number of seconds, or as `2024-05-01T12:34:56`.
+fn second_in(text: &str) -> Option<u32> {
+    match seconds_in(text.as_bytes()) {
+        Some(second) => Some(second),
+        None => text.parse::<u32>().ok(),
+    }
+}
+
+// The time that an option holds, if it is given; `None` where it is no time.
+fn time_of(matches: &ArgMatches, name: &str) -> Option<Option<u32>> {
+    match matches.get_str(name) {
+        Some(text) => second_in(text).map(Some),
+        None => Some(None),
+    }
+}
+
+fn format_of(matches: &ArgMatches) -> Format {
+    match matches.get_str("format") {
+        Some("sacct") => Format::Sacct,
+        _ => Format::Swf,
+    }
+}
+
+fn worth_of(matches: &ArgMatches) -> Worth {
+    match matches.get_str("worth") {
+        Some("job") => Worth::Job,
+        _ => Worth::NodeSlots,
+    }
+}
+
+fn class_of(matches: &ArgMatches) -> Class {
+    match matches.get_str("class") {
+        Some("decay") => Class::Decay,
+        _ => Class::Steady,
+    }
+}
+
+/// What the words ask for. `None` where a time is no time.
+pub fn read_words<'a>(matches: &ArgMatches<'a>) -> Option<Asked<'a>> {
+    let options = Options {
+        slot: number_of(matches, "slot").unwrap_or(300),
+        processors: number_of(matches, "processors"),
+        nodes: number_of(matches, "nodes"),
+        window: number_of(matches, "window").unwrap_or(16),
+        budget: number_of(matches, "budget").unwrap_or(200),
+        unit: number_of(matches, "unit").unwrap_or(1),
+        from: time_of(matches, "from")?,
+        to: time_of(matches, "to")?,
+        jobs: number_of(matches, "jobs"),
+        worth: worth_of(matches),
+        slack: number_of(matches, "slack").unwrap_or(288),
+        class: class_of(matches),
+    };
+    Some(Asked {
+        format: format_of(matches),
+        log: matches.get_str("log").unwrap_or(""),
+        options,
+    })
+}

@@ -1,0 +1,9 @@
+pub mod Words
+pub mod Account
+pub mod Facts
+pub mod Lines
+pub mod Calendar
+pub mod Times
+pub mod Swf
+pub mod Sacct
+pub mod Entry

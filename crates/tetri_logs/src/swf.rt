@@ -1,0 +1,83 @@
+// A line of the Standard Workload Format: 18 numbers, where -1 says that a number is not known.
+ghost use Rattle.std.specs.Prelude.{◌≡◌, map};
+ghost use Rattle.tetri_logs.specs.Swf.{is_blank, is_comment, is_known_as, is_part, swf_account, width_of};
+
+use crate::account::{Account, Columns, account_of, positive};
+use crate::entry::Cause;
+use crate::words::{amount, needed};
+
+fn is_blank(b: u8) -> bool
+    ensures { result ≡ is_blank b }
+{
+    b == b' ' || b == b'\t' || b == b'\r'
+}
+
+/// Whether the first byte that is no blank begins a comment, or there is none.
+pub(crate) fn is_comment(line: &[u8]) -> bool
+    ensures { result ≡ is_comment line.now }
+{
+    for b in line {
+        if !is_blank(*b) {
+            return *b == b';';
+        }
+    }
+    true
+}
+
+// Whether a number is known, and is this one.
+fn is_known_as(expected: u32, number: Option<u32>) -> bool
+    ensures { result ≡ is_known_as expected number }
+{
+    match number {
+        Some(number) => number == expected,
+        None => false,
+    }
+}
+
+// Whether a status is that of a part of a job, beside which the whole has a line of its own.
+fn is_part(status: Option<u32>) -> bool
+    ensures { result ≡ is_part status }
+{
+    is_known_as(2, status) || is_known_as(3, status) || is_known_as(4, status)
+}
+
+// The processors that a job asked for, or else those that it was given.
+fn width_of(asked: Option<u32>, given: Option<u32>) -> Result<u32, Cause>
+    ensures { result ≡ width_of asked given }
+{
+    match (positive(asked), positive(given)) {
+        (Some(width), _) => Ok(width),
+        (None, Some(width)) => Ok(width),
+        (None, None) => Err(Cause::NoNodes),
+    }
+}
+
+/// What the words of a line say of a job, or why it is left out.
+#[tactic(auto, unfolding(crate::specs::Swf::swf_account))]
+pub(crate) fn swf_account(words: &[&[u8]]) -> Result<Account, Cause>
+    ensures { result ≡ swf_account (map (λ w. w.now) words.now) }
+{
+    if words.len() != 18 {
+        return Err(Cause::Unreadable);
+    }
+    let _number = needed(words[0])?;
+    let submit = needed(words[1])?;
+    let wait = amount(words[2])?;
+    let ran = amount(words[3])?;
+    let given = amount(words[4])?;
+    let asked = amount(words[7])?;
+    let limit = amount(words[8])?;
+    let status = amount(words[10])?;
+    if is_part(status) {
+        return Err(Cause::Step);
+    }
+    let width = width_of(asked, given)?;
+    Ok(account_of(Columns {
+        submit,
+        width,
+        limit,
+        ran,
+        wait,
+        cancelled: is_known_as(5, status),
+    }))
+}

@@ -1,0 +1,4 @@
+pub mod Reading
+pub mod Options
+pub mod Scale
+pub mod Placing

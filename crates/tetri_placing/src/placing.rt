@@ -1,0 +1,137 @@
+// The place of a job in a trace.
+ghost use Rattle.std.specs.Prelude.{◌≡◌, ◌≤◌, ◌<◌, ◌^◌, IfOk, IfSome};
+ghost use Rattle.tetri_placing.specs.Options.{AreGood};
+ghost use Rattle.tetri_placing.specs.Placing.{IsPlaced, ask_of, cancel_of, is_outside, late_of, place, within_run, within_slots};
+
+use crate::options::Settings;
+use crate::scale::{moment_of, nodes_of, slot_of, slots_of, worth_of};
+use tetri_logs::{Account, Cause};
+use tetri_request::Ask;
+
+// The slots that a trace has at most, and the greatest worth.
+const RUN: u64 = 10_000;
+
+const PEAK: u64 = 1_000_000_000_000;
+
+/// When a job arrives, how late it ends, what it asks for, and when it is cancelled while it waits.
+#[derive(Clone, Copy, Debug, PartialEq, Eq)]
+pub struct Placing {
+    pub arrival: u32,
+    pub late: i32,
+    pub ask: Ask,
+    pub cancel: Option<u32>,
+}
+
+// Whether a job is outside the part of the log that is wanted.
+fn is_outside(settings: &Settings, moment: u64) -> bool
+    ensures { result ≡ is_outside settings.now moment }
+{
+    moment < settings.from || settings.to <= moment
+}
+
+// The number, if it is a slot of a run.
+fn within_run(slot: u64) -> Result<u32, Cause>
+    ensures value { result ≡ within_run slot }
+    ensures small { IfOk result (λ n. n < 10000) }
+{
+    if slot < RUN {
+        Ok(slot as u32)
+    } else {
+        Err(Cause::Beyond)
+    }
+}
+
+// How many slots longer than it asked for a job ran.
+fn late_of(settings: &Settings, slots: u32, ran: Option<u32>) -> Result<i32, Cause>
+    requires good { AreGood settings.now }
+    requires small { slots ≤ 10000 }
+    ensures { result ≡ late_of settings.now slots ran }
+{
+    let Some(ran) = ran else {
+        return Ok(0);
+    };
+    let ran = slots_of(settings, ran);
+    if ran <= u64::from(slots) + RUN {
+        Ok(ran as i32 - slots as i32)
+    } else {
+        Err(Cause::Beyond)
+    }
+}
+
+// The slot in which a job is cancelled while it waits.
+fn cancel_of(settings: &Settings, moment: u64, waited: Option<u32>) -> Result<Option<u32>, Cause>
+    requires good { AreGood settings.now }
+    requires small { moment < 2 ^ 33 }
+    ensures value { result ≡ cancel_of settings.now moment waited }
+    ensures early { IfOk result (λ slot. IfSome slot (λ n. n < 10000)) }
+{
+    let Some(waited) = waited else {
+        return Ok(None);
+    };
+    let slot = within_run(slot_of(settings, moment + u64::from(waited)))?;
+    Ok(Some(slot))
+}
+
+// What a job of so many nodes and slots asks for: all nodes may serve.
+fn ask_of(settings: &Settings, nodes: u32, slots: u32) -> Result<Ask, Cause>
+    requires good { AreGood settings.now }
+    requires few { nodes ≤ 4096 }
+    requires small { slots ≤ 10000 }
+    ensures value { result ≡ ask_of settings.now nodes slots }
+    ensures deadline { IfOk result (λ a. a.deadline ≤ 20000) }
+{
+    let worth = worth_of(settings, nodes, slots);
+    if worth > PEAK / u64::from(settings.unit) {
+        return Err(Cause::Beyond);
+    }
+    Ok(Ask {
+        k: nodes,
+        set: 0,
+        dur: slots,
+        value: worth * u64::from(settings.unit),
+        deadline: slots + settings.slack,
+        prefer: None,
+        class: settings.class,
+        elastic: false,
+    })
+}
+
+/// The place of a job in a trace, or why it is left out.
+#[tactic(auto, unfolding(crate::specs::Placing::place))]
+pub fn place(settings: &Settings, account: Account) -> Result<Placing, Cause>
+    requires { AreGood settings.now }
+    ensures value { result ≡ place settings.now account }
+    ensures placed { IfOk result IsPlaced }
+{
+    let moment = moment_of(settings, account);
+    if is_outside(settings, moment) {
+        return Err(Cause::Outside);
+    }
+    let nodes = nodes_of(settings, account.width);
+    if nodes > u64::from(settings.nodes) {
+        return Err(Cause::TooLarge);
+    }
+    let arrival = within_run(slot_of(settings, moment))?;
+    let slots = within_slots(slots_of(settings, account.limit))?;
+    let late = late_of(settings, slots, account.ran)?;
+    let cancel = cancel_of(settings, moment, account.waited)?;
+    let ask = ask_of(settings, nodes as u32, slots)?;
+    Ok(Placing {
+        arrival,
+        late,
+        ask,
+        cancel,
+    })
+}
+
+// The number, if a run may last so many slots.
+fn within_slots(slots: u64) -> Result<u32, Cause>
+    ensures value { result ≡ within_slots slots }
+    ensures small { IfOk result (λ n. n ≤ 10000) }
+{
+    if slots <= RUN {
+        Ok(slots as u32)
+    } else {
+        Err(Cause::Beyond)
+    }
+}

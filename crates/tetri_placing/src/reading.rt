@@ -1,0 +1,109 @@
+// What a log says.
+ghost use Rattle.std.specs.Prelude.{◌≡◌, ◌+◌, ◌≤◌, ◌++◌, ◌∷◌, [], IfOk, OnOk, length};
+ghost use Rattle.tetri_base.specs.Lists.{count};
+ghost use Rattle.tetri_placing.specs.Reading.{entries, facts_in, first_submit, is_comment, jobs_in, left_in, no_facts, with_fact};
+
+use std::alloc::{AllocError, Global};
+use tetri_logs::{Cause, Entry, Fact, Format, LoggedJob, log_lines, read_entry};
+
+/// What the comments of a log say.
+#[derive(Clone, Copy, Debug, PartialEq, Eq)]
+pub struct Facts {
+    pub nodes: Option<u32>,
+    pub processors: Option<u32>,
+    /// The second since 1970 with which the log's clock begins.
+    pub start: u32,
+}
+
+/// What a log says: its jobs, why other lines bring none, what its comments say, and how many there are, blank lines and
+/// headers among them.
+#[derive(Drop)]
+pub struct Log {
+    pub jobs: Vec<LoggedJob>,
+    pub left: Vec<Cause>,
+    pub facts: Facts,
+    pub comments: usize,
+}
+
+// Nothing is said.
+const NO_FACTS: Facts = Facts {
+    nodes: None,
+    processors: None,
+    start: 0,
+};
+
+// The facts with one more, in the place of an earlier one of its kind.
+fn with_fact(facts: Facts, fact: Option<Fact>) -> Facts
+    ensures { result ≡ with_fact facts fact }
+{
+    match fact {
+        Some(Fact::Nodes(number)) => Facts {
+            nodes: Some(number),
+            ..facts
+        },
+        Some(Fact::Processors(number)) => Facts {
+            processors: Some(number),
+            ..facts
+        },
+        Some(Fact::Start(start)) => Facts { start, ..facts },
+        None => facts,
+    }
+}
+
+// With what one line more says.
+fn add(log: &mut Log, entry: Entry) -> Result<(), AllocError>
+    ensures jobs { OnOk result (log.new.jobs.items ≡ log.old.jobs.items ++ jobs_in (entry ∷ [])) }
+    ensures left { OnOk result (log.new.left.items ≡ log.old.left.items ++ left_in (entry ∷ [])) }
+    ensures facts { OnOk result (log.new.facts ≡ facts_in log.old.facts (entry ∷ [])) }
+{
+    match entry {
+        Entry::Job(job) => log.jobs.push(job)?,
+        Entry::Comment(fact) => log.facts = with_fact(log.facts, fact),
+        Entry::Left(cause) => log.left.push(cause)?,
+    }
+    Ok(())
+}
+
+// What is left of a number without two others.
+fn rest_of(all: usize, one: usize, other: usize) -> usize
+    requires { one + other ≤ all }
+    ensures { one + other + result ≡ all }
+{
+    all - one - other
+}
+
+/// What a log says. Its only error is want of memory.
+pub fn read_log(alloc: Global, format: Format, log: &[u8]) -> Result<Log, AllocError>
+    ensures jobs { IfOk result (λ l. l.jobs.items ≡ jobs_in (entries format log.now)) }
+    ensures left { IfOk result (λ l. l.left.items ≡ left_in (entries format log.now)) }
+    ensures facts { IfOk result (λ l. l.facts ≡ facts_in no_facts (entries format log.now)) }
+    ensures comments { IfOk result (λ l. l.comments ≡ count is_comment (entries format log.now)) }
+
+    // Each line is a job, a comment or left out.
+    ensures whole { IfOk result (λ l. length l.jobs.items + length l.left.items + l.comments ≡ length (entries format log.now)) }
+{
+    let lines = log_lines(alloc, log)?;
+    let mut read = Log {
+        jobs: Vec::new(alloc),
+        left: Vec::new(alloc),
+        facts: NO_FACTS,
+        comments: 0,
+    };
+    for line in &lines {
+        let entry = read_entry(alloc, format, line)?;
+        add(&mut read, entry)?;
+    }
+    read.comments = rest_of(lines.len(), read.jobs.len(), read.left.len());
+    Ok(read)
+}
+
+/// The least second at which a job was submitted.
+pub fn first_submit(jobs: &[LoggedJob]) -> u32
+    ensures { result ≡ first_submit jobs.now }
+{
+    let mut first = u32::MAX;
+    for job in jobs {
+        first = first.min(job.account.submit);
+    }
+    first
+}

@@ -1,0 +1,53 @@
+// Seconds as slots, and processors as nodes.
+ghost use Rattle.std.specs.Prelude.{◌≡◌, ◌≤◌, ◌<◌, ◌^◌};
+ghost use Rattle.tetri_placing.specs.Options.{AreGood};
+ghost use Rattle.tetri_placing.specs.Scale.{moment_of, nodes_of, slot_of, slots_of, worth_of};
+
+use crate::options::{Settings, Worth};
+use tetri_logs::Account;
+
+/// The second since 1970 at which a job was submitted.
+pub(crate) fn moment_of(settings: &Settings, account: Account) -> u64
+    ensures value { result ≡ moment_of settings.now account }
+    ensures small { result < 2 ^ 33 }
+{
+    u64::from(settings.start) + u64::from(account.submit)
+}
+
+/// The slot of a second.
+pub(crate) fn slot_of(settings: &Settings, moment: u64) -> u64
+    requires { AreGood settings.now }
+    ensures { result ≡ slot_of settings.now moment }
+{
+    moment.saturating_sub(settings.origin) / u64::from(settings.slot)
+}
+
+/// In how many slots so many seconds fit, one at least.
+pub(crate) fn slots_of(settings: &Settings, seconds: u32) -> u64
+    requires { AreGood settings.now }
+    ensures value { result ≡ slots_of settings.now seconds }
+    ensures some { 1 ≤ result }
+    ensures small { result < 2 ^ 33 }
+{
+    let slot = u64::from(settings.slot);
+    ((u64::from(seconds) + slot - 1) / slot).max(1)
+}
+
+/// How many nodes have so many processors.
+pub(crate) fn nodes_of(settings: &Settings, width: u32) -> u64
+    requires { AreGood settings.now }
+    ensures { result ≡ nodes_of settings.now width }
+{
+    let processors = u64::from(settings.processors);
+    (u64::from(width) + processors - 1) / processors
+}
+
+/// What so many nodes for so many slots are worth.
+pub(crate) fn worth_of(settings: &Settings, nodes: u32, slots: u32) -> u64
+    ensures { result ≡ worth_of settings.now nodes slots }
+{
+    match settings.worth {
+        Worth::NodeSlots => u64::from(nodes) * u64::from(slots),
+        Worth::Job => 1,
+    }
+}

@@ -1,0 +1,3 @@
+pub mod SameLemmas
+pub mod TakingLemmas
+pub mod ImportLemmas

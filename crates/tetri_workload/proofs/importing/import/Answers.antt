@@ -1,0 +1,37 @@
+use Rattle.std.proofs.Common.{◌≡◌, ◌+◌, ◌∙◌, ◌++◌, true, length, ap, sym, subst, arith, rules}
+use Rattle.std.specs.Prelude.{Ok, string_bytes}
+use Rattle.tetri_placing.specs.Options.{settings_of}
+use Rattle.tetri_placing.specs.Reading.{entries, facts_in, first_submit, jobs_in, left_in, no_facts}
+use Rattle.tetri_workload.specs.Ordering.{IsOrderBy}
+use Rattle.tetri_workload.specs.Saying.{IsReadAs}
+use Rattle.tetri_workload.specs.Taking.{so_far, taken_all}
+use Rattle.tetri_workload.specs.declared.importing.Imported.{Imported}
+use Rattle.tetri_workload.proofs.ImportLemmas.{imported}
+use Rattle.tetri_workload.proofs.importing.import.Goals as goal
+
+pub returns-clause-trace : goal.returns-clause-trace
+returns-clause-trace c =
+    let es = entries c.args.format c.args.log.now in
+    let o = c.args.options.now in
+    let log = c.in_ok-log.log in
+    let s = c.in_ok-settings.settings in
+    let order = c.by_submission.new.jobs.items in
+    let t = c.in_ok-taken.taken in
+    let events = c.by_slot.new.events.items in
+    let settled : settings_of o (facts_in no_facts es) (first_submit (jobs_in es)) ≡ Ok s =
+    sym (c.in_ok-settings.ensures.value
+    ∙ ap (λ f. settings_of o f c.first_submit.result) c.in_ok-log.ensures.facts
+    ∙ ap (settings_of o (facts_in no_facts es)) (c.first_submit.ensures ∙ ap first_submit (c.deref.ensures.value ∙ c.in_ok-log.ensures.jobs))) in
+    let ordered : IsOrderBy (λ j. j.account.submit) (jobs_in es) order =
+    subst (λ js. IsOrderBy (λ j. j.account.submit) js order) c.in_ok-log.ensures.jobs c.in_ok-by_submission.ensures in
+    let in_order : IsOrderBy (λ e. e.at) t.events.items events = c.in_ok-by_slot.ensures in
+    let tally : so_far t ≡ taken_all s order = c.in_ok-taken.ensures in
+    let alike : c.in_ok-alike.alike ≡ true = search rules in
+    let read : IsReadAs s (record (so_far t) { events = events }) (string_bytes c.in_ok-trace.trace) =
+    subst (IsReadAs s (record (so_far t) { events = events })) c.deref-2.ensures (c.in_ok-alike.ensures alike) in
+    let left : c.extend_from_slice.new.self.items ≡ left_in es ++ t.left.items =
+    c.in_ok-extend_from_slice.ensures.items ∙ ap (λ cs. log.left.items ++ cs) c.deref-3.ensures.value ∙ ap (λ cs. cs ++ t.left.items) c.in_ok-log.ensures.left in
+    let whole : length (jobs_in es) + length (left_in es) + log.comments ≡ length es =
+    omega (arith, ap length c.in_ok-log.ensures.jobs, ap length c.in_ok-log.ensures.left, c.in_ok-log.ensures.whole) in
+    let i : Imported = record { trace = c.in_ok-trace.trace; jobs = c.len.result; left = c.extend_from_slice.new.self; comments = log.comments } in
+    (s, order, read.0, imported es o i s order t events settled ordered tally in_order read left c.len.ensures.value c.in_ok-log.ensures.comments whole)

@@ -1,0 +1,50 @@
+-- From a log to a trace.
+use Rattle.std.specs.Prelude.{◌≡◌, ◌+◌, ℕ, List, ◌++◌, length, string_bytes, Ok, Err}
+use Rattle.tetri_base.specs.Lists.{count}
+use Rattle.tetri_logs.specs.declared.entry.Entry.{Entry}
+use Rattle.tetri_logs.specs.declared.entry.Format.{Format}
+use Rattle.tetri_logs.specs.declared.entry.LoggedJob.{LoggedJob}
+use Rattle.tetri_trace.specs.Lines.{scenario_in}
+use Rattle.tetri_trace.specs.Scenario.{Scenario}
+use Rattle.tetri_placing.specs.Options.{settings_of}
+use Rattle.tetri_workload.specs.Ordering.{IsOrderBy}
+use Rattle.tetri_placing.specs.Reading.{entries, facts_in, first_submit, is_comment, jobs_in, left_in, no_facts}
+use Rattle.tetri_workload.specs.Saying.{header_of}
+use Rattle.tetri_workload.specs.Taking.{taken_all}
+use Rattle.tetri_workload.specs.declared.importing.Imported.{Imported}
+use Rattle.tetri_workload.specs.declared.importing.ImportFault.{ImportFault}
+use Rattle.tetri_workload.specs.declared.importing.ImportFault.TheVariants as faults
+use Rattle.tetri_placing.specs.declared.options.Options.{Options}
+use Rattle.tetri_placing.specs.declared.options.Settings.{Settings}
+
+-- the trace of what is taken of a log's jobs in this order
+pub record IsTraceOf (s : Settings) (order : List LoggedJob) (text : List ℕ) (said : Scenario) : Type 0 where
+  pub read : scenario_in text ≡ Ok said
+  pub header : said.header ≡ header_of s (taken_all s order).until
+  pub nodes : length said.nodes ≡ s.nodes
+  pub jobs : said.submissions ≡ (taken_all s order).jobs
+  pub events : IsOrderBy (λ e. e.at) (taken_all s order).events said.events
+
+-- Each line of a log is a job that is taken, a comment, or counted under the cause why it brings no job.
+pub record IsWhole (es : List Entry) (s : Settings) (order : List LoggedJob) (i : Imported) : Type 0 where
+  pub left : i.left.items ≡ left_in es ++ (taken_all s order).left
+  pub jobs : i.jobs ≡ length (taken_all s order).jobs
+  pub comments : i.comments ≡ count is_comment es
+  pub lines : i.jobs + length i.left.items + i.comments ≡ length es
+
+-- what follows of a log with these entries
+pub record IsImportOf (es : List Entry) (o : Options) (i : Imported) (s : Settings) (order : List LoggedJob) (said : Scenario) : Type 0 where
+  pub settings : settings_of o (facts_in no_facts es) (first_submit (jobs_in es)) ≡ Ok s
+  pub ordered : IsOrderBy (λ j. j.account.submit) (jobs_in es) order
+  pub trace : IsTraceOf s order (string_bytes i.trace) said
+  pub whole : IsWhole es s order i
+
+-- The text is a trace, with an arrival for each job that is taken, in order of submission; nothing of the log is dropped in silence.
+abbrev pub IsImport : Format → Options → List ℕ → Imported → Type 0
+IsImport format o log i = (s : Settings) × (order : List LoggedJob) × (said : Scenario) × IsImportOf (entries format log) o i s order said
+
+-- an option is refused for the first thing that cannot be
+abbrev pub IsRefused : List Entry → Options → ImportFault → Type 0
+IsRefused es o (faults.Options fault) = settings_of o (facts_in no_facts es) (first_submit (jobs_in es)) ≡ Err fault
+IsRefused es o faults.Unlike = Unit {0}
+IsRefused es o faults.NoMemory = Unit {0}

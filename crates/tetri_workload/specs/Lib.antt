@@ -1,0 +1,5 @@
+pub mod Taking
+pub mod Ordering
+pub mod Saying
+pub mod Import
+pub mod Telling

@@ -1,0 +1,87 @@
+// From a log to a trace.
+ghost use Rattle.std.specs.Prelude.{IfErr, IfOk};
+ghost use Rattle.tetri_placing.specs.Reading.{entries};
+ghost use Rattle.tetri_workload.specs.Import.{IsImport, IsRefused};
+
+use crate::confirming::is_read_as;
+use crate::ordering::{by_slot, by_submission};
+use crate::taking::take_all;
+use crate::text::trace_text;
+use std::alloc::{AllocError, Global};
+use tetri_logs::{Cause, Format};
+use tetri_placing::{OptionFault, Options, first_submit, read_log, settings_of};
+
+/// Why a log is not imported.
+#[derive(Clone, Copy, Debug, PartialEq, Eq)]
+pub enum ImportFault {
+    /// What is asked for cannot be.
+    Options(OptionFault),
+    /// The trace that was made is not read as it should be.
+    Unlike,
+    NoMemory,
+}
+
+impl From<AllocError> for ImportFault {
+    ghost use Rattle.std.specs.Prelude.{◌≡◌};
+    ghost use Rattle.tetri_workload.specs.declared.importing.ImportFault.TheVariants as fault;
+
+    ghost from_gives = { λ _ e. e ≡ fault.NoMemory };
+
+    fn from(_: AllocError) -> Self {
+        ImportFault::NoMemory
+    }
+}
+
+impl From<OptionFault> for ImportFault {
+    ghost use Rattle.std.specs.Prelude.{◌≡◌};
+    ghost use Rattle.tetri_workload.specs.declared.importing.ImportFault.TheVariants as fault;
+
+    ghost from_gives = { λ e f. f ≡ fault.Options e };
+
+    fn from(fault: OptionFault) -> Self {
+        ImportFault::Options(fault)
+    }
+}
+
+/// A trace that was made from a log.
+#[derive(Drop)]
+pub struct Imported {
+    pub trace: String,
+    /// How many jobs were taken.
+    pub jobs: usize,
+    /// Why other lines brought none.
+    pub left: Vec<Cause>,
+    /// How many lines are comments, among them blank ones and headers.
+    pub comments: usize,
+}
+
+/// The trace of a log, and what was left out. `Unlike` comes only where the trace is not read back as it should be.
+pub fn import(
+    alloc: Global,
+    format: Format,
+    options: &Options,
+    log: &[u8],
+) -> Result<Imported, ImportFault>
+    ensures trace { IfOk result (IsImport format options.now log.now) }
+    ensures options { IfErr result (IsRefused (entries format log.now) options.now) }
+{
+    let log = read_log(alloc, format, log)?;
+    let settings = settings_of(options, log.facts, first_submit(&log.jobs))?;
+    let mut jobs = log.jobs;
+    by_submission(&mut jobs)?;
+    let mut taken = take_all(alloc, &settings, jobs)?;
+    by_slot(&mut taken.events)?;
+    let trace = trace_text(alloc, &settings, &taken)?;
+    let alike = is_read_as(alloc, &settings, &taken, &trace)?;
+    if !alike {
+        return Err(ImportFault::Unlike);
+    }
+    let mut left = log.left;
+    left.extend_from_slice(&taken.left)?;
+    Ok(Imported {
+        trace,
+        jobs: taken.jobs.len(),
+        left,
+        comments: log.comments,
+    })
+}

@@ -1,0 +1,12 @@
+//! The jobs of an accounting log as a trace: what each asks for, when it arrives and is cancelled, and what is left out, by cause.
+#![tactic(auto)]
+
+mod confirming;
+mod importing;
+mod ordering;
+mod taking;
+mod telling;
+mod text;
+
+pub use importing::{ImportFault, Imported, import};
+pub use telling::{counts_text, fault_text};
