@@ -1,0 +1,4 @@
+pub mod GatherLemmas
+pub mod PartLemmas
+pub mod SameRunLemmas
+pub mod WriteLemmas
