@@ -1,4 +1,0 @@
-pub mod GatherLemmas
-pub mod PartLemmas
-pub mod SameRunLemmas
-pub mod WriteLemmas
