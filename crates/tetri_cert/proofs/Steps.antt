@@ -1,8 +1,9 @@
 -- Steps of the walk.
-use Rattle.std.proofs.Common.{◌≡◌, ℕ, suc, ◌-◌, ◌<◌, refl, sym, ap, ◌∙◌, subst, arith, List, [], ◌∷◌, length, get_or, Bool, true, false, not, cond, ltb, reverse, Ok}
+use Rattle.std.proofs.Common.{◌≡◌, ℕ, suc, ◌-◌, ◌<◌, refl, sym, ap, ◌∙◌, subst, arith, List, [], ◌∷◌, ◌++◌, length, get_or, take, drop, Bool, true, false, not, cond, ltb, reverse, Ok}
 use Prim.Native.Nat.{zero}
 use Rattle.std.specs.Prelude.{◌&&◌, ◌<ℤ◌, ◌≤ℤ◌}
 use Rattle.std.proofs.lemmas.Int.{ints, by_lt_z}
+use Rattle.std.proofs.lemmas.List.{append-nil, drop_all, take_all}
 use borrow.Author.Tests.{ltb-true}
 use lib.IntN.{ℤ, pos}
 use lib.Signed.{lt_z}
@@ -87,3 +88,10 @@ tells_step w v p m others n h x e t =
     ∙ ap (λ k. if_fills (not w.extra && fills k others) (tells_nodes v p others)) e
     ∙ ap (λ b. if_fills (not w.extra && b) (tells_nodes v p others)) (sym (fills_step w.places m others h))
     ∙ ap (if_fills (not w.extra && fills w.places (m ∷ others))) t
+
+-- a list that takes the place of another in a vector
+pub length_kept : (n : ℕ) (new old : List ℤ) → length old ≡ n → length new ≡ length old → length (take n (new ++ drop (length new) old)) ≡ length old
+length_kept n new old e h =
+    ap (λ xs. length (take n (new ++ xs))) (drop_all (length new) old (omega arith))
+    ∙ ap (λ xs. length (take n xs)) (append-nil new)
+    ∙ ap length (take_all n new (omega arith)) ∙ h

@@ -1,7 +1,6 @@
 -- What a walk tells of the nodes that are still to come.
 use Rattle.std.specs.Prelude.{◌≡◌, ℕ, ◌+◌, ◌<◌, ◌≤◌, List, [], ◌∷◌, length, reverse, cond, not, ◌&&◌, Option, Some, None, Result, Err, All}
 use Rattle.tetri_ip.specs.declared.programs.Program.{Program}
-use Rattle.tetri_ip.specs.ColumnIndex.{IsIndexOf}
 use Rattle.tetri_ip.specs.Points.{Bounds, IsInBox, bounds_of}
 use Rattle.tetri_cert.specs.declared.faults.TreeFault.{TreeFault}
 use Rattle.tetri_cert.specs.declared.walk.Walk.{Walk}
@@ -32,9 +31,9 @@ AreInBox p (b ∷ bs) = IsInBox p b × AreInBox p bs
 
 -- the walk goes over this program
 pub record IsOver (p : Program) (w : Walk) : Type 0 where
-  pub index : IsIndexOf p w.index
   pub lower : length w.region.lower.items ≡ length p.costs.items
   pub upper : length w.region.upper.items ≡ length p.costs.items
+  pub factors : length w.factors.items ≡ length p.costs.items
   pub in_box : AreInBox p (regions_of w)
   pub columns : All (λ t. t.column < length p.costs.items) w.trail.items
   pub places : w.places ≤ w.node + 1

@@ -31,4 +31,4 @@ pub use points::{objective_at, point_of};
 pub use text::{MarkFault, marks_are_short_lines, marks_read_back, print_mark, read_mark};
 pub use text_words::mark_of_words;
 pub use turns::{Turn, turn_on};
-pub use walk::{Walk, bound, bound_with_index, count_nodes};
+pub use walk::{Walk, bound, count_nodes};

@@ -2,10 +2,7 @@
 
 ghost use Rattle.std.specs.Prelude.{◌≡◌, ℕ, ◌<◌, length, false, true, MatchResult};
 ghost use Rattle.std.specs.List.{list_any};
-ghost use Rattle.tetri_ip.specs.ColumnIndex.{IsIndexOf, WeightsAscend};
-ghost use Rattle.tetri_ip.specs.Forming.{weigh_answer};
 ghost use Rattle.tetri_ip.specs.Points.{IsFit, IsInBox, bounds_of};
-ghost use Rattle.tetri_ip.specs.Weighed.{AreOfRows};
 ghost use Rattle.tetri_cert.specs.Cells.{is_whole_point};
 ghost use Rattle.tetri_cert.specs.NodeBounds.{bound_by, capped, is_unknown_row, multiplied, node_bound, quotient_at, split_bound, weights_bound};
 ghost use Rattle.tetri_cert.specs.Trees.{Gives};
@@ -14,7 +11,7 @@ use crate::faults::{TreeFault, TreeWhy};
 use crate::marks::Mark;
 use crate::points::is_whole_point;
 use std::alloc::Global;
-use tetri_ip::{ColumnIndex, Program, Region, WeighFault, Weight, weigh, weigh_by};
+use tetri_ip::{Program, Region, WeighFault, Weight, weigh_over};
 
 fn has_unknown_row(rows: usize, weights: &[Weight]) -> bool
     ensures { result ≡ list_any (is_unknown_row rows) weights.now }
@@ -25,38 +22,6 @@ fn has_unknown_row(rows: usize, weights: &[Weight]) -> bool
         }
     }
     false
-}
-
-fn do_ascend(weights: &[Weight]) -> bool
-    ensures { result ≡ true → WeightsAscend weights.now }
-{
-    for k in 1..weights.len() {
-        if weights[k].row <= weights[k - 1].row {
-            return false;
-        }
-    }
-    true
-}
-
-// Weighs by the program's index where the weights ascend, and row by row where they do not.
-fn weigh_any(
-    index: &ColumnIndex,
-    p: &Program,
-    r: &Region,
-    q: i128,
-    weights: &[Weight],
-) -> Result<i128, WeighFault>
-    requires fit { IsFit p.now }
-    requires in_box { IsInBox p.now (bounds_of r.now) }
-    requires index { IsIndexOf p.now index.now }
-    requires rows { AreOfRows p.now weights.now }
-    ensures { result ≡ weigh_answer p.now (bounds_of r.now) q weights.now }
-{
-    if do_ascend(weights) {
-        weigh_by(index, p, r, q, weights)
-    } else {
-        weigh(p, r, q, weights)
-    }
 }
 
 fn cap(z: i128) -> u64
@@ -101,22 +66,22 @@ fn weigh_fault(node: u64, q: i128, fault: WeighFault) -> Result<u64, TreeFault>
 
 #[tactic(auto, using(crate::proofs::Signed::signed), unfolding(crate::specs::NodeBounds::weights_bound))]
 fn test_weights(
-    index: &ColumnIndex,
     p: &Program,
     r: &Region,
+    factors: &mut [i128],
     node: u64,
     q: i128,
     weights: &[Weight],
 ) -> Result<u64, TreeFault>
     requires fit { IsFit p.now }
     requires in_box { IsInBox p.now (bounds_of r.now) }
-    requires index { IsIndexOf p.now index.now }
+    requires length { length factors.old ≡ length p.now.costs.items }
     ensures { Gives result (weights_bound p.now (bounds_of r.now) node q weights.now) }
 {
     if has_unknown_row(p.rows.len(), weights) {
         return bad(node, TreeWhy::Row);
     }
-    match weigh_any(index, p, r, q, weights) {
+    match weigh_over(p, r, q, weights, factors) {
         Ok(weighed) => quotient(node, q, weighed),
         Err(fault) => weigh_fault(node, q, fault),
     }
@@ -150,33 +115,33 @@ fn test_split(p: &Program, r: &Region, node: u64, column: u32, at: i128) -> Resu
 #[tactic(auto, using(crate::proofs::Signed::signed), unfolding(crate::specs::NodeBounds::node_bound))]
 pub(crate) fn test_node(
     alloc: Global,
-    index: &ColumnIndex,
     p: &Program,
     r: &Region,
+    factors: &mut [i128],
     node: u64,
     mark: &Mark,
 ) -> Result<u64, TreeFault>
     requires fit { IsFit p.now }
     requires in_box { IsInBox p.now (bounds_of r.now) }
-    requires index { IsIndexOf p.now index.now }
+    requires length { length factors.old ≡ length p.now.costs.items }
     ensures { Gives result (node_bound p.now (bounds_of r.now) node mark.now) }
 {
     match mark {
         Mark::Split { column, at, .. } => test_split(p, r, node, *column, *at),
-        Mark::Close { q, weights } => test_weights(index, p, r, node, *q, weights.as_slice()),
+        Mark::Close { q, weights } => test_weights(p, r, factors, node, *q, weights.as_slice()),
         Mark::Whole {
             q,
             weights,
             worth,
             point,
         } => {
-            let most = test_weights(index, p, r, node, *q, weights.as_slice())?;
+            let most = test_weights(p, r, factors, node, *q, weights.as_slice())?;
             match is_whole_point(alloc, p, r, *worth, point.as_slice()) {
                 Ok(true) => Ok(most),
                 Ok(false) => bad(node, TreeWhy::Point),
                 Err(_) => Err(TreeFault::NoMemory),
             }
         }
-        Mark::Rest { q, weights } => test_weights(index, p, r, node, *q, weights.as_slice()),
+        Mark::Rest { q, weights } => test_weights(p, r, factors, node, *q, weights.as_slice()),
     }
 }

@@ -1,7 +1,6 @@
 // The walk over a tree.
 
 ghost use Rattle.std.specs.Prelude.{◌≡◌, ℕ, ◌<◌, ◌≤◌, ◌+◌, ◌-◌, ◌^◌, List, [], ◌∷◌, OnOk, OnErr, IfOk, map, not};
-ghost use Rattle.tetri_ip.specs.ColumnIndex.{IsIndexOf};
 ghost use Rattle.tetri_ip.specs.Points.{IsFit, bounds_of};
 ghost use Rattle.tetri_cert.specs.declared.marks.Mark.{Mark};
 ghost use Rattle.tetri_cert.specs.Trees.{Gives, nodes_in, places_behind, tree_bound};
@@ -11,14 +10,14 @@ use crate::marks::Mark;
 use crate::nodes::test_node;
 use crate::turns::{Turn, turn_on};
 use std::alloc::{AllocError, Global};
-use tetri_ip::{ColumnIndex, Program, Region};
+use tetri_ip::{Program, Region};
 
-/// A walk over the marks of a tree, which is fed them in order. It keeps one region, and what it needs to go back to the
-/// regions that are still open.
+/// A walk over the marks of a tree, which is fed them in order. It keeps one region, what it needs to go back to the
+/// regions that are still open, and a list to weigh in.
 #[derive(Drop)]
 pub struct Walk {
-    index: ColumnIndex,
     region: Region,
+    factors: Vec<i128>,
     trail: Vec<Turn>,
     live: bool,
     places: u64,
@@ -61,23 +60,11 @@ impl Walk {
         ensures none { IfOk result (λ w. (w.node ≡ 0) × (w.counted ≡ 0)) }
         ensures tells { IfOk result (λ w. (marks : List Mark) → tells w p.now marks ≡ tree_bound p.now marks) }
     {
-        let index = ColumnIndex::new(alloc, p)?;
-        Walk::with_index(alloc, p, index)
-    }
-
-    /// The walk before the first mark, with an index of the program that was made before. Its only error is want of memory.
-    #[tactic(auto, using(crate::proofs::Signed::signed), unfolding(crate::specs::Walks::tells, crate::specs::Walks::tells_nodes, crate::specs::Trees::tree_bound))]
-    pub fn with_index(alloc: Global, p: &Program, index: ColumnIndex) -> Result<Walk, AllocError>
-        requires fit { IsFit p.now }
-        requires index { IsIndexOf p.now index }
-        ensures over { IfOk result (λ w. IsOver p.now w) }
-        ensures none { IfOk result (λ w. (w.node ≡ 0) × (w.counted ≡ 0)) }
-        ensures tells { IfOk result (λ w. (marks : List Mark) → tells w p.now marks ≡ tree_bound p.now marks) }
-    {
         let region = Region::whole(alloc, p)?;
+        let factors = vec![in alloc; 0i128; p.costs.len()]?;
         Ok(Walk {
-            index,
             region,
+            factors,
             trail: Vec::new(alloc),
             live: true,
             places: 1,
@@ -104,7 +91,7 @@ impl Walk {
         if !self.live {
             return Ok(());
         }
-        let most = match test_node(alloc, &self.index, p, &self.region, self.node, mark) {
+        let most = match test_node(alloc, p, &self.region, &mut self.factors, self.node, mark) {
             Ok(most) => most,
             Err(TreeFault::NoMemory) => return Err(AllocError),
             Err(fault) => {
@@ -153,8 +140,8 @@ impl Walk {
         ensures { (p : Program) → result ≡ tells self p [] }
     {
         let Walk {
-            index: _index,
             region: _region,
+            factors: _factors,
             trail: _trail,
             live: _live,
             places,
@@ -198,24 +185,7 @@ pub fn bound(alloc: Global, p: &Program, marks: &[Mark]) -> Result<u64, TreeFaul
     requires fit { IsFit p.now }
     ensures { Gives result (tree_bound p.now (marks.now)) }
 {
-    let Ok(index) = ColumnIndex::new(alloc, p) else {
-        return Err(TreeFault::NoMemory);
-    };
-    bound_with_index(alloc, p, index, marks)
-}
-
-/// The bound of a tree over a program, as `bound` gives it, with an index of the program that was made before.
-pub fn bound_with_index(
-    alloc: Global,
-    p: &Program,
-    index: ColumnIndex,
-    marks: &[Mark],
-) -> Result<u64, TreeFault>
-    requires fit { IsFit p.now }
-    requires index { IsIndexOf p.now index }
-    ensures { Gives result (tree_bound p.now (marks.now)) }
-{
-    let Ok(mut walk) = Walk::with_index(alloc, p, index) else {
+    let Ok(mut walk) = Walk::new(alloc, p) else {
         return Err(TreeFault::NoMemory);
     };
     for mark in marks {

@@ -16,7 +16,7 @@ unit_other c b j n = by_test (eqb c j) refl
     by_test true e = absurd (n (eqb-true c j e))
     by_test false e = refl
 
-unit_same : (c : ℕ) (b : ℤ) (j : ℕ) → c ≡ j → unit_at ℤ_ring c b j ≡ b
+pub unit_same : (c : ℕ) (b : ℤ) (j : ℕ) → c ≡ j → unit_at ℤ_ring c b j ≡ b
 unit_same c b j e = ap (λ t. cond t b (pos 0)) (eq-eqb c j e)
 
 -- a column that no term names has the coefficient 0

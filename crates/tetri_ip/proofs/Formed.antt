@@ -95,7 +95,7 @@ columns_are rows b q ws j (c ∷ cs) sum = by_column (λ n. columns_are rows b q
         (λ z f. add_more sum ((q *ℤ c -ℤ column_sum rows ws j) *ℤ bound_taken b j (q *ℤ c -ℤ column_sum rows ws j)) (columns_from rows b q ws (j + 1) cs) n z (column_is rows b q ws j c sum n e) f)
         (rec n)
 
-right_fits : (rows : List Row) (ws : List Weight) (sum x : ℤ) → SFits w128 sum → form_right rows ws sum ≡ Some x → SFits w128 x
+pub right_fits : (rows : List Row) (ws : List Weight) (sum x : ℤ) → SFits w128 sum → form_right rows ws sum ≡ Some x → SFits w128 x
 right_fits rows [] sum x h e = let g : sum ≡ x = cc in subst (λ (z : ℤ). SFits w128 z) g h
 right_fits rows (w ∷ ws) sum x h e = by_next (λ n g k. right_fits rows ws n x g k) (add_product sum w.by (right_of rows w.row)) refl e
   where

@@ -44,7 +44,7 @@ put_term cs row i j t ts within lt is =
     ∙ ap (λ xs. column_in cs j ++ xs) (sym (entries_next row j t (drop (i + 1) ts)))
     ∙ ap (λ xs. column_in cs j ++ entries_in row xs j) (sym (drop_more ts i t lt ∙ ap (λ u. u ∷ drop (i + 1) ts) (sym is)))
 
-abbrev TermsAscend : List Term → Type 0
+abbrev pub TermsAscend : List Term → Type 0
 TermsAscend ts = (k m : ℕ) → k < m → m < length ts → column_at ts k < column_at ts m
 
 entries_none : (row j : ℕ) (ts : List Term) → ((k : ℕ) → k < length ts → column_at ts k ≡ j → ⊥) → entries_in row ts j ≡ []

@@ -6,6 +6,8 @@ pub mod Formed
 pub mod Sides
 pub mod IndexLemmas
 pub mod MergeLemmas
+pub mod WordProducts
+pub mod FactorLemmas
 pub mod PointLaws
 pub mod UnmetLemmas
 pub mod WeighingLaws

@@ -35,11 +35,11 @@ module _ {X : Type 0} (key : X → ℕ) (xs : List X) (d : X) where
       omega (arith, ltb-true _ _ here, keys, same)
 
 -- ---- one step of the merge
-within_itself : (z : ℤ) → IsWithin z → within z ≡ Some z
+pub within_itself : (z : ℤ) → IsWithin z → within z ≡ Some z
 within_itself z fits = ap (λ (t : Bool). cond t (Some z) None) (lt-ltb (unsigned_abs z) (2 ^ 127) fits)
 
 -- nothing is taken away
-subtract_nothing : (rest a b : ℤ) → IsWithin rest → b ≡ pos 0 → subtract_product rest a b ≡ Some rest
+pub subtract_nothing : (rest a b : ℤ) → IsWithin rest → b ≡ pos 0 → subtract_product rest a b ≡ Some rest
 subtract_nothing rest a b fits none =
     ap (λ z. then_form (within z) (λ part. within (rest -ℤ part))) (ap (λ z. a *ℤ z) none ∙ mul_zero_right ℤ_ring a)
     ∙ ap within (minus_zero rest) ∙ within_itself rest fits
@@ -47,7 +47,7 @@ subtract_nothing rest a b fits none =
     minus_zero : (z : ℤ) → z -ℤ pos 0 ≡ z
     minus_zero z = omega (arith, ints)
 
-is_within : (z x : ℤ) → within z ≡ Some x → IsWithin x
+pub is_within : (z x : ℤ) → within z ≡ Some x → IsWithin x
 is_within z x e = by_test (nat_lt (unsigned_abs z) (2 ^ 127)) refl e
   where
     by_test : (t : Bool) → nat_lt (unsigned_abs z) (2 ^ 127) ≡ t → cond t (Some z) None ≡ Some x → IsWithin x
@@ -90,7 +90,7 @@ module _ (rows : List Row) (ws : List Weight) (j : ℕ) where
       skip_more (k - i) i rest (omega arith) (λ m low high. none m low (omega arith)) fits
       ∙ ap (λ m. form_factor rows (drop m ws) j rest) e
 
-  take_step : (i : ℕ) (rest a b : ℤ) (o : Option ℤ) → i < length ws → a ≡ (weight_at ws i).by → b ≡ coefficient (terms_of rows (weight_at ws i).row) j →
+  pub take_step : (i : ℕ) (rest a b : ℤ) (o : Option ℤ) → i < length ws → a ≡ (weight_at ws i).by → b ≡ coefficient (terms_of rows (weight_at ws i).row) j →
       o ≡ subtract_product rest a b → form_factor rows (drop i ws) j rest ≡ then_form o (λ next. form_factor rows (drop (i + 1) ws) j next)
   take_step i rest a b o lt ae be oe =
       let w = weight_at ws i in

@@ -1,5 +1,5 @@
 -- The order in which the weighed number is formed, and the first number out of range.
-use Rattle.std.specs.Prelude.{ℕ, ◌+◌, ◌^◌, List, [], ◌∷◌, cond, nat_lt, Option, Some, None, Result, Ok, Err, ◌+ℤ◌, ◌-ℤ◌, ◌*ℤ◌, pos, unsigned_abs}
+use Rattle.std.specs.Prelude.{◌≡◌, ℕ, ◌+◌, ◌^◌, ◌<◌, List, length, [], ◌∷◌, cond, nat_lt, Option, Some, None, Result, Ok, Err, ◌+ℤ◌, ◌-ℤ◌, ◌*ℤ◌, pos, unsigned_abs}
 use lib.IntN.{ℤ}
 use lib.Signed.{lt_z}
 use Rattle.tetri_ip.specs.declared.programs.Program.{Program}
@@ -7,7 +7,7 @@ use Rattle.tetri_ip.specs.declared.programs.Row.{Row}
 use Rattle.tetri_ip.specs.declared.programs.Weight.{Weight}
 use Rattle.tetri_ip.specs.declared.programs.WeighFault.{WeighFault}
 use Rattle.tetri_ip.specs.declared.programs.WeighFault.TheVariants.{Negative, Past}
-use Rattle.tetri_ip.specs.Points.{Bounds, terms_of, right_of, coefficient}
+use Rattle.tetri_ip.specs.Points.{Bounds, number_at, terms_of, right_of, coefficient}
 use Rattle.tetri_ip.specs.Weighed.{bound_taken}
 
 -- the number, where it is from -(2^127-1) to 2^127-1
@@ -35,6 +35,19 @@ abbrev pub form_factor : List Row → List Weight → ℕ → ℤ → Option ℤ
 form_factor rows [] j rest = Some rest
 form_factor rows (w ∷ ws) j rest =
     then_form (subtract_product rest w.by (coefficient (terms_of rows w.row) j)) (λ next. form_factor rows ws j next)
+
+-- a column's factor: its cost times the multiplier, from which the products are taken away
+abbrev pub column_factor : List Row → ℤ → List Weight → ℕ → ℤ → Option ℤ
+column_factor rows q ws j cost = then_form (within (q *ℤ cost)) (λ first. form_factor rows ws j first)
+
+-- the factor of each column of a program, each in range
+abbrev pub AreFactors : Program → ℤ → List Weight → List ℤ → Type 0
+AreFactors p q ws factors = (j : ℕ) → j < length p.costs.items → column_factor p.rows.items q ws j (number_at p.costs.items j) ≡ Some (number_at factors j)
+
+-- the products of factors, of columns from number j on, and the bounds that they take, added to a sum one by one
+abbrev pub form_bounds : Bounds → ℕ → List ℤ → ℤ → Option ℤ
+form_bounds b j [] sum = Some sum
+form_bounds b j (d ∷ ds) sum = then_form (add_product sum d (bound_taken b j d)) (λ next. form_bounds b (j + 1) ds next)
 
 -- one column's numbers, and the running total
 abbrev pub form_column : List Row → Bounds → ℤ → List Weight → ℕ → ℤ → ℤ → Option ℤ

@@ -4,6 +4,7 @@
 #![tactic(auto, using(crate::proofs::Signed::signed))]
 
 mod by_column;
+mod by_row;
 mod columns;
 mod index;
 mod laws;
@@ -13,6 +14,7 @@ mod range;
 mod weighing;
 
 pub use by_column::weigh_by;
+pub use by_row::weigh_over;
 pub use columns::coefficient_of;
 pub use index::ColumnIndex;
 pub use laws::weighed_bounds_points;

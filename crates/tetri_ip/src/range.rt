@@ -1,18 +1,33 @@
 //! Whole numbers from -(2^127 - 1) to 2^127 - 1.
 
-ghost use Rattle.std.specs.Prelude.{◌≡◌, ◌+ℤ◌, ◌-ℤ◌, ◌*ℤ◌};
+ghost use Rattle.std.specs.Prelude.{◌≡◌, ◌≤◌, ◌^◌, ◌+ℤ◌, ◌-ℤ◌, ◌*ℤ◌, IsTrue, unsigned_abs};
 ghost use Rattle.tetri_ip.specs.Forming.{within, add_product, subtract_product};
 
-/// The product, if it is in the range.
+const WORD: i128 = 1 << 63;
+
+// Whether the number is one of 64 bits.
+#[inline]
+fn is_word(n: i128) -> bool
+    ensures { IsTrue result → unsigned_abs n ≤ 2 ^ 63 }
+{
+    -WORD <= n && n < WORD
+}
+
+/// The product, if it is in the range. Numbers of 64 bits take a short way.
+#[inline]
 pub(crate) fn product(a: i128, b: i128) -> Option<i128>
     ensures { result ≡ within (a *ℤ b) }
 {
+    if is_word(a) && is_word(b) {
+        return Some(a * b);
+    }
     match a.checked_mul(b) {
         Some(x) if x != i128::MIN => Some(x),
         _ => None,
     }
 }
 
+#[inline]
 fn total(a: i128, b: i128) -> Option<i128>
     ensures { result ≡ within (a +ℤ b) }
 {
@@ -22,6 +37,7 @@ fn total(a: i128, b: i128) -> Option<i128>
     }
 }
 
+#[inline]
 fn difference(a: i128, b: i128) -> Option<i128>
     ensures { result ≡ within (a -ℤ b) }
 {
@@ -32,6 +48,7 @@ fn difference(a: i128, b: i128) -> Option<i128>
 }
 
 /// The sum with a product, if that and the product are in the range.
+#[inline]
 pub(crate) fn add_product(sum: i128, a: i128, b: i128) -> Option<i128>
     ensures { result ≡ add_product sum a b }
 {
@@ -42,6 +59,7 @@ pub(crate) fn add_product(sum: i128, a: i128, b: i128) -> Option<i128>
 }
 
 /// The difference from a product, if that and the product are in the range.
+#[inline]
 pub(crate) fn subtract_product(rest: i128, a: i128, b: i128) -> Option<i128>
     ensures { result ≡ subtract_product rest a b }
 {

@@ -1,12 +1,12 @@
 //! The work that is timed.
 
-ghost use Rattle.std.specs.Prelude.{IsTrue};
+ghost use Rattle.std.specs.Prelude.{◌≡◌, IsTrue, length};
 ghost use Rattle.tetri_ip.specs.ColumnIndex.{IsIndexOf, WeightsAscend};
 ghost use Rattle.tetri_ip.specs.Points.{IsFit, IsInBox, bounds_of};
 ghost use Rattle.tetri_ip.specs.Weighed.{AreOfRows};
 ghost use Rattle.tetri_ip_bench.specs.Sizes.{AreSizes};
 
-use tetri_ip::{ColumnIndex, Program, Region, WeighFault, Weight, weigh, weigh_by};
+use tetri_ip::{ColumnIndex, Program, Region, WeighFault, Weight, weigh, weigh_by, weigh_over};
 
 /// What is weighed: columns, terms of a row, weights, and how often.
 #[derive(Clone, Copy, Debug)]
@@ -59,6 +59,27 @@ pub fn sum_by(index: &ColumnIndex, p: &Program, r: &Region, weights: &[Weight], 
     let mut sum = 0;
     for q in 0..rounds {
         sum = added(sum, weigh_by(index, p, r, i128::from(q) + 1, weights));
+    }
+    sum
+}
+
+/// The same, over a list of the columns' factors.
+#[inline(never)]
+pub fn sum_over(
+    p: &Program,
+    r: &Region,
+    weights: &[Weight],
+    factors: &mut [i128],
+    rounds: u32,
+) -> i128
+    requires fit { IsFit p.now }
+    requires in_box { IsInBox p.now (bounds_of r.now) }
+    requires rows { AreOfRows p.now weights.now }
+    requires length { length factors.old ≡ length p.now.costs.items }
+{
+    let mut sum = 0;
+    for q in 0..rounds {
+        sum = added(sum, weigh_over(p, r, i128::from(q) + 1, weights, factors));
     }
     sum
 }

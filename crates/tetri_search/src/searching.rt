@@ -20,7 +20,7 @@ use crate::marks::{Written, write_mark};
 use std::alloc::{AllocError, Global};
 use std::rc::Rc;
 use tetri_base::Items;
-use tetri_cert::{Mark, TreeFault, Turn, bound_with_index, point_of, turn_on};
+use tetri_cert::{Mark, TreeFault, Turn, bound, point_of, turn_on};
 use tetri_compile::Compiled;
 use tetri_ip::{ColumnIndex, Program, Region};
 
@@ -48,14 +48,12 @@ struct Front {
     duals: Vec<Option<Rc<Dual>>>,
 }
 
-// The marks of a whole search, the best objective known at its end, the number of marks that are no rests, and the index of the
-// program.
+// The marks of a whole search, the best objective known at its end, and the number of marks that are no rests.
 #[derive(Drop)]
 struct Grown {
     marks: Items<Mark>,
     best: u64,
     used: u32,
-    index: ColumnIndex,
 }
 
 // Writes the mark of the next open node, whose weights were taken off, and goes on to the one behind it.
@@ -116,7 +114,6 @@ fn grow(alloc: Global, p: &Program, low: u64, budget: u32) -> Result<Grown, Allo
     ensures earned { IfOk result (λ g. IsEarned p.now low budget g.marks) }
     ensures best { IfOk result (λ g. g.best ≡ best_behind low g.marks) }
     ensures used { IfOk result (λ g. g.used ≡ nodes_in g.marks) }
-    ensures index { IfOk result (λ g. IsIndexOf p.now g.index) }
     ensures plain { IfOk result (λ g. All IsPlain g.marks) }
     ensures short { (most : ℕ) → length p.now.costs.items ≤ most → length p.now.rows.items ≤ most → IfOk result (λ g. All (HasShortLists most) g.marks) }
 {
@@ -137,12 +134,7 @@ fn grow(alloc: Global, p: &Program, low: u64, budget: u32) -> Result<Grown, Allo
         used = count(used, left);
         marks.push(mark)?;
     }
-    Ok(Grown {
-        marks,
-        best,
-        used,
-        index,
-    })
+    Ok(Grown { marks, best, used })
 }
 
 // The point of the last mark that has one.
@@ -166,19 +158,17 @@ fn last_point(
 fn bound_of(
     alloc: Global,
     p: &Program,
-    index: ColumnIndex,
     low: u64,
     budget: u32,
     marks: &[Mark],
 ) -> Result<u64, AllocError>
     requires fit { IsFit p.now }
-    requires index { IsIndexOf p.now index }
     requires earned { IsEarned p.now low budget marks.now }
     ensures { IfOk result (λ b. tree_bound p.now marks.now ≡ Ok b) }
 {
     let _low = low;
     let _budget = budget;
-    match bound_with_index(alloc, p, index, marks) {
+    match bound(alloc, p, marks) {
         Ok(bound) => Ok(bound),
         Err(TreeFault::NoMemory) => Err(AllocError),
         Err(TreeFault::Bad { .. }) => unreachable!(),
@@ -209,13 +199,8 @@ pub fn search(alloc: Global, c: &Compiled, low: u64, budget: u32) -> Result<Foun
         IfOk result (λ f. All (HasShortLists 2000) f.marks) }
 {
     let p = &c.program;
-    let Grown {
-        marks,
-        best,
-        used,
-        index,
-    } = grow(alloc, p, low, budget)?;
-    let bound = bound_of(alloc, p, index, low, budget, marks.as_slice())?;
+    let Grown { marks, best, used } = grow(alloc, p, low, budget)?;
+    let bound = bound_of(alloc, p, low, budget, marks.as_slice())?;
     let last = last_point(alloc, p.costs.len(), marks.as_slice())?;
     Ok(Found {
         marks,
