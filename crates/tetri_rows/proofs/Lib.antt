@@ -11,3 +11,4 @@ pub mod Ratios
 pub mod RowLaws
 pub mod TermLists
 pub mod FractionLists
+pub mod WholeRows

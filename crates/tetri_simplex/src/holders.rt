@@ -9,8 +9,10 @@ ghost use Rattle.tetri_simplex.specs.Faults.{IsFault};
 ghost use Rattle.tetri_simplex.specs.Holders.{bit, words_at, IsHolder, AreHolders};
 ghost use Rattle.tetri_simplex.specs.Mixed.{mixed_row, mixed_rows, IsMixedRow, AreMixedRows, AreTermsOfRow};
 ghost use Rattle.tetri_simplex.specs.Pivots.{pivoted_rows};
+ghost use Rattle.tetri_simplex.specs.Sparse.{AreEntries, AreLines, lines_of, number_of};
 
 use crate::fault::PivotFault;
+use crate::lines::{Entry, Line};
 use crate::mixed::{MixedRow, is_zero_at, pivot_mixed};
 use std::alloc::{AllocError, Global};
 use tetri_rows::Terms;
@@ -125,15 +127,20 @@ pub(crate) fn spread(
     }
 }
 
-// A bit for each of so many rows, with one set.
-fn single(alloc: Global, words: usize, row: usize) -> Result<Vec<u64>, AllocError>
-    requires { row / 64 < words }
-    ensures wide { IfOk result (λ v. length v.items ≡ words) }
-    ensures own { IfOk result (λ v. bit v.items row ≡ 0 → ⊥) }
+// Sets a row's bit in each column of which the row has an entry.
+fn hold_entries(columns: u32, holders: &mut [Vec<u64>], words: usize, entries: &[Entry], k: usize)
+    requires entries { AreEntries columns entries.now }
+    requires columns { length holders.old ≡ columns }
+    requires words { All (λ v. length v.items ≡ words) holders.old }
+    requires within { k / 64 < words }
+    ensures words { All (λ v. length v.items ≡ words) holders.new }
+    ensures before { (p q : ℕ) → bit (words_at holders.new p) q ≡ 0 → bit (words_at holders.old p) q ≡ 0 }
+    ensures own { (p : ℕ) → bit (words_at holders.new p) k ≡ 0 → number_of entries.now p ≡ zero_ℚ }
 {
-    let mut bits = vec![in alloc; 0u64; words]?;
-    set_bit(&mut bits, row);
-    Ok(bits)
+    for t in 0..entries.len() {
+        let place = entries[t].place as usize;
+        set_bit(&mut holders[place], k);
+    }
 }
 
 // No bits, for each nonbasic place.
@@ -148,20 +155,19 @@ fn none(alloc: Global, columns: u32, words: usize) -> Result<Vec<Vec<u64>>, Allo
     Ok(holders)
 }
 
-/// The bits of a dictionary's rows.
+/// The bits of a dictionary's rows, which are given by their entries.
 pub(crate) fn holders_of(
     alloc: Global,
     columns: u32,
-    rows: &[MixedRow],
+    lines: &[Line],
 ) -> Result<Vec<Vec<u64>>, AllocError>
-    requires { AreMixedRows columns rows.now }
-    ensures { IfOk result (λ h. AreHolders columns h.items (mixed_rows rows.now)) }
+    requires { AreLines columns lines.now }
+    ensures { IfOk result (λ h. AreHolders columns h.items (lines_of columns lines.now)) }
 {
-    let words = rows.len() / 64 + 1;
+    let words = lines.len() / 64 + 1;
     let mut holders = none(alloc, columns, words)?;
-    for k in 0..rows.len() {
-        let own = single(alloc, words, k)?;
-        spread_each(columns, &mut holders, &own, &rows[k]);
+    for k in 0..lines.len() {
+        hold_entries(columns, &mut holders, words, &lines[k].entries, k);
     }
     Ok(holders)
 }

@@ -36,6 +36,18 @@ pub(crate) struct Line {
     pub(crate) entries: Vec<Entry>,
 }
 
+// The steps that a search goes on where the place that it reads is not above the one sought, and none where
+// it is: a shift by 0 or by 63 of a word, and no branch, since none could be foretold.
+#[inline(always)]
+fn steps(half: usize, at: u32, place: u32) -> usize
+    requires { half < 2 ^ 63 }
+    ensures on { at ≤ place → result ≡ half }
+    ensures none { place < at → result ≡ 0 }
+{
+    let shift = u64::from(place).wrapping_sub(u64::from(at)) >> 58;
+    half >> shift
+}
+
 // The place in the list of the entry of a place, found by binary search.
 fn find(entries: &[Entry], place: u32) -> Option<usize>
     requires { AreAscending entries.now }
@@ -43,20 +55,20 @@ fn find(entries: &[Entry], place: u32) -> Option<usize>
     ensures absent { IfNone result ((k : ℕ) → k < length entries.now → place_at entries.now k ≡ place → ⊥) }
 {
     let mut low = 0;
-    let mut high = entries.len();
-    while low < high {
-        let middle = low + (high - low) / 2;
-        let entry = entries[middle];
-        if entry.place == place {
-            return Some(middle);
-        }
-        if entry.place < place {
-            low = middle + 1;
-        } else {
-            high = middle;
-        }
+    let mut count = entries.len();
+    if count == 0 {
+        return None;
     }
-    None
+    while count > 1 {
+        let half = count / 2;
+        low += steps(half, entries[low + half].place, place);
+        count -= half;
+    }
+    if entries[low].place == place {
+        Some(low)
+    } else {
+        None
+    }
 }
 
 /// The coefficient of a place.

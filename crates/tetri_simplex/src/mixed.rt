@@ -26,7 +26,7 @@ use crate::whole_choices::entering_whole;
 use std::alloc::{AllocError, Global};
 use std::mem;
 use tetri_num::{Frac, Kind, Place};
-use tetri_rows::{Terms, at, fractions, put_in, solve_for};
+use tetri_rows::{Terms, at, common_denominator, fractions, numbers_over, put_in, solve_for};
 
 /// A row, its constant first: whole numbers over one denominator, or fractions.
 #[derive(Drop)]
@@ -187,6 +187,21 @@ fn copied(alloc: Global, numbers: &[i64]) -> Result<Vec<i64>, AllocError>
     Ok(copy)
 }
 
+// A row of whole numbers where its fractions are short over a common denominator, and of fractions else.
+fn brought_back(alloc: Global, columns: u32, row: Vec<Frac>) -> Result<MixedRow, AllocError>
+    requires { length row.items ≡ columns + 1 }
+    ensures same { IfOk result (λ r. mixed_row r ≡ values row.items) }
+    ensures sound { IfOk result (λ r. IsMixedRow columns r) }
+{
+    let Some(den) = common_denominator(&row) else {
+        return Ok(MixedRow::Fractions(row));
+    };
+    match numbers_over(alloc, den, &row)? {
+        Some(numbers) => Ok(MixedRow::Whole { den, numbers }),
+        None => Ok(MixedRow::Fractions(row)),
+    }
+}
+
 // The row at place i, solved for its variable at place j.
 fn solved_mixed(
     alloc: Global,
@@ -213,7 +228,7 @@ fn solved_mixed(
         }
         MixedRow::Fractions(numbers) => {
             match solved_row(alloc, columns, numbers, i, j) {
-                Ok(solved) => Ok(MixedRow::Fractions(solved)),
+                Ok(solved) => Ok(brought_back(alloc, columns, solved)?),
                 Err(fault) => Err(fault),
             }
         }
@@ -297,7 +312,7 @@ fn replaced_fractions(
     let mut new = numbers;
     let solved = fractions_of(alloc, columns, solved)?;
     match replace_row(columns, &mut new, &solved, i, j) {
-        Ok(()) => Ok(MixedRow::Fractions(new)),
+        Ok(()) => Ok(brought_back(alloc, columns, new)?),
         Err(place) => Err(PivotFault::Past(place)),
     }
 }

@@ -112,7 +112,7 @@ pub(crate) fn first_whole(alloc: Global, p: &Program, r: &Region) -> Result<Whol
     let columns = sparse.nonbasic.len() as u32;
     let rows = rows_of_lines(alloc, columns, &sparse.lines)?;
     let below = below_of(alloc, columns, &rows)?;
-    let holders = holders_of(alloc, columns, &rows)?;
+    let holders = holders_of(alloc, columns, &sparse.lines)?;
     Ok(Whole {
         nonbasic: sparse.nonbasic,
         basic: sparse.basic,

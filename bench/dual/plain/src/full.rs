@@ -6,7 +6,7 @@ use crate::{Dictionary, Program, entering, negated, quotient};
 pub struct Full {
     nonbasic: Vec<usize>,
     basic: Vec<usize>,
-    rows: Vec<Vec<Frac>>,
+    pub rows: Vec<Vec<Frac>>,
 }
 
 impl Dictionary for Full {
@@ -23,7 +23,7 @@ impl Dictionary for Full {
         }
         for j in 0..columns {
             let mut slack = vec![Frac::whole(0); columns + 1];
-            slack[0] = Frac::whole(p.upper[j]);
+            slack[0] = Frac::whole(p.upper[j] - p.lower[j]);
             slack[j + 1] = Frac::whole(-1);
             rows.push(slack);
         }

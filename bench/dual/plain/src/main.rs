@@ -1,15 +1,21 @@
 //! The program tetri_simplex_bench in plain Rust: the same programs, rules and output.
 //!
 //! `plain full|sparse|general SIDE KINDS` runs a square of columns, `plain full|sparse|general FILE` the
-//! program of a file by bench/dual/cycle. `general` is sparse rows without the short ways for 1 and -1.
+//! program of a file by bench/dual/cycle. `general` is sparse rows without the short ways for 1 and -1. `plain bound ..` runs
+//! the full table and writes how often a row leaves the bound of rows of whole numbers, and how often one comes back.
+//! `plain sparse|general tree FILE TREE` makes the runs of the nodes of a search of that program, whose lines
+//! stand in the file TREE as tetri_search_bench writes them, and tells how many runs and pivots they are.
 
+mod bound;
 mod frac;
 mod full;
 mod sparse;
+mod tree;
 
 use std::cmp::Ordering;
 use std::time::Duration;
 
+use bound::Bound;
 use frac::{Frac, gcd};
 use full::Full;
 use sparse::Sparse;
@@ -26,6 +32,7 @@ struct Row {
 
 struct Program {
     costs: Vec<i128>,
+    lower: Vec<i128>,
     upper: Vec<i128>,
     rows: Vec<Row>,
 }
@@ -37,7 +44,7 @@ impl Program {
     }
 
     fn start_of(&self, column: usize) -> i128 {
-        if self.costs[column] > 0 { self.upper[column] } else { 0 }
+        if self.costs[column] > 0 { self.upper[column] } else { self.lower[column] }
     }
 
     fn left_at_start(&self, row: &Row) -> i128 {
@@ -61,7 +68,7 @@ fn square(side: u32, kinds: u32) -> Program {
     let costs: Vec<i128> = (0..side * side).map(|j| 1 + (j * 37 % 101) as i128).collect();
     let along = (0..side).map(|i| spread_row(i * side, 1, side, kinds, (side / 2) as i128));
     let across = (0..side).map(|j| spread_row(j, side, side, kinds, (side / 3) as i128));
-    Program { upper: vec![1; costs.len()], costs, rows: along.chain(across).collect() }
+    Program { lower: vec![0; costs.len()], upper: vec![1; costs.len()], costs, rows: along.chain(across).collect() }
 }
 
 /// The numbers of a file: columns and rows; the costs; the upper bounds; of each row its right side, how many terms it has, and their columns and coefficients.
@@ -70,13 +77,13 @@ fn read(path: &str) -> Program {
     let mut numbers = text.split_whitespace().map(|word| word.parse::<i128>().expect("a number"));
     let mut next = || numbers.next().expect("a number more");
     let (columns, rows) = (next(), next());
-    let costs = (0..columns).map(|_| next()).collect();
+    let costs: Vec<i128> = (0..columns).map(|_| next()).collect();
     let upper = (0..columns).map(|_| next()).collect();
     let mut row = || {
         let (right, terms) = (next(), next());
         Row { right, terms: (0..terms).map(|_| Term { column: next() as usize, by: next() }).collect() }
     };
-    Program { costs, upper, rows: (0..rows).map(|_| row()).collect() }
+    Program { lower: vec![0; costs.len()], costs, upper, rows: (0..rows).map(|_| row()).collect() }
 }
 
 fn negated(x: Frac) -> Frac {
@@ -132,7 +139,7 @@ fn entering(
 }
 
 enum End {
-    Cut,
+    Cut { q: i128, sum: i128 },
     Best { q: i128, sum: i128 },
     Empty,
     Past,
@@ -157,16 +164,20 @@ fn weighed<D: Dictionary>(p: &Program, d: &D) -> Option<(i128, i128)> {
 }
 
 #[inline(never)]
-fn dual_run<D: Dictionary>(p: &Program) -> (End, u32) {
-    let mut d = D::start(p);
+fn dual_run<D: Dictionary>(p: &Program, best: i128) -> (End, u32) {
+    run_over(&mut D::start(p), p, best)
+}
+
+#[inline(always)]
+fn run_over<D: Dictionary>(d: &mut D, p: &Program, best: i128) -> (End, u32) {
     let objective = p.rows.len() + p.costs.len();
     for step in 0.. {
         let worth = d.constant(objective);
-        if worth.num.div_euclid(worth.den) <= 0 {
-            return (weighed(p, &d).map_or(End::Past, |_| End::Cut), step);
+        if worth.num.div_euclid(worth.den) <= best {
+            return (weighed(p, d).map_or(End::Past, |(q, sum)| End::Cut { q, sum }), step);
         }
         let Some(i) = d.leaving() else {
-            return (weighed(p, &d).map_or(End::Past, |(q, sum)| End::Best { q, sum }), step);
+            return (weighed(p, d).map_or(End::Past, |(q, sum)| End::Best { q, sum }), step);
         };
         if !d.rises(i) {
             return (End::Empty, step);
@@ -206,22 +217,39 @@ fn thread_time() -> Duration {
     Duration::new(time.seconds as u64, time.nanoseconds as u32)
 }
 
+// Runs the full table and tells of the rows that leave the bound and come back.
+fn count(p: &Program) -> (End, u32) {
+    let mut table = Bound::start(p);
+    let end = run_over(&mut table, p, 0);
+    eprintln!("left {} back {}", table.left, table.back);
+    end
+}
+
 fn main() {
     let words: Vec<String> = std::env::args().skip(1).collect();
+    if let [kind, mode, file, lines] = &words[..]
+        && mode == "tree"
+    {
+        return match kind.as_str() {
+            "general" => tree::runs::<Sparse<false>>(&mut read(file), lines),
+            _ => tree::runs::<Sparse<true>>(&mut read(file), lines),
+        };
+    }
     let p = match &words[1..] {
         [side, kinds] => square(side.parse().expect("a side"), kinds.parse().expect("kinds")),
         [path] => read(path),
-        _ => panic!("usage: plain full|sparse|general SIDE KINDS, or plain full|sparse|general FILE"),
+        _ => panic!("usage: plain full|sparse|general|bound SIDE KINDS, plain full|sparse|general|bound FILE, or plain sparse|general tree FILE TREE"),
     };
     let start = thread_time();
     let (end, pivots) = match words[0].as_str() {
-        "full" => dual_run::<Full>(&p),
-        "general" => dual_run::<Sparse<false>>(&p),
-        _ => dual_run::<Sparse<true>>(&p),
+        "bound" => count(&p),
+        "full" => dual_run::<Full>(&p, 0),
+        "general" => dual_run::<Sparse<false>>(&p, 0),
+        _ => dual_run::<Sparse<true>>(&p, 0),
     };
     let time = thread_time() - start;
     match end {
-        End::Cut => println!("cut"),
+        End::Cut { .. } => println!("cut"),
         End::Best { q, sum } => println!("best {q} {sum}"),
         End::Empty => println!("empty"),
         End::Past => println!("past"),

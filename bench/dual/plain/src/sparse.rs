@@ -103,7 +103,7 @@ impl<const SHORT: bool> Dictionary for Sparse<SHORT> {
             lines.push(Line { constant: Frac::whole(row.right - p.left_at_start(row)), entries });
         }
         for j in 0..columns {
-            lines.push(Line { constant: Frac::whole(p.upper[j]), entries: vec![entry(j, -1)] });
+            lines.push(Line { constant: Frac::whole(p.upper[j] - p.lower[j]), entries: vec![entry(j, -1)] });
         }
         let costs = (0..columns).filter(|&j| p.costs[j] != 0);
         let entries = costs.map(|j| entry(j, p.costs[j] * p.direction(j))).collect();

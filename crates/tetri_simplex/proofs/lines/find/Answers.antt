@@ -1,32 +1,48 @@
-use Rattle.std.proofs.Common.{◌<◌, ◌+◌, ◌-◌, ◌/◌, arith, length, below_more}
+use Rattle.std.proofs.Common.{◌<◌, ◌≡◌, ◌+◌, ◌/◌, arith, length, ⊎_elim, ap}
+use Rattle.std.proofs.lemmas.Bool.{cases_lt, cases_eq}
+use Rattle.tetri_simplex.specs.declared.lines.Entry.{Entry}
 use Rattle.tetri_simplex.specs.Sparse.{place_at}
 use Rattle.tetri_simplex.proofs.SparseRows.{above_from, entry_read}
 use Rattle.tetri_simplex.proofs.lines.find.Goals as goal
 
-pub loop-low-preserved-then-entry-place-2 : goal.loop-low-preserved-then-entry-place-2
-loop-low-preserved-then-entry-place-2 c =
+pub loop-count-preserved : goal.loop-count-preserved
+loop-count-preserved c =
     let es = c.args.entries.now in
-    let i = c.loop-low.low + (c.loop-low.high - c.loop-low.low) / 2 in
-    let l : i < length es = omega (arith, c.loop-low.invariant.inside, c.loop-low-test.true) in
-    let g = (entry_read es i c.index-entries-middle.result l c.index-entries-middle.is).0 in
-    let h : place_at es i < c.args.place = omega (arith, g, c.if-entry-place-2.true) in
+    let i = c.loop-count.low + c.loop-count.count / 2 in
+    let l : i < length es = omega (arith, c.loop-count.invariant.inside, c.loop-count-test.true) in
+    let g = (entry_read es i c.index-entries-low.result l c.index-entries-low.is).0 in
+    let r = ap (λ (e : Entry). e.place) c.index-entries-low.is in
+    ⊎_elim
+    (λ h.
+    let s = c.steps-low.ensures.none (omega (arith, g, r, h)) in
     record {
-      ordered = omega (arith, c.loop-low-test.true);
-      inside = c.loop-low.invariant.inside;
-      before = below_more (λ k. place_at es k < c.args.place) i (λ k b. omega (arith, c.requires k i b l, h)) h;
-      after = c.loop-low.invariant.after;
-    }
+      some = omega (arith, c.loop-count-test.true);
+      inside = omega (arith, s, c.loop-count.invariant.inside, c.loop-count-test.true);
+      before = λ k b. c.loop-count.invariant.before k (omega (arith, s, b));
+      after = λ k b m. above_from es i c.args.place c.requires h k (omega (arith, s, b, c.loop-count-test.true)) m;
+    })
+    (λ h.
+    let s = c.steps-low.ensures.on (omega (arith, g, r, h)) in
+    record {
+      some = omega (arith, c.loop-count-test.true);
+      inside = omega (arith, s, c.loop-count.invariant.inside, c.loop-count-test.true);
+      before = λ k b. let a : place_at es k < place_at es i = c.requires k i (omega (arith, s, b)) l in omega (arith, a, h);
+      after = λ k b m. c.loop-count.invariant.after k (omega (arith, s, b, c.loop-count-test.true)) m;
+    })
+    (cases_lt c.args.place (place_at es i))
 
-pub loop-low-preserved : goal.loop-low-preserved
-loop-low-preserved c =
+pub returns-else-entries-low-clause-absent : goal.returns-else-entries-low-clause-absent
+returns-else-entries-low-clause-absent c = λ k m e.
     let es = c.args.entries.now in
-    let i = c.loop-low.low + (c.loop-low.high - c.loop-low.low) / 2 in
-    let l : i < length es = omega (arith, c.loop-low.invariant.inside, c.loop-low-test.true) in
-    let g = (entry_read es i c.index-entries-middle.result l c.index-entries-middle.is).0 in
-    let h : c.args.place < place_at es i = omega (arith, g, c.if-entry-place-2.false, c.if-entry-place.false) in
-    record {
-      ordered = omega (arith, c.loop-low-test.true);
-      inside = omega arith;
-      before = c.loop-low.invariant.before;
-      after = λ k b m. above_from es i c.args.place c.requires h k b m;
-    }
+    let i = c.loop-count.low in
+    let l : i < length es = omega (arith, c.loop-count.invariant.inside, c.loop-count.invariant.some) in
+    let g = (entry_read es i c.index-entries-low-2.result l c.index-entries-low-2.is).0 in
+    let r = ap (λ (y : Entry). y.place) c.index-entries-low-2.is in
+    ⊎_elim
+    (λ b. let a = c.loop-count.invariant.before k b in omega (arith, a, e))
+    (λ b.
+    ⊎_elim
+    (λ s. let p : place_at es k ≡ place_at es i = ap (λ z. place_at es z) s in omega (arith, p, e, g, r, c.if-entries-low.false))
+    (λ d. let a = c.loop-count.invariant.after k (omega (arith, b, d, c.loop-count.invariant.some, c.loop-count-test.false)) m in omega (arith, a, e))
+    (cases_eq k i))
+    (cases_lt k i)
