@@ -1,23 +1,22 @@
 -- The faults of the second pass stand one before the other.
-use Rattle.std.proofs.Common.{◌≡◌, ◌⊎◌, inl, inr, ℕ, zero, suc, ◌+◌, ◌-◌, ◌*◌, ◌%◌, ◌<◌, ◌≤◌, ◌&&◌, ◌==◌, max, not, Bool, true, false, nat_lt, nat_le, if◌then◌else◌, List, [], ◌∷◌, ◌++◌, length, get_or, Contains, Option, Some, None, Result, Ok, Err, refl, sym, ap, subst, arith}
-use Rattle.std.specs.Prelude.{IfOk, option_map}
+use Rattle.std.proofs.Common.{◌≡◌, ◌⊎◌, inl, inr, ℕ, zero, suc, ◌+◌, ◌-◌, ◌*◌, ◌%◌, ◌<◌, ◌≤◌, ◌&&◌, ◌==◌, max, not, Bool, true, false, nat_lt, nat_le, if◌then◌else◌, List, [], ◌∷◌, ◌++◌, length, get_or, Option, Some, None, Result, Ok, Err, refl, sym, ap, subst, arith}
+use Rattle.std.specs.Prelude.{IfOk}
 use Rattle.std.specs.List.{list_any}
 use Rattle.tetri_base.specs.Lists.{Each, EachPair}
 use Rattle.tetri_base.specs.ResultSteps.{◌>>=◌}
 use Rattle.tetri_base.proofs.ListLaws.{Each-across, Each-append, Each-at, Each-map, EachPair-append, EachPair-with}
 use Rattle.tetri_cluster.specs.declared.cluster.NodeText.{NodeText}
 use Rattle.tetri_cluster.specs.Sets.{set_added}
-use Rattle.tetri_strl.specs.Tree.{Operator, greatest, least, added}
 use Rattle.tetri_strl.specs.WellMade.{PEAK, peak_joined}
 use Rattle.tetri_parse.specs.declared.fault.Fault.{Fault}
-use Rattle.tetri_parse.specs.declared.fault.Fault.TheVariants.{Uneven, Mixed, TooRich, TooDeep, TooManyLeaves, TooManySets, Trailing, UnknownSet}
+use Rattle.tetri_parse.specs.declared.fault.Fault.TheVariants.{Uneven, Mixed, TooRich, TooDeep, TooManyLeaves, Trailing}
 use Rattle.tetri_parse.specs.declared.fault.Miss.{Miss}
 use Rattle.tetri_parse.specs.declared.fault.ParseFault.{ParseFault}
 use Rattle.tetri_parse.specs.declared.fault.ParseFault.TheVariants as faults
 use Rattle.tetri_parse.specs.LeafText.{LeafText}
 use Rattle.tetri_parse.specs.declared.token.Word.{Word}
 use Rattle.tetri_parse.specs.declared.token.Word.TheVariants as word
-use Rattle.tetri_parse.specs.Ascending.{fault_number, offset_of, ComesBefore, IsLeast, AnswersLeast, FaultsAscend, LeastFault}
+use Rattle.tetri_parse.specs.Ascending.{fault_number, ComesBefore, IsLeast, AnswersLeast, FaultsAscend, LeastFault}
 use Rattle.tetri_parse.specs.Faults.{fault_if, added_faults, set_faults, starts_below, leaf_faults, sets_past, all_faults, faults_of_all, first_of, fault_behind, first_fault, AnswersFault}
 use Rattle.tetri_parse.specs.Grammar.{Rest, leaf_at, part_with_number, goes_on_to_child, children_at, body_at, expr_at, whole_at}
 use Rattle.tetri_parse.specs.Phrase.{Phrase, Phrases, asked, joined, scaled, barred, nothing, followed, line_up, operator}

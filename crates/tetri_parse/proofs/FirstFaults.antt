@@ -1,5 +1,5 @@
 -- A text is answered with its first fault.
-use Rattle.std.proofs.Common.{◌≡◌, ℕ, ◌-◌, List, [], ◌∷◌, length, Option, Some, None, Result, Ok, Err, refl, ap}
+use Rattle.std.proofs.Common.{◌≡◌, ℕ, ◌-◌, List, [], ◌∷◌, length, Some, None, Result, Ok, Err, refl, ap}
 use Rattle.std.specs.Prelude.{IfOk, option_map}
 use Rattle.tetri_base.specs.ResultSteps.{◌>>=◌}
 use Rattle.tetri_cluster.specs.declared.cluster.NodeText.{NodeText}
@@ -13,7 +13,6 @@ use Rattle.tetri_parse.specs.Phrase.{Phrase}
 use Rattle.tetri_parse.specs.Settling.{settled}
 use Rattle.tetri_parse.specs.declared.fault.Fault.{Fault}
 use Rattle.tetri_parse.specs.declared.fault.Miss.{Miss}
-use Rattle.tetri_parse.specs.declared.fault.ParseFault.{ParseFault}
 use Rattle.tetri_parse.specs.declared.fault.Stop.{Stop}
 use Rattle.tetri_parse.specs.declared.fault.Stop.TheVariants as stops
 use Rattle.tetri_parse.proofs.FirstMet.{whole_met}

@@ -1,5 +1,5 @@
 -- No step of reading leaves more bytes than it was given, and one over a mark leaves fewer.
-use Rattle.std.proofs.Common.{◌≡◌, ℕ, zero, suc, ◌+◌, ◌<◌, ◌≤◌, ◌||◌, ◌==◌, Bool, true, false, nat_lt, if◌then◌else◌, List, [], ◌∷◌, length, take, drop, Option, Some, None, Result, Ok, Err, refl, ap, arith, length-drop}
+use Rattle.std.proofs.Common.{◌≡◌, ℕ, zero, suc, ◌<◌, ◌≤◌, ◌||◌, ◌==◌, Bool, true, false, nat_lt, if◌then◌else◌, List, [], ◌∷◌, length, take, drop, Option, Some, None, Result, Ok, Err, ap, arith, length-drop}
 use Rattle.std.specs.List.{prefix_len}
 use Rattle.tetri_base.specs.ResultSteps.{◌>>=◌}
 use Rattle.tetri_cluster.specs.declared.cluster.NodeText.{NodeText}
@@ -9,7 +9,7 @@ use Rattle.tetri_parse.specs.declared.token.Class.TheVariants.{Blank, Digit, Let
 use Rattle.tetri_parse.specs.declared.token.Word.{Word}
 use Rattle.tetri_parse.specs.Rows.{row_at}
 use Rattle.tetri_parse.specs.SetText.{Part, every, tagged, listed, listed_first, part_first, part_at, and_first, and_at, parts_at, shared_nodes, set_at}
-use Rattle.tetri_parse.specs.Tokens.{stands, skip_blanks, missed, missing, mark_first, mark_at, known_word, word_first, word_at, name_first, name_at, goes_on_first, goes_on_at, numeral, number_in, number_first, number_at}
+use Rattle.tetri_parse.specs.Tokens.{stands, skip_blanks, missed, missing, mark_first, mark_at, known_word, word_first, word_at, name_at, goes_on_first, goes_on_at, numeral, number_in, number_at}
 use Rattle.tetri_parse.proofs.Steps.{both, passed, same_ok}
 
 pub skip_shorter : (text : List ℕ) → length (skip_blanks text) ≤ length text
@@ -130,6 +130,30 @@ and_shorter text x h = omega (arith, ap (λ (y : Bool × List ℕ). length y.1) 
         by_mark : (m : Bool) → length (marked_or m bs text).1 ≤ length text
         by_mark true = omega (arith, le)
         by_mark false = omega arith
+
+-- where a list goes on, its comma was read
+pub goes_on_takes : (last : ℕ) (text rest : List ℕ) → goes_on_at last text ≡ Ok (true, rest) → length rest < length text
+goes_on_takes last text rest h = from (skip_blanks text) (skip_shorter text) h
+  where
+    from : (t : List ℕ) → length t ≤ length text → goes_on_first last t ≡ Ok (true, rest) → length rest < length text
+    from [] le g = absurd (cc)
+    from (b ∷ t) le g = by_mark (b == 44) (b == last) g
+      where
+        by_mark : (m n : Bool) → Path (Result (Bool × List ℕ) Miss) (if m then Ok (true, t) else if n then Ok (false, t) else Err (missing (b ∷ t))) (Ok (true, rest)) → length rest < length text
+        by_mark true n f = let e : t ≡ rest = ap (λ (y : Bool × List ℕ). y.1) (same_ok (true, t) (true, rest) f) in omega (arith, ap length e, le)
+        by_mark false true f = let e : false ≡ true = ap (λ (y : Bool × List ℕ). y.0) (same_ok (false, t) (true, rest) f) in absurd (cc)
+        by_mark false false f = absurd (cc)
+
+pub and_takes : (text rest : List ℕ) → Path (Result (Bool × List ℕ) Miss) (Ok (and_at text)) (Ok (true, rest)) → length rest < length text
+and_takes text rest h = from (skip_blanks text) (skip_shorter text) (same_ok (and_at text) (true, rest) h)
+  where
+    from : (t : List ℕ) → length t ≤ length text → and_first t text ≡ (true, rest) → length rest < length text
+    from [] le g = let e : false ≡ true = ap (λ (y : Bool × List ℕ). y.0) g in absurd (cc)
+    from (b ∷ t) le g = by_mark (b == 38) g
+      where
+        by_mark : (m : Bool) → Path (Bool × List ℕ) (if m then (true, t) else (false, text)) (true, rest) → length rest < length text
+        by_mark true f = let e : t ≡ rest = ap (λ (y : Bool × List ℕ). y.1) f in omega (arith, ap length e, le)
+        by_mark false f = let e : false ≡ true = ap (λ (y : Bool × List ℕ). y.0) f in absurd (cc)
 
 pub set_shorter : (cluster : List NodeText) (text : List ℕ) (x : Option (List ℕ) × List ℕ) → set_at cluster text ≡ Ok x → length x.1 ≤ length text
 unfolding set_at

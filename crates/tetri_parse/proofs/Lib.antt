@@ -6,7 +6,9 @@ mod FirstFaults
 mod Grammars
 mod LeavesBack
 mod Lengths
+mod FirstPass
 mod Fronts
+mod Places
 mod Noted
 mod Peaks
 mod SettledParts
@@ -14,9 +16,11 @@ pub mod NamedAgain
 mod NodeSets
 mod Outcomes
 mod Rows
+mod Runs
 mod SetsBack
 mod Settled
 mod Spelled
 mod Steps
 mod TokensBack
 mod TreesBack
+mod WordFirst

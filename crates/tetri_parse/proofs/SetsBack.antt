@@ -1,15 +1,14 @@
 -- Printed sets are read back.
-use Rattle.std.proofs.Common.{◌≡◌, ℕ, zero, suc, ◌+◌, ◌≤◌, ◌<◌, ◌&&◌, ◌==◌, Bool, true, false, not, nat_lt, if◌then◌else◌, List, [], ◌∷◌, ◌++◌, length, map, get_or, Some, Ok, refl, sym, ap, ◌∙◌, subst, append_assoc, bytes_eq, length-append, arith}
+use Rattle.std.proofs.Common.{◌≡◌, ℕ, zero, suc, ◌+◌, ◌≤◌, ◌<◌, ◌==◌, Bool, true, false, if◌then◌else◌, List, [], ◌∷◌, ◌++◌, length, map, get_or, Some, Ok, refl, sym, ap, ◌∙◌, subst, append_assoc, length-append, arith}
 use Rattle.std.specs.Prelude.{All, filter, flat_map, nat_eq, option_map, codes}
-use Rattle.std.specs.List.{list_any, position_or_len, range_with_len, AllByRecursion}
+use Rattle.std.specs.List.{list_any, range_with_len, AllByRecursion}
 use Rattle.std.specs.List.Sorted.{IsStrictlyIncreasing}
 use Rattle.std.proofs.lemmas.Bool.Decides.{nat_tests}
 use Rattle.std.proofs.lemmas.List.{length-map}
 use Rattle.std.proofs.lemmas.List.Elements.{All-tail}
-use Rattle.std.proofs.lemmas.List.Folds.{list_any_at}
 use Rattle.std.proofs.lemmas.Slice.Eq.{bytes_eq-Decides}
 use Rattle.tetri_cluster.specs.declared.cluster.NodeText.{NodeText}
-use Rattle.tetri_cluster.specs.Names.{differ, is_among, is_name, number_of}
+use Rattle.tetri_cluster.specs.Names.{differ, is_name}
 use Rattle.tetri_cluster.specs.Cluster.{names_of, name_at}
 use Rattle.tetri_cluster.proofs.NamesBack.{number_back}
 use Rattle.tetri_parse.specs.declared.token.Class.TheVariants.{Named}

@@ -6,6 +6,7 @@ pub mod LeafText
 pub mod Reader
 pub mod Phrase
 pub mod Grammar
+pub mod FirstPass
 pub mod Settling
 pub mod Expression
 pub mod Written

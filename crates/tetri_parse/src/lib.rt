@@ -17,6 +17,6 @@ mod syntax;
 mod token;
 
 pub use fault::{Fault, ParseFault};
-pub use laws::{faults_ascend, reading_meets_the_first_fault};
+pub use laws::{faults_ascend, grammar_fault_stays, reading_meets_the_first_fault};
 pub use print::print_expr;
 pub use reader::ClusterReader;

@@ -138,7 +138,6 @@ pub(crate) fn set_front<'t>(
     ensures value { Gives (λ x. (nodes_in cluster.now x.0.now, x.1.now)) result (set_at cluster.now text.now) }
     ensures good { IfOk result (λ x. IfSome (nodes_in cluster.now x.0.now) (IsNodeSet (length cluster.now))) }
 {
-    let _ = cluster;
     let rest = set_end(alloc, text)?;
     let (set, _) = text.split_at(text.len().saturating_sub(rest.len()));
     Ok((set, rest))

@@ -72,7 +72,6 @@ fn settle_leaf(
 fn is_rich(reader: &ClusterReader, unit: u64, syntax: &Syntax<'_>) -> bool
     ensures { result ≡ nat_lt PEAK (peak_of unit (phrase reader.now.nodes syntax.now)) }
 {
-    let _ = reader;
     peak(unit, syntax) > MAX_PEAK
 }
 
@@ -80,7 +79,6 @@ fn is_rich(reader: &ClusterReader, unit: u64, syntax: &Syntax<'_>) -> bool
 fn first_start_below(reader: &ClusterReader, parts: &[Syntax<'_>]) -> u32
     ensures { result ≡ first_start_of (line_up (phrases reader.now.nodes parts.now)) }
 {
-    let _ = reader;
     first_start_of(parts)
 }
 

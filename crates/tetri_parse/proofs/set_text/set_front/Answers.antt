@@ -1,4 +1,4 @@
-use Rattle.std.proofs.Common.{Ok, length, take, ap, ◌∙◌, sym}
+use Rattle.std.proofs.Common.{Ok, take, ap, ◌∙◌, sym}
 use Rattle.std.proofs.lemmas.Result.{err_from_is_err_and}
 use Rattle.tetri_parse.specs.SetText.{nodes_in}
 use Rattle.tetri_parse.proofs.Fronts.{front_named, front_stops}

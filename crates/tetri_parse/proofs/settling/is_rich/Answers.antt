@@ -1,4 +1,4 @@
-use Rattle.std.proofs.Common.{◌≡◌, arith}
+use Rattle.std.proofs.Common.{arith}
 use Rattle.std.proofs.lemmas.Bool.Decides.{nat_tests}
 use Rattle.tetri_parse.proofs.Peaks.{same_peak}
 use Rattle.tetri_parse.proofs.settling.is_rich.Goals as goal
