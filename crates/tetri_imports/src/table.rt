@@ -2,24 +2,8 @@
 use crate::asked::options_of;
 use std::alloc::{AllocError, Global};
 use tetri_logs::Format;
-use tetri_placing::OptionFault;
 use tetri_tables::{Tally, expand, sections_of};
-use tetri_workload::{ImportFault, counts_text, import};
-
-// The words of a fault.
-fn fault_words(fault: ImportFault) -> &'static str {
-    match fault {
-        ImportFault::Options(OptionFault::Slot) => "fault slot\n",
-        ImportFault::Options(OptionFault::Processors) => "fault processors\n",
-        ImportFault::Options(OptionFault::Nodes) => "fault nodes\n",
-        ImportFault::Options(OptionFault::Window) => "fault window\n",
-        ImportFault::Options(OptionFault::Budget) => "fault budget\n",
-        ImportFault::Options(OptionFault::Unit) => "fault unit\n",
-        ImportFault::Options(OptionFault::Slack) => "fault slack\n",
-        ImportFault::Unlike => "unlike\n",
-        ImportFault::NoMemory => "no memory\n",
-    }
-}
+use tetri_workload::{counts_text, fault_text, import};
 
 // The trace of a log, if it is wanted, with the counts behind it.
 fn told(
@@ -39,7 +23,7 @@ fn told(
             text.push_str(counts.as_str())?;
             Ok(text)
         }
-        Err(fault) => String::from_str(alloc, fault_words(fault)),
+        Err(fault) => format!(in alloc; "{}\n", fault_text(fault)),
     }
 }
 

@@ -1,6 +1,7 @@
 -- Lists that are the same item by item.
-use Rattle.std.proofs.Common.{◌≡◌, ◌+◌, ◌<◌, ◌≤◌, ◌∙◌, ◌++◌, ◌∷◌, [], ℕ, ℤ, List, length, map, take, get_or, ap, sym}
-use Rattle.std.proofs.lemmas.List.{take_all, take_more, map-append}
+use Rattle.std.proofs.Common.{◌≡◌, ◌+◌, ◌<◌, ◌≤◌, ◌∙◌, ◌++◌, ◌∷◌, [], ℕ, ℤ, List, length, map, take, get_or, ap, sym, subst}
+use Rattle.std.specs.Prelude.{All}
+use Rattle.std.proofs.lemmas.List.{get_or-map, length-map, take_all, take_more, map-append}
 use Rattle.tetri_trace.specs.Scenario.{Demand, Submission, demand_of, submission}
 use Rattle.tetri_trace.specs.declared.trace.Job.{Job}
 
@@ -28,3 +29,12 @@ same_more f xs ys i d e before inside within here =
 -- all items
 pub same_all : {X Y : Type 0} (f : X → Y) (xs ys : List X) (i : ℕ) → map f (take i xs) ≡ map f (take i ys) → length xs ≤ i → length ys ≤ i → map f xs ≡ map f ys
 same_all f xs ys i same left right = ap (map f) (sym (take_all i xs left)) ∙ same ∙ ap (map f) (take_all i ys right)
+
+-- what holds of each item of a list's image holds of the image of each item
+pub image_at : {X Y : Type 0} (P : Y → Type 0) (f : X → Y) (xs : List X) (i : ℕ) (d : X) → All P (map f xs) → i < length xs → P (f (get_or xs i d))
+image_at P f xs i d each inside = subst P (get_or-map f xs i d (f d) inside) (each i (f d) (subst (λ n. i < n) (sym (length-map xs f)) inside))
+
+-- lists with the same images have items with the same images
+pub same_at : {X Y : Type 0} (f : X → Y) (xs ys : List X) (i : ℕ) (d e : X) → map f xs ≡ map f ys → i < length xs → i < length ys → f (get_or xs i d) ≡ f (get_or ys i e)
+same_at f xs ys i d e same inside within =
+    sym (get_or-map f xs i d (f d) inside) ∙ ap (λ zs. get_or zs i (f d)) same ∙ get_or-map f ys i e (f d) within

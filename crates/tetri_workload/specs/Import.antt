@@ -9,13 +9,19 @@ use Rattle.tetri_trace.specs.Scenario.{Scenario}
 use Rattle.tetri_placing.specs.Options.{settings_of}
 use Rattle.tetri_workload.specs.Ordering.{IsOrderBy}
 use Rattle.tetri_placing.specs.Reading.{entries, facts_in, first_submit, is_comment, jobs_in, left_in, no_facts}
-use Rattle.tetri_workload.specs.Saying.{header_of}
-use Rattle.tetri_workload.specs.Taking.{taken_all}
+use Rattle.tetri_trace.specs.declared.trace.Event.{Event}
+use Rattle.tetri_workload.specs.Saying.{IsReadAs, header_of}
+use Rattle.tetri_workload.specs.Taking.{Tally, taken_all}
+use Rattle.tetri_workload.specs.Text.{text_of}
 use Rattle.tetri_workload.specs.declared.importing.Imported.{Imported}
 use Rattle.tetri_workload.specs.declared.importing.ImportFault.{ImportFault}
 use Rattle.tetri_workload.specs.declared.importing.ImportFault.TheVariants as faults
 use Rattle.tetri_placing.specs.declared.options.Options.{Options}
 use Rattle.tetri_placing.specs.declared.options.Settings.{Settings}
+
+-- what is taken of a log's jobs in this order, with its events in this one
+abbrev pub in_turn : Settings → List LoggedJob → List Event → Tally
+in_turn s order events = record (taken_all s order) { events = events }
 
 -- the trace of what is taken of a log's jobs in this order
 pub record IsTraceOf (s : Settings) (order : List LoggedJob) (text : List ℕ) (said : Scenario) : Type 0 where
@@ -43,8 +49,15 @@ pub record IsImportOf (es : List Entry) (o : Options) (i : Imported) (s : Settin
 abbrev pub IsImport : Format → Options → List ℕ → Imported → Type 0
 IsImport format o log i = (s : Settings) × (order : List LoggedJob) × (said : Scenario) × IsImportOf (entries format log) o i s order said
 
--- an option is refused for the first thing that cannot be
+-- The text that is made of what is taken of a log with these entries is not read as a trace that says so.
+pub record IsUnread (es : List Entry) (o : Options) (s : Settings) (order : List LoggedJob) (events : List Event) : Type 0 where
+  pub settings : settings_of o (facts_in no_facts es) (first_submit (jobs_in es)) ≡ Ok s
+  pub ordered : IsOrderBy (λ j. j.account.submit) (jobs_in es) order
+  pub timed : IsOrderBy (λ e. e.at) (taken_all s order).events events
+  pub unlike : IsReadAs s (in_turn s order events) (text_of s (in_turn s order events)) → ⊥
+
+-- an option is refused for the first thing that cannot be, and a text that is not read as it should be
 abbrev pub IsRefused : List Entry → Options → ImportFault → Type 0
 IsRefused es o (faults.Options fault) = settings_of o (facts_in no_facts es) (first_submit (jobs_in es)) ≡ Err fault
-IsRefused es o faults.Unlike = Unit {0}
+IsRefused es o faults.Unlike = (s : Settings) × (order : List LoggedJob) × (events : List Event) × IsUnread es o s order events
 IsRefused es o faults.NoMemory = Unit {0}

@@ -1,5 +1,6 @@
 -- What a trace says of the jobs that are taken.
 use Rattle.std.specs.Prelude.{◌≡◌, ℕ, List, length, Ok}
+use Rattle.tetri_trace.specs.Scenario.{Demand, asks, strl}
 use Rattle.tetri_trace.specs.Lines.{scenario_in}
 use Rattle.tetri_trace.specs.Scenario.{Scenario}
 use Rattle.tetri_notice.specs.declared.header.Header.{Header}
@@ -20,3 +21,8 @@ pub record Says (s : Settings) (t : Tally) (said : Scenario) : Type 0 where
 -- a text is read as a trace that says what was taken
 abbrev pub IsReadAs : Settings → Tally → List ℕ → Type 0
 IsReadAs s t text = (said : Scenario) × (scenario_in text ≡ Ok said) × Says s t said
+
+-- a job that asks for nodes by number, as each job of a log does
+abbrev pub IsAsked : Demand → Type 0
+IsAsked (strl tree) = ⊥
+IsAsked (asks a) = Unit {0}

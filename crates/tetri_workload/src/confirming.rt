@@ -1,36 +1,32 @@
 // A text that is read as the trace which it is to say.
-ghost use Rattle.std.specs.Prelude.{◌≡◌, true, map, IfOk};
+ghost use Rattle.std.specs.Prelude.{◌≡◌, ◌↔◌, All, IsTrue, map, IfOk};
 ghost use Rattle.tetri_trace.specs.Scenario.{demand_of, scenario, submission};
-ghost use Rattle.tetri_workload.specs.Saying.{IsReadAs, Says, header_of};
+ghost use Rattle.tetri_workload.specs.Saying.{IsAsked, IsReadAs, Says, header_of};
 ghost use Rattle.tetri_workload.specs.Taking.{so_far};
 
+use crate::shelf::TextShelf;
 use crate::taking::Taken;
 use std::alloc::{AllocError, Global};
 use tetri_cluster::Name;
-use tetri_io::MemShelf;
 use tetri_placing::Settings;
 use tetri_request::Ask;
 use tetri_trace::{Event, Header, Job, Trace, TraceFault, Work, read_trace};
 
-// The name under which the text is read back, and the bytes that a read gives at most.
-const NAME: &str = "trace";
-
-const CHUNK: usize = 65_536;
-
 fn same_name(read: &Name, meant: &Name) -> bool
-    ensures { result ≡ true → read.now ≡ meant.now }
+    ensures { IsTrue result ↔ (read.now ≡ meant.now) }
 {
     read.bytes() == meant.bytes()
 }
 
 fn same_ask(read: Ask, meant: Ask) -> bool
-    ensures { result ≡ true → read ≡ meant }
+    ensures { IsTrue result ↔ (read ≡ meant) }
 {
     read == meant
 }
 
 fn same_work(read: &Work, meant: &Work) -> bool
-    ensures { result ≡ true → demand_of read.now ≡ demand_of meant.now }
+    requires { IsAsked (demand_of meant.now) }
+    ensures { IsTrue result ↔ (demand_of read.now ≡ demand_of meant.now) }
 {
     match (read, meant) {
         (Work::Asked(one), Work::Asked(other)) => same_ask(*one, *other),
@@ -39,7 +35,8 @@ fn same_work(read: &Work, meant: &Work) -> bool
 }
 
 fn same_job(read: &Job, meant: &Job) -> bool
-    ensures { result ≡ true → submission read.now ≡ submission meant.now }
+    requires { IsAsked (demand_of meant.now.work) }
+    ensures { IsTrue result ↔ (submission read.now ≡ submission meant.now) }
 {
     read.arrival == meant.arrival
         && read.late == meant.late
@@ -48,7 +45,8 @@ fn same_job(read: &Job, meant: &Job) -> bool
 }
 
 fn same_jobs(read: &[Job], meant: &[Job]) -> bool
-    ensures { result ≡ true → map submission read.now ≡ map submission meant.now }
+    requires { All (λ u. IsAsked u.demand) (map submission meant.now) }
+    ensures { IsTrue result ↔ (map submission read.now ≡ map submission meant.now) }
 {
     if read.len() != meant.len() {
         return false;
@@ -62,13 +60,13 @@ fn same_jobs(read: &[Job], meant: &[Job]) -> bool
 }
 
 fn same_event(read: Event, meant: Event) -> bool
-    ensures { result ≡ true → read ≡ meant }
+    ensures { IsTrue result ↔ (read ≡ meant) }
 {
     read == meant
 }
 
 fn same_events(read: &[Event], meant: &[Event]) -> bool
-    ensures { result ≡ true → read.now ≡ meant.now }
+    ensures { IsTrue result ↔ (read.now ≡ meant.now) }
 {
     if read.len() != meant.len() {
         return false;
@@ -82,7 +80,7 @@ fn same_events(read: &[Event], meant: &[Event]) -> bool
 }
 
 fn same_header(header: Header, settings: &Settings, until: u32) -> bool
-    ensures { result ≡ true → header ≡ header_of settings.now until }
+    ensures { IsTrue result ↔ (header ≡ header_of settings.now until) }
 {
     header.window == settings.window
         && header.budget == settings.budget
@@ -92,7 +90,8 @@ fn same_header(header: Header, settings: &Settings, until: u32) -> bool
 
 // Whether a trace says what was taken.
 fn says(trace: &Trace, settings: &Settings, taken: &Taken) -> bool
-    ensures { result ≡ true → Says settings.now (so_far taken.now) (scenario trace.now) }
+    requires { All (λ u. IsAsked u.demand) (so_far taken.now).jobs }
+    ensures { IsTrue result ↔ Says settings.now (so_far taken.now) (scenario trace.now) }
 {
     same_header(trace.header, settings, taken.until)
         && trace.cluster.count() == settings.nodes
@@ -107,13 +106,15 @@ pub(crate) fn is_read_as(
     taken: &Taken,
     text: &str,
 ) -> Result<bool, AllocError>
-    ensures { IfOk result (λ alike. alike ≡ true → IsReadAs settings.now (so_far taken.now) text.now) }
+    requires { All (λ u. IsAsked u.demand) (so_far taken.now).jobs }
+    ensures { IfOk result (λ alike. IsTrue alike ↔ IsReadAs settings.now (so_far taken.now) text.now) }
 {
-    let mut shelf = MemShelf::new(alloc, CHUNK, &[])?;
-    shelf.put(NAME, text.as_bytes())?;
-    match read_trace(alloc, &mut shelf, NAME) {
+    let mut shelf = TextShelf {
+        text: text.as_bytes(),
+    };
+    match read_trace(alloc, &mut shelf, "trace") {
         Ok(trace) => Ok(says(&trace, settings, taken)),
         Err(TraceFault::NoMemory) => Err(AllocError),
-        Err(_) => Ok(false),
+        Err(TraceFault::Bad { .. } | TraceFault::Read) => Ok(false),
     }
 }

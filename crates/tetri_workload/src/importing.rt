@@ -55,7 +55,8 @@ pub struct Imported {
     pub comments: usize,
 }
 
-/// The trace of a log, and what was left out. `Unlike` comes only where the trace is not read back as it should be.
+/// The trace of a log, and what was left out. `Options` comes exactly with the first option that cannot be, and `Unlike` only where the
+/// text that is made of what is taken is not read back as the trace that says so.
 pub fn import(
     alloc: Global,
     format: Format,
@@ -63,7 +64,7 @@ pub fn import(
     log: &[u8],
 ) -> Result<Imported, ImportFault>
     ensures trace { IfOk result (IsImport format options.now log.now) }
-    ensures options { IfErr result (IsRefused (entries format log.now) options.now) }
+    ensures refused { IfErr result (IsRefused (entries format log.now) options.now) }
 {
     let log = read_log(alloc, format, log)?;
     let settings = settings_of(options, log.facts, first_submit(&log.jobs))?;

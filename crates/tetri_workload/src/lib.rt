@@ -4,6 +4,7 @@
 mod confirming;
 mod importing;
 mod ordering;
+mod shelf;
 mod taking;
 mod telling;
 mod text;

@@ -1,13 +1,17 @@
-use Rattle.std.proofs.Common.{◌≡◌, ◌+◌, ◌∙◌, ◌++◌, true, length, ap, sym, subst, arith, rules}
-use Rattle.std.specs.Prelude.{Ok, string_bytes}
+use Rattle.std.proofs.Common.{◌≡◌, ◌+◌, ◌∙◌, ◌++◌, length, ap, sym, subst, arith, rules}
+use Rattle.std.specs.Prelude.{All, Ok, string_bytes}
 use Rattle.tetri_placing.specs.Options.{settings_of}
 use Rattle.tetri_placing.specs.Reading.{entries, facts_in, first_submit, jobs_in, left_in, no_facts}
 use Rattle.tetri_workload.specs.Ordering.{IsOrderBy}
-use Rattle.tetri_workload.specs.Saying.{IsReadAs}
+use Rattle.tetri_workload.specs.Saying.{IsAsked, IsReadAs}
 use Rattle.tetri_workload.specs.Taking.{so_far, taken_all}
 use Rattle.tetri_workload.specs.declared.importing.Imported.{Imported}
 use Rattle.tetri_workload.proofs.ImportLemmas.{imported}
+use Rattle.tetri_workload.proofs.TakingLemmas.{all_asked}
 use Rattle.tetri_workload.proofs.importing.import.Goals as goal
+
+pub is_read_as-requires : goal.is_read_as-requires
+is_read_as-requires c = subst (λ t. All (λ u. IsAsked u.demand) t.jobs) (sym c.in_ok-taken.ensures) (all_asked c.in_ok-settings.settings c.by_submission.new.jobs.items)
 
 pub returns-clause-trace : goal.returns-clause-trace
 returns-clause-trace c =
@@ -26,9 +30,8 @@ returns-clause-trace c =
     subst (λ js. IsOrderBy (λ j. j.account.submit) js order) c.in_ok-log.ensures.jobs c.in_ok-by_submission.ensures in
     let in_order : IsOrderBy (λ e. e.at) t.events.items events = c.in_ok-by_slot.ensures in
     let tally : so_far t ≡ taken_all s order = c.in_ok-taken.ensures in
-    let alike : c.in_ok-alike.alike ≡ true = search rules in
     let read : IsReadAs s (record (so_far t) { events = events }) (string_bytes c.in_ok-trace.trace) =
-    subst (IsReadAs s (record (so_far t) { events = events })) c.deref-2.ensures (c.in_ok-alike.ensures alike) in
+    subst (IsReadAs s (record (so_far t) { events = events })) c.deref-2.ensures (c.in_ok-alike.ensures.0 (search rules)) in
     let left : c.extend_from_slice.new.self.items ≡ left_in es ++ t.left.items =
     c.in_ok-extend_from_slice.ensures.items ∙ ap (λ cs. log.left.items ++ cs) c.deref-3.ensures.value ∙ ap (λ cs. cs ++ t.left.items) c.in_ok-log.ensures.left in
     let whole : length (jobs_in es) + length (left_in es) + log.comments ≡ length es =

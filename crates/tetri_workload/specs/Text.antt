@@ -1,0 +1,94 @@
+-- The text of a trace in which jobs arrive and are cancelled.
+use Rattle.std.specs.Prelude.{ℕ, ◌+◌, ◌/◌, ◌==◌, List, [], ◌++◌, flat_map, slice_get, Option, Some, None, if◌then◌else◌, codes, decimal}
+use Rattle.std.specs.Fmt.{signed_decimal}
+use lib.IntN.{ℤ}
+use Rattle.std.specs.List.{range_with_len}
+use Rattle.tetri_request.specs.declared.ask.Ask.{Ask}
+use Rattle.tetri_request.specs.declared.ask.Class.{Class}
+use Rattle.tetri_request.specs.declared.ask.Class.TheVariants.{Steady, Decay}
+use Rattle.tetri_trace.specs.Scenario.{Demand, Submission, asks, strl}
+use Rattle.tetri_trace.specs.declared.trace.Event.{Event}
+use Rattle.tetri_trace.specs.declared.trace.Happening.{Happening}
+use Rattle.tetri_trace.specs.declared.trace.Happening.TheVariants.{Arrive, Cancel, Drain, Undrain, Fail}
+use Rattle.tetri_placing.specs.declared.options.Settings.{Settings}
+use Rattle.tetri_workload.specs.Taking.{Tally}
+
+-- a node, named by its number from 1 on
+unfoldable pub named_text : ℕ → List ℕ
+named_text name = codes "{\"name\":\"n" ++ decimal name ++ codes "\"}"
+
+-- with a comma before each but the first
+abbrev pub node_text : ℕ → List ℕ
+node_text number = (if number == 0 then [] else codes ",") ++ named_text (number + 1)
+
+abbrev pub nodes_text : ℕ → List ℕ
+nodes_text count = flat_map node_text (range_with_len 0 count)
+
+-- the words around the nodes
+unfoldable pub opening_text : List ℕ
+opening_text = codes "{\"nodes\":["
+
+unfoldable pub limits_text : ℕ → ℕ → List ℕ
+limits_text window budget = codes "],\"window\":" ++ (decimal window ++ (codes ",\"budget\":" ++ decimal budget))
+
+unfoldable pub run_text : ℕ → ℕ → List ℕ
+run_text until unit = codes ",\"until\":" ++ decimal until ++ codes ",\"unit\":" ++ decimal unit ++ codes "}\n"
+
+-- the nodes and the limits of a run of so many slots
+abbrev pub header_text : Settings → ℕ → List ℕ
+header_text s until = opening_text ++ nodes_text s.nodes ++ limits_text s.window s.budget ++ run_text until s.unit
+
+abbrev pub class_name : Class → List ℕ
+class_name Steady = codes "steady"
+class_name Decay = codes "decay"
+
+unfoldable pub wanted_text : ℕ → ℕ → ℕ → List ℕ
+wanted_text k dur value = codes "{\"k\":" ++ decimal k ++ codes ",\"dur\":" ++ decimal dur ++ codes ",\"value\":" ++ decimal value
+
+unfoldable pub due_text : ℕ → List ℕ → List ℕ
+due_text deadline class = codes ",\"deadline\":" ++ decimal deadline ++ codes ",\"class\":\"" ++ class ++ codes "\"}"
+
+-- what a job asks for, where its worth is written before the unit
+abbrev pub ask_text : Settings → Ask → List ℕ
+ask_text s a = wanted_text a.k a.dur (a.value / s.unit) ++ due_text a.deadline (class_name a.class)
+
+abbrev pub demand_text : Settings → Demand → List ℕ
+demand_text s (strl tree) = []
+demand_text s (asks a) = ask_text s a
+
+unfoldable pub named_arrival_text : ℕ → List ℕ → List ℕ
+named_arrival_text at name = codes "{\"at\":" ++ decimal at ++ codes ",\"arrive\":\"" ++ name ++ codes "\""
+
+unfoldable pub late_text : ℤ → List ℕ
+late_text late = codes ",\"late\":" ++ signed_decimal late ++ codes ",\"ask\":"
+
+unfoldable pub closing_text : List ℕ
+closing_text = codes "}\n"
+
+abbrev pub arrival_text : Settings → Submission → List ℕ
+arrival_text s j = named_arrival_text j.arrival j.name ++ late_text j.late ++ demand_text s j.demand ++ closing_text
+
+unfoldable pub named_cancel_text : ℕ → List ℕ → List ℕ
+named_cancel_text at name = codes "{\"at\":" ++ decimal at ++ codes ",\"cancel\":\"" ++ name ++ codes "\"}\n"
+
+abbrev pub cancel_text : ℕ → Submission → List ℕ
+cancel_text at j = named_cancel_text at j.name
+
+abbrev pub of_job : (Submission → List ℕ) → Option Submission → List ℕ
+of_job text None = []
+of_job text (Some j) = text j
+
+-- the arrival or the cancellation of a job; nothing else happens in a log
+abbrev pub happening_text : Settings → List Submission → ℕ → Happening → List ℕ
+happening_text s jobs at (Arrive number) = of_job (arrival_text s) (slice_get jobs number)
+happening_text s jobs at (Cancel number) = of_job (cancel_text at) (slice_get jobs number)
+happening_text s jobs at (Drain node) = []
+happening_text s jobs at (Undrain node) = []
+happening_text s jobs at (Fail node) = []
+
+abbrev pub event_text : Settings → List Submission → Event → List ℕ
+event_text s jobs e = happening_text s jobs e.at e.what
+
+-- the header, and a line for each event
+abbrev pub text_of : Settings → Tally → List ℕ
+text_of s t = header_text s t.until ++ flat_map (event_text s t.jobs) t.events
