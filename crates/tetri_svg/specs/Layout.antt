@@ -1,0 +1,22 @@
+-- The sizes of a picture as plain data.
+use Rattle.std.specs.Prelude.{ℕ, ◌+◌, ◌≤◌}
+
+-- how many slots and nodes it has, how wide a slot and how high a node is, the gap between a bar and the ends of its row, and where the plot
+-- begins at the left
+pub record Layout : Type 0 where
+  pub slots : ℕ
+  pub nodes : ℕ
+  pub column : ℕ
+  pub row : ℕ
+  pub gap : ℕ
+  pub left : ℕ
+
+-- no picture is larger
+pub record IsSmall (f : Layout) : Type 0 where
+  pub slots : f.slots ≤ 20000
+  pub nodes : f.nodes ≤ 10000
+  pub column : f.column ≤ 32
+  pub row : f.row ≤ 24
+  pub gap : f.gap + f.gap ≤ f.row
+  pub inset : 24 ≤ f.left
+  pub left : f.left ≤ 1000

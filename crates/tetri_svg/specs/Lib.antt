@@ -1,0 +1,9 @@
+pub mod Layout
+pub mod Sizes
+pub mod Areas
+pub mod Plain
+pub mod Bars
+pub mod Shade
+pub mod Front
+pub mod Back
+pub mod Style

@@ -1,0 +1,83 @@
+-- Where things stand in a picture, in pixels.
+use Rattle.std.specs.Prelude.{ℕ, ◌+◌, ◌-◌, ◌*◌, ◌/◌, max, Bool, ◌&&◌, nat_le, if◌then◌else◌}
+use Rattle.tetri_svg.specs.declared.area.Area.{Area}
+use Rattle.tetri_svg.specs.Layout.{Layout}
+
+-- how wide a slot is, of so many
+abbrev pub column_of : ℕ → ℕ
+column_of slots =
+    if nat_le slots 40 then 32 else (if nat_le slots 80 then 16 else (if nat_le slots 200 then 8
+    else (if nat_le slots 500 then 4 else (if nat_le slots 1000 then 2 else 1))))
+
+-- how high a node is, of so many
+abbrev pub row_of : ℕ → ℕ
+row_of nodes =
+    if nat_le nodes 20 then 24 else (if nat_le nodes 60 then 16 else (if nat_le nodes 150 then 8
+    else (if nat_le nodes 400 then 4 else 3)))
+
+-- what is left free above and below a bar in a row of this height
+abbrev pub gap_of : ℕ → ℕ
+gap_of row = if nat_le 16 row then 2 else (if nat_le 8 row then 1 else 0)
+
+-- the first of 1, 2, 5, 10 and 20 that is at least this much when it is taken so many times, or else 50
+abbrev pub stride_for : ℕ → ℕ → ℕ
+stride_for size room =
+    if nat_le room size then 1 else (if nat_le room (size * 2) then 2 else (if nat_le room (size * 5) then 5
+    else (if nat_le room (size * 10) then 10 else (if nat_le room (size * 20) then 20 else 50))))
+
+-- the frame of a picture with so many slots and nodes, where the longest name of a node has so many letters
+abbrev pub frame_of : ℕ → ℕ → ℕ → Layout
+frame_of slots nodes longest =
+    record { slots = slots; nodes = nodes; column = column_of slots; row = row_of nodes; gap = gap_of (row_of nodes); left = 24 + 7 * longest }
+
+module _ (f : Layout) where
+  -- where a slot begins, and where a node's row begins
+  abbrev pub x_of : ℕ → ℕ
+  x_of slot = f.left + slot * f.column
+
+  abbrev pub y_of : ℕ → ℕ
+  y_of node = 44 + node * f.row
+
+  -- the base line of a text in a node's row
+  abbrev pub text_y : ℕ → ℕ
+  text_y node = y_of node + (f.row + 8) / 2
+
+  -- how wide these slots are
+  abbrev pub span_of : ℕ → ℕ → ℕ
+  span_of from until = (until - from) * f.column
+
+  -- these slots of a node's row
+  abbrev pub area_of : ℕ → ℕ → ℕ → Area
+  area_of node from until = record { x = x_of from; y = y_of node; width = span_of from until; height = f.row }
+
+  -- a bar over these slots in a node's row
+  abbrev pub bar_of : ℕ → ℕ → ℕ → Area
+  bar_of node from until = record { x = x_of from; y = y_of node + f.gap; width = span_of from until; height = f.row - f.gap - f.gap }
+
+  abbrev pub right_of : ℕ
+  right_of = x_of f.slots
+
+  abbrev pub bottom_of : ℕ
+  bottom_of = y_of f.nodes
+
+  -- the base line of the numbers of cycles
+  abbrev pub base_of : ℕ
+  base_of = bottom_of + 96
+
+  abbrev pub width_of : ℕ
+  width_of = max (right_of + 24) 620
+
+  abbrev pub height_of : ℕ
+  height_of = base_of + 146
+
+  -- there is room for a line round each bar
+  abbrev pub is_fine : Bool
+  is_fine = nat_le 8 f.row && nat_le 4 f.column
+
+  -- a name of so many letters has room over these slots
+  abbrev pub has_room : ℕ → ℕ → ℕ → Bool
+  has_room letters from until = nat_le 16 f.row && (nat_le letters 64 && nat_le (letters * 7 + 8) (span_of from until))
+
+-- the last slot before one
+abbrev pub last_of : ℕ → ℕ
+last_of until = until - 1
