@@ -1,3 +1,2 @@
-pub mod KeyOrderLaws
 pub mod ListLaws
 pub mod OrderLaws

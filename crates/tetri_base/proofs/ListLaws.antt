@@ -1,8 +1,13 @@
 -- Sums, counts and facts of lists.
 use Rattle.std.proofs.Common.{◌≡◌, ◌⊎◌, ℕ, zero, suc, ◌+◌, ◌<◌, ◌≤◌, ◌==◌, ◌&&◌, ◌||◌, Bool, true, false, cond, List, [], ◌∷◌, ◌++◌, length, get_or, map, AllPairs, Contains, refl, sym, ap, ◌∙◌, subst, arith, inl, inr, ⊎_elim, le_trans}
+use Rattle.std.specs.Prelude.{flat_map}
 use Rattle.std.specs.List.{list_any, list_all, filter, range_with_len}
 use Rattle.std.proofs.lemmas.Bool.{cond_both, and_from, and_parts, or_right, cases_order}
 use Rattle.std.proofs.lemmas.Bool.Decides.{nat_tests}
+use Rattle.std.proofs.lemmas.Grind.{flat_map-append}
+use Rattle.std.proofs.lemmas.List.{append-nil}
+use Rattle.std.proofs.lemmas.List.Folds.{flat_map-map}
+use Rattle.std.proofs.lemmas.List.FromFn.{map-range_with_len_more}
 use Rattle.tetri_base.specs.Lists.{sum_of, bit, count, has, Each, EachPair, Ascends}
 
 pub eq_from_test : (m n : ℕ) → (m == n) ≡ true → m ≡ n
@@ -268,3 +273,13 @@ sum_of-filter-le f p xs =
     by_test : (b : Bool) (n : ℕ) → cond b n 0 ≤ n
     by_test true n = omega arith
     by_test false n = omega arith
+
+-- ---- what the numbers from 0 on give
+-- the first numbers, and the next
+pub flat_map-next : {X : Type 0} (f : ℕ → List X) (n : ℕ) → flat_map f (range_with_len 0 (n + 1)) ≡ flat_map f (range_with_len 0 n) ++ f n
+flat_map-next f n =
+    sym (flat_map-map f (λ k. k) (range_with_len 0 (n + 1)))
+    ∙ ap (flat_map f) (map-range_with_len_more (λ k. k) 0 n n (omega arith))
+    ∙ flat_map-append f (map (λ k. k) (range_with_len 0 n)) (n ∷ [])
+    ∙ ap (λ xs. xs ++ flat_map f (n ∷ [])) (flat_map-map f (λ k. k) (range_with_len 0 n))
+    ∙ ap (λ xs. flat_map f (range_with_len 0 n) ++ xs) (append-nil (f n))

@@ -1,6 +1,7 @@
 -- Sums, counts and facts of lists, each by the structure of the list.
-use Rattle.std.specs.Prelude.{ℕ, ◌+◌, ◌<◌, Bool, true, false, not, ◌==◌, List, [], ◌∷◌}
+use Rattle.std.specs.Prelude.{ℕ, ◌+◌, ◌<◌, Bool, true, false, not, ◌==◌, List, [], ◌∷◌, map, slice_index_or, Option, Some, None, Vec}
 use Rattle.std.specs.List.{list_any}
+use Rattle.std.specs.declared.alloc.Global.{Global}
 
 -- the sum of a number of each item
 abbrev pub sum_of : {X : Type 0} → (X → ℕ) → List X → ℕ
@@ -37,3 +38,12 @@ EachPair R (x ∷ xs) = Each (R x) xs × EachPair R xs
 
 abbrev pub Ascends : List ℕ → Type 0
 Ascends ns = EachPair (λ m n. m < n) ns
+
+-- the list at a place, and the empty list past the end
+abbrev pub list_at : {X : Type 0} → List (Vec X Global) → ℕ → List X
+list_at vs k = slice_index_or (map (λ v. v.items) vs) k []
+
+-- with this item in front, if there is one
+abbrev pub with_first : {X : Type 0} → Option X → List X → List X
+with_first None xs = xs
+with_first (Some x) xs = x ∷ xs

@@ -1,5 +1,5 @@
 -- Lists in order, where a test says what comes before what.
-use Rattle.std.specs.Prelude.{Bool, if◌then◌else◌, List, [], ◌∷◌}
+use Rattle.std.specs.Prelude.{ℕ, ◌==◌, ◌&&◌, ◌||◌, Bool, nat_lt, if◌then◌else◌, List, [], ◌∷◌}
 
 module _ {X : Type 0} (before : X → X → Bool) where
   -- puts it in front of the first that it does not come after
@@ -10,3 +10,8 @@ module _ {X : Type 0} (before : X → X → Bool) where
   abbrev pub in_order : List X → List X
   in_order [] = []
   in_order (x ∷ xs) = put x (in_order xs)
+
+module _ {X : Type 0} (f : X → ℕ) where
+  -- by this number, and then by the rest
+  abbrev pub by_then : (X → X → Bool) → X → X → Bool
+  by_then rest a b = nat_lt (f a) (f b) || (f a == f b && rest a b)

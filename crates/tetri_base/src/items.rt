@@ -1,4 +1,4 @@
-// Lists of a certificate.
+// A list in one piece of memory.
 ghost use Rattle.std.specs.Prelude.{◌≡◌, ◌++◌, ◌∷◌, [], OnErr, OnOk};
 
 use std::alloc::{AllocError, Global};
@@ -56,5 +56,12 @@ impl<T> Items<T> {
         ensures { result.now ≡ self.now }
     {
         self.items.as_slice()
+    }
+
+    /// The items in order as a vector, without copying them.
+    pub fn into_items(self) -> Vec<T>
+        ensures { result.items ≡ self }
+    {
+        self.items
     }
 }

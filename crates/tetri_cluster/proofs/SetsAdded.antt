@@ -13,13 +13,13 @@ use Rattle.std.proofs.lemmas.Map.Made.{AllPairs-from_IsDistinct}
 use Rattle.std.proofs.lemmas.Bool.{cases_lt, true≢false}
 use Rattle.std.proofs.lemmas.Option.{get_or_from_slice_get}
 use Rattle.std.proofs.lemmas.Slice.Eq.{bytes_eq-Decides}
-use Rattle.tetri_cluster.specs.Sets.{AreSets, has_nodes, is_known}
+use Rattle.tetri_cluster.specs.Sets.{AreSets, has_nodes, is_known, with_set}
 
 -- sets that an index keeps apart
 pub are_sets : (sets : List (List ℕ)) → All IsStrictlyIncreasing sets → IsDistinct has_nodes sets → AreSets sets
 are_sets sets rising apart = record { ascending = rising; different = AllPairs-from_IsDistinct bytes_eq-Decides sets apart }
 
-pub ascending_with : (sets : List (List ℕ)) (nodes : List ℕ) → All IsStrictlyIncreasing sets → IsStrictlyIncreasing nodes → All IsStrictlyIncreasing (if is_known nodes sets then sets else sets ++ nodes ∷ [])
+pub ascending_with : (sets : List (List ℕ)) (nodes : List ℕ) → All IsStrictlyIncreasing sets → IsStrictlyIncreasing nodes → All IsStrictlyIncreasing (with_set sets nodes)
 ascending_with sets nodes rising h =
     elim (is_known nodes sets) as (λ b. All IsStrictlyIncreasing (if b then sets else sets ++ nodes ∷ [])) [
       | true ↦ rising

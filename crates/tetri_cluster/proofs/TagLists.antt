@@ -1,6 +1,6 @@
 -- Lists by tag that grow, and who is in them.
 use Rattle.std.proofs.Common.{◌≡◌, ◌∙◌, ℕ, zero, suc, ◌+◌, ◌<◌, ◌≤◌, ◌==◌, ◌||◌, ◌&&◌, Bool, true, false, cond, nat_lt, List, [], ◌∷◌, ◌++◌, map, length, get_or, set, not, All, Option, inl, inr, refl, sym, ap, arith, bytes_eq, length-append, add-zero}
-use Rattle.std.specs.Prelude.{filter, nat_eq, position, Some, None}
+use Rattle.std.specs.Prelude.{filter, nat_eq, Some, None}
 use Rattle.std.specs.List.{list_any, position_or_len}
 use Rattle.std.proofs.lemmas.Bool.{cases_lt, eq-eqb, false≢true, lt-ltb, ltb-true}
 use Rattle.std.proofs.lemmas.Bool.Decides.{nat_tests}

@@ -10,52 +10,15 @@ use crate::Name;
 use std::alloc::{AllocError, Global};
 use std::hash::{Hash, Hasher};
 use std::marker::Model;
+use tetri_base::Items;
 
 /// Names, in the order in which they were put.
-#[derive(Drop)]
-pub struct NameList {
-    names: Vec<Name>,
-}
+pub type NameList = Items<Name>;
 
-impl Model for NameList {
-    ghost use Rattle.std.specs.Prelude.{List, ℕ};
-
-    ghost Value = { List (List ℕ) };
-
-    ghost view = { λ l. l.names.items };
-}
-
-impl NameList {
-    /// The empty list, which takes no memory.
-    pub fn new(alloc: Global) -> Self
-        ensures { result ≡ [] }
-    {
-        NameList {
-            names: Vec::new(alloc),
-        }
-    }
-
-    /// Puts the name last.
-    pub fn push(&mut self, item: Name) -> Result<(), AllocError>
-        ensures ok { OnOk result (self.new ≡ self.old ++ item ∷ []) }
-        ensures err { OnErr result (self.new ≡ self.old) }
-    {
-        self.names.push(item)?;
-        Ok(())
-    }
-
-    /// The names in order.
-    pub fn as_slice(&self) -> &[Name]
-        ensures { result.now ≡ self.now }
-    {
-        self.names.as_slice()
-    }
-}
-
-/// Node numbers, in the order in which they were put.
+/// Node numbers, in the order in which they were put. Two sets of the same numbers in the same order are equal.
 #[derive(Drop)]
 pub struct NodeSet {
-    nodes: Vec<u32>,
+    nodes: Items<u32>,
 }
 
 impl Model for NodeSet {
@@ -63,7 +26,7 @@ impl Model for NodeSet {
 
     ghost Value = { List ℕ };
 
-    ghost view = { λ s. s.nodes.items };
+    ghost view = { λ s. s.nodes };
 }
 
 impl NodeSet {
@@ -72,7 +35,7 @@ impl NodeSet {
         ensures { result ≡ [] }
     {
         NodeSet {
-            nodes: Vec::new(alloc),
+            nodes: Items::new(alloc),
         }
     }
 
@@ -81,7 +44,7 @@ impl NodeSet {
         ensures { IfOk result (λ set. set ≡ nodes.now) }
     {
         Ok(NodeSet {
-            nodes: Vec::from_slice(alloc, nodes)?,
+            nodes: Items::of(Vec::from_slice(alloc, nodes)?),
         })
     }
 
@@ -90,8 +53,7 @@ impl NodeSet {
         ensures ok { OnOk result (self.new ≡ self.old ++ item ∷ []) }
         ensures err { OnErr result (self.new ≡ self.old) }
     {
-        self.nodes.push(item)?;
-        Ok(())
+        self.nodes.push(item)
     }
 
     /// The nodes in order.

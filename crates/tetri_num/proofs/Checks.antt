@@ -9,7 +9,7 @@ use lib.IntN.{ℤ, pos}
 use Rattle.tetri_algebra.specs.Rational.{ℚ}
 use Rattle.tetri_algebra.specs.RationalRing.{◌+ℚ◌, ◌*ℚ◌}
 use Rattle.tetri_num.specs.declared.fractions.Frac.{Frac}
-use Rattle.tetri_num.specs.Range.{IsWithin, AreWithin, is_within}
+use Rattle.tetri_algebra.specs.Range.{IsWithin, AreWithin, is_within}
 use Rattle.tetri_num.specs.Forms.{sum_numbers, product_numbers, sum_total}
 use Rattle.tetri_num.specs.Frac.{value}
 use Rattle.tetri_num.specs.Checked.{IsRepresentable, value_within, checked_sum, checked_product}

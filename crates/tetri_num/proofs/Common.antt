@@ -11,7 +11,7 @@ use Rattle.tetri_algebra.specs.Integers.{abs_positive}
 use Rattle.tetri_algebra.specs.Quotients.{abs-int_div, int_div-mul}
 use Rattle.tetri_algebra.specs.RingSolver.{var, ring, ◌⊗◌}
 use Rattle.tetri_algebra.specs.IntegerRing.{ℤ_ring}
-use Rattle.tetri_num.specs.Range.{IsWithin}
+use Rattle.tetri_algebra.specs.Range.{IsWithin}
 use Rattle.tetri_num.specs.Forms.{common}
 use Rattle.tetri_num.specs.Lowest.{IsLowest}
 

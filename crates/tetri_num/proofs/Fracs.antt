@@ -7,7 +7,7 @@ use lib.Dec.{T_prop}
 use lib.IntN.{ℤ, pos}
 use Rattle.tetri_algebra.specs.Rational.{ℚ}
 use Rattle.tetri_num.specs.declared.fractions.Frac.{Frac}
-use Rattle.tetri_num.specs.Range.{IsWithin}
+use Rattle.tetri_algebra.specs.Range.{IsWithin}
 use Rattle.tetri_num.specs.Lowest.{IsLowest}
 use Rattle.tetri_num.specs.Frac.{value}
 use Rattle.tetri_num.specs.Checked.{IsRepresentable}

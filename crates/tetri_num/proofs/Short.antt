@@ -10,7 +10,7 @@ use Rattle.tetri_algebra.specs.Gcd.{gcd_of}
 use Rattle.tetri_algebra.specs.Coprime.{gcd_of-one, gcd_of-zero, gcd_of_comm}
 use Rattle.tetri_algebra.specs.Integers.{*ℤ-one, one-*ℤ, abs_of_positive}
 use Rattle.tetri_algebra.specs.Quotients.{int_div-mul}
-use Rattle.tetri_num.specs.Range.{IsWithin, AreWithin}
+use Rattle.tetri_algebra.specs.Range.{IsWithin, AreWithin}
 use Rattle.tetri_num.specs.Lowest.{IsLowest}
 use Rattle.tetri_num.specs.Forms.{common, sum_left, sum_right, sum_total, sum_num, sum_den, sum_numbers, product_num, product_den, product_numbers}
 use Rattle.tetri_num.proofs.Common.{common-one, quotient_within, within_along}

@@ -13,7 +13,7 @@ use Rattle.tetri_algebra.specs.Rational.{ℚ, whole_ℚ, fraction, fraction_is, 
 use Rattle.tetri_algebra.specs.RationalRing.{◌+ℚ◌, ◌*ℚ◌, neg_ℚ, sum_of_parts, product_of_parts, positive_product, num-neg_ℚ, den-neg_ℚ, num-whole_ℚ, den-whole_ℚ}
 use Rattle.tetri_algebra.specs.RationalReciprocal.{recip_ℚ, recip_positive, recip_negative}
 use Rattle.tetri_num.specs.declared.fractions.Frac.{Frac}
-use Rattle.tetri_num.specs.Range.{IsWithin, AreWithin}
+use Rattle.tetri_algebra.specs.Range.{IsWithin, AreWithin}
 use Rattle.tetri_num.specs.Lowest.{IsLowest}
 use Rattle.tetri_num.specs.Forms.{sum_num, sum_den, sum_total, product_num, product_den, sum_numbers, product_numbers, recip_num, recip_den}
 use Rattle.tetri_num.specs.Frac.{value}

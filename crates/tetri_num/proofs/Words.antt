@@ -6,7 +6,7 @@ use Rattle.std.proofs.lemmas.Int.{unsigned_abs-mul, fits_signed_from_abs, to_z-o
 use lib.IntN.{ℤ, ◌*ℤ◌}
 use mir.Val.{to_z, of_z}
 use mir.Syntax.{w128}
-use Rattle.tetri_num.specs.Range.{IsWithin}
+use Rattle.tetri_algebra.specs.Range.{IsWithin}
 
 natural_product : (m n : ℕ) → m < 2 ^ 63 → n < 2 ^ 63 → m * n < 2 ^ 127
 natural_product m n h k = let l : n ≤ 2 ^ 63 = omega arith in let p = mul-le-mul_left m l in omega (arith, p)

@@ -7,7 +7,7 @@ use Rattle.tetri_algebra.specs.RingSolver.{var, nil, unit, minus, ring, ◌⊕�
 use Rattle.tetri_algebra.specs.Rational.{ℚ}
 use Rattle.tetri_algebra.specs.RationalRing.{ℚ_ring, ◌+ℚ◌, ◌*ℚ◌, neg_ℚ, zero_ℚ, one_ℚ, num-whole_ℚ, den-whole_ℚ, num-neg_ℚ, den-neg_ℚ}
 use Rattle.tetri_algebra.specs.RationalReciprocal.{recip_ℚ, recip-one, recip_positive, recip_negative, recip_zero}
-use Rattle.tetri_num.specs.Range.{AreWithin}
+use Rattle.tetri_algebra.specs.Range.{AreWithin}
 use Rattle.tetri_num.specs.Forms.{sum_numbers, product_numbers}
 use Rattle.tetri_num.specs.Checked.{IsRepresentable, checked_sum, checked_difference, checked_product, checked_quotient}
 use Rattle.tetri_num.proofs.Common.{within_along}

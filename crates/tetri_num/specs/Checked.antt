@@ -5,7 +5,7 @@ use lib.IntN.{ℤ}
 use Rattle.tetri_algebra.specs.Rational.{ℚ}
 use Rattle.tetri_algebra.specs.RationalRing.{◌+ℚ◌, ◌*ℚ◌, neg_ℚ}
 use Rattle.tetri_algebra.specs.RationalReciprocal.{recip_ℚ}
-use Rattle.tetri_num.specs.Range.{IsWithin, is_within}
+use Rattle.tetri_algebra.specs.Range.{IsWithin, is_within}
 use Rattle.tetri_num.specs.Forms.{sum_numbers, product_numbers}
 
 -- the numerator and the denominator are in range, as those of each fraction are

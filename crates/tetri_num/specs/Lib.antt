@@ -1,4 +1,3 @@
-pub mod Range
 pub mod Lowest
 pub mod Forms
 pub mod Frac

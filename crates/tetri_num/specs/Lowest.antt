@@ -2,7 +2,7 @@
 use Rattle.std.specs.Prelude.{◌≡◌, unsigned_abs, ◌<ℤ◌, pos}
 use lib.IntN.{ℤ}
 use Rattle.tetri_algebra.specs.Gcd.{gcd_of}
-use Rattle.tetri_num.specs.Range.{IsWithin}
+use Rattle.tetri_algebra.specs.Range.{IsWithin}
 
 -- a numerator and a denominator in lowest terms and in range, the denominator above 0
 pub record IsLowest (num den : ℤ) : Type 0 where

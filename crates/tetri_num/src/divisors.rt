@@ -4,7 +4,7 @@ ghost use Rattle.std.specs.Prelude.{◌≡◌, ◌<◌, ◌≤◌, ◌^◌, ◌%
 ghost use Rattle.std.specs.Prelude.{pos, ◌<ℤ◌, unsigned_abs, IsSome, IfSome};
 ghost use Rattle.std.specs.Int.{IsGcd, trailing_zeros, w64};
 ghost use Rattle.tetri_algebra.specs.Gcd.{gcd_of, lcm_of, IsLcm};
-ghost use Rattle.tetri_num.specs.Range.{IsWithin};
+ghost use Rattle.tetri_algebra.specs.Range.{IsWithin};
 ghost use Rattle.tetri_num.specs.Forms.{common};
 
 use crate::range::{product, quotient};

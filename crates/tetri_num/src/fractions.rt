@@ -8,7 +8,7 @@ ghost use Rattle.tetri_algebra.specs.Rational.{fraction, whole_ℚ};
 ghost use Rattle.tetri_algebra.specs.RationalRing.{◌+ℚ◌, ◌-ℚ◌, ◌*ℚ◌};
 ghost use Rattle.tetri_algebra.specs.RationalReciprocal.{◌/ℚ◌};
 ghost use Rattle.tetri_algebra.specs.RationalOrder.{◌<ℚ◌, floor_ℚ};
-ghost use Rattle.tetri_num.specs.Range.{IsWithin, AreWithin};
+ghost use Rattle.tetri_algebra.specs.Range.{IsWithin, AreWithin};
 ghost use Rattle.tetri_num.specs.Lowest.{IsLowest};
 ghost use Rattle.tetri_num.specs.Forms.{sum_numbers, sum_num, sum_den};
 ghost use Rattle.tetri_num.specs.Forms.{product_numbers, product_num, product_den};

@@ -12,10 +12,10 @@ use Rattle.tetri_algebra.specs.Quotients.{abs-int_div}
 use Rattle.tetri_algebra.specs.Rational.{ℚ, fraction, fraction-cross}
 use Rattle.tetri_algebra.specs.RationalRing.{◌+ℚ◌, ◌*ℚ◌, neg_ℚ, product_of_parts, positive_product, num-whole_ℚ, den-whole_ℚ, num-neg_ℚ, den-neg_ℚ}
 use Rattle.tetri_algebra.specs.RationalReciprocal.{◌/ℚ◌, recip_ℚ, recip_positive, recip_negative, recip_zero}
-use Rattle.tetri_num.specs.Range.{AreWithin}
+use Rattle.tetri_algebra.specs.Range.{AreWithin}
 use Rattle.tetri_num.specs.Forms.{sum_numbers, sum_left, sum_right, sum_total, sum_den, product_numbers, product_num, product_den}
 use Rattle.tetri_num.specs.Checked.{checked_sum, checked_product, checked_quotient}
-use Rattle.tetri_num.proofs.Checks.{value_within_some}
+use Rattle.tetri_num.proofs.FractionLaws.{value_within_some}
 use Rattle.tetri_rows.specs.Small.{IsSmall}
 
 -- ---- natural numbers

@@ -10,8 +10,8 @@ use Rattle.tetri_algebra.specs.Rational.{fraction, fraction_is}
 use Rattle.tetri_algebra.specs.RationalRing.{zero_ℚ}
 use Rattle.tetri_num.specs.declared.fractions.Frac.{Frac}
 use Rattle.tetri_num.specs.Frac.{value}
-use Rattle.tetri_num.specs.Range.{IsWithin}
-use Rattle.tetri_num.proofs.Values.{num-value, den-value}
+use Rattle.tetri_algebra.specs.Range.{IsWithin}
+use Rattle.tetri_num.proofs.FractionLaws.{num-value, den-value}
 use Rattle.tetri_rows.specs.Rows.{meaning}
 
 pub fractions_next : (d e : ℤ) (row : List ℤ) (k : ℕ) (done made : List Frac) (y : Frac) → d ≡ e → k < length row → made ≡ done ++ (y ∷ []) → value y ≡ get_or (meaning e row) k zero_ℚ → map value done ≡ take k (meaning d row) →

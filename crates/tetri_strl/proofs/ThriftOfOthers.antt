@@ -1,5 +1,5 @@
 -- A job's thrift depends on its own grants alone.
-use Rattle.std.proofs.Common.{◌≡◌, ◌≢◌, ℕ, ◌+◌, ◌⊎◌, ◌==◌, Bool, true, List, [], ◌∷◌, ◌++◌, map, length, Contains, false, cond, refl, sym, ap, ◌∙◌, subst, inl, inr, ⊎_elim, arith, append-nil}
+use Rattle.std.proofs.Common.{◌≡◌, ◌≢◌, ℕ, ◌+◌, ◌⊎◌, ◌==◌, Bool, true, List, [], ◌∷◌, ◌++◌, map, Contains, false, cond, refl, sym, ap, ◌∙◌, subst, inl, inr, ⊎_elim, arith, append-nil}
 use Rattle.std.specs.List.{filter}
 use Rattle.std.proofs.lemmas.Bool.Decides.{nat_tests}
 use Rattle.std.proofs.lemmas.List.Elements.{All-head, All-tail}
@@ -7,7 +7,7 @@ use Rattle.tetri_strl.specs.declared.expr.Leaf.{Leaf}
 use Rattle.tetri_strl.specs.declared.grants.Grant.{Grant}
 use Rattle.tetri_strl.specs.Thrifty.{IsBare, AtMostOne, MeetsOne, IsThrifty, AreThrifty, held_leaves, IsThriftyFor}
 use Rattle.tetri_strl.specs.Tree.{Operator, greatest, least, added, Tree, one, join, scale, barrier, Trees, none, more, numbers, numbers_of}
-use Rattle.tetri_strl.specs.Worth.{granted, joined, leaf_worth, worth_at, worth_by, worths_by}
+use Rattle.tetri_strl.specs.Worth.{granted, joined, leaf_worth, worth_at}
 use Rattle.tetri_strl.proofs.GrantLemmas.{NamesNot, granted-append, granted-others, worth_by-same, worths_by-same}
 
 module _ (value other : Leaf → ℕ) (held fewer : List ℕ) (same : (l : Leaf) → value l ≡ other l) (within : (n : ℕ) → Contains fewer n → Contains held n) where

@@ -14,14 +14,10 @@ use crate::expr::Expr;
 pub fn worth_comes_of_grants(e: &Expr)
     requires { IsSound (tree e.now) }
     ensures { (a : List Grant) (job : ℕ) → (worth_of a job (tree e.now) ≡ 0 → ⊥) → HasGrant a job (tree e.now) }
-{
-    let _ = e;
-}
+{}
 
 /// A thrifty allotment starts all that it gives to a job in one slot.
 pub fn thrifty_grants_start_together(e: &Expr)
     requires { IsAligned (tree e.now) }
     ensures { (a : List Grant) (job : ℕ) → IsThriftyFor a job (tree e.now) → HasOneHeldStart a job (tree e.now) }
-{
-    let _ = e;
-}
+{}

@@ -1,4 +1,4 @@
-use Rattle.std.proofs.Common.{rules, refl}
+use Rattle.std.proofs.Common.{refl}
 use mir.Val.{to_z, of_z}
 use mir.Syntax.{w64}
 use Rattle.tetri_rows.proofs.Words.{short_word}

@@ -1,7 +1,6 @@
-use Rattle.std.proofs.Common.{◌≡◌, ◌++◌, ◌∙◌, ap, sym}
+use Rattle.std.proofs.Common.{◌++◌, ◌∙◌, ap, sym}
 use Rattle.std.proofs.lemmas.List.{append-nil, drop_all}
 use Rattle.std.specs.List.{filter}
-use Rattle.tetri_strl.specs.Tree.{tree}
 use Rattle.tetri_strl.specs.Trim.{earns}
 use Rattle.tetri_strl.proofs.trimming.trim_into.Goals as goal
 

@@ -1,4 +1,4 @@
--- The range of numerators and denominators.
+-- The range of whole numbers that the code works with.
 use Rattle.std.specs.Prelude.{◌^◌, ◌<◌, Bool, List, [], ◌∷◌, nat_lt, unsigned_abs}
 use lib.IntN.{ℤ}
 
