@@ -1,6 +1,7 @@
-pub mod FitLaws
+pub mod AdviceLaws
+pub mod FitLemmas
 pub mod FitSame
-pub mod GreedyLaws
+pub mod GreedyLemmas
 pub mod OrderLemmas
-pub mod SeatLaws
+pub mod SeatFacts
 pub mod SeatLemmas

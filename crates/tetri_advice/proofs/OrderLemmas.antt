@@ -1,9 +1,9 @@
 -- Lists in order hold what they held before.
-use Rattle.std.proofs.Common.{◌≡◌, zero, suc, ◌+◌, ◌<◌, Bool, true, false, List, [], ◌∷◌, length, All, AllPairs, Contains, arith}
+use Rattle.std.proofs.Common.{◌≡◌, zero, suc, Bool, List, [], ◌∷◌, All, AllPairs, arith}
 use Rattle.std.proofs.lemmas.Bool.{cond_both}
 use Rattle.tetri_base.specs.Lists.{Each, EachPair}
 use Rattle.tetri_base.specs.Order.{put, in_order}
-use Rattle.tetri_base.proofs.ListLaws.{Each-from, Each-get, Each-map, EachPair-from}
+use Rattle.tetri_base.proofs.ListLaws.{Each-get, EachPair-from}
 use Rattle.tetri_strl.specs.declared.grants.Grant.{Grant}
 use Rattle.tetri_space.specs.GrantOrder.{comes_first}
 use Rattle.tetri_space.specs.Lawful.{AreApart, IsLawful, IsLawfulGrant}

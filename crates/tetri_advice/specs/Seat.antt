@@ -1,5 +1,6 @@
 -- Who sits in a panel, as plain data.
-use Rattle.std.specs.Prelude.{◌≡◌, ℕ, List, [], ◌∷◌, length, Option, Some, None, IfSome}
+use Rattle.std.specs.Prelude.{◌≡◌, ℕ, List, [], ◌∷◌, length, Option, IfSome}
+use Rattle.tetri_base.specs.Lists.{with_first}
 use Rattle.tetri_strl.specs.declared.grants.Grant.{Grant}
 use Rattle.tetri_space.specs.Space.{Space}
 use Rattle.tetri_advice.specs.Creeds.{IsListed}
@@ -16,15 +17,10 @@ pub record Seat : Type 0 where
 abbrev pub Tells : Space → Seat → Type 0
 Tells s a = IfSome a.creed (IsListed s (a.says s))
 
--- with a creed in front, if there is one
-abbrev pub with_creed : Option Creed → List Creed → List Creed
-with_creed None cs = cs
-with_creed (Some c) cs = c ∷ cs
-
 -- the creeds that are told, in seating order
 abbrev pub creeds_of : List Seat → List Creed
 creeds_of [] = []
-creeds_of (a ∷ as') = with_creed a.creed (creeds_of as')
+creeds_of (a ∷ as') = with_first a.creed (creeds_of as')
 
 -- each advisor tells a creed
 abbrev pub AllTell : List Seat → Type 0

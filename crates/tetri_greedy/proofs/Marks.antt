@@ -9,11 +9,11 @@ use Rattle.std.proofs.lemmas.List.Folds.{list_any-append}
 use Rattle.std.proofs.lemmas.Nat.Bits.{bit_at_mask_above, bit_at_mask_below}
 use Rattle.tetri_strl.specs.declared.expr.Leaf.{Leaf}
 use Rattle.tetri_space.specs.Free.{is_idle}
-use Rattle.tetri_space.specs.Slots.{is_marked, marked, meets, slots_of}
+use Rattle.tetri_space.specs.Slots.{marked, meets, slots_of}
 use Rattle.tetri_space.specs.Space.{Space}
-use Rattle.tetri_space.proofs.SlotLaws.{IsInWindow, and_left, and_right, bit_of_meeting, length-marked, marked_meets, meets_overlap, slots_bound}
+use Rattle.tetri_space.proofs.InstanceLaws.{IsInWindow, and_left, and_right, bit_of_meeting, length-marked, marked_meets, meets_overlap, slots_bound}
 use Rattle.tetri_advice.specs.Fit.{Placement, is_held, is_held_by, is_live}
-use Rattle.tetri_greedy.specs.Held.{AreBusy, AreHoldable, IsHoldable, TellsOf, all_marked, busy_slots}
+use Rattle.tetri_greedy.specs.Held.{AreBusy, AreHoldable, IsHoldable, TellsOf, all_marked}
 
 pub length-all_marked : (now : ℕ) (ps : List Placement) (masks : List ℕ) → length (all_marked now masks ps) ≡ length masks
 length-all_marked now [] masks = refl

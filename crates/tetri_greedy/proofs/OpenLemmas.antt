@@ -1,25 +1,23 @@
 -- How many nodes are not held in a slot.
-use Rattle.std.proofs.Common.{◌≡◌, ℕ, zero, suc, ◌+◌, ◌-◌, ◌^◌, ◌<◌, ◌≤◌, ◌==◌, ◌&&◌, ◌||◌, ◌⊎◌, inl, inr, Bool, true, false, not, min, max, List, [], ◌∷◌, ◌++◌, cond, length, get_or, set, replicate, take, All, Contains, bit_or, refl, sym, ap, ◌∙◌, subst, arith, true≢false}
+use Rattle.std.proofs.Common.{◌≡◌, ℕ, zero, suc, ◌+◌, ◌-◌, ◌<◌, ◌≤◌, ◌==◌, ◌&&◌, ◌||◌, inl, inr, Bool, true, false, not, min, List, [], ◌∷◌, ◌++◌, cond, length, get_or, set, replicate, take, All, Contains, bit_or, refl, sym, ap, ◌∙◌, subst, arith, true≢false}
 use Rattle.std.specs.Int.{bit_at}
 use Rattle.std.specs.List.{filter, range_with_len}
 use Rattle.std.specs.List.Sorted.{IsStrictlyIncreasing}
-use Rattle.std.proofs.Math.ListN.{length-set}
 use Rattle.std.proofs.lemmas.Bool.{cases_eq}
-use Rattle.std.proofs.lemmas.Bool.Decides.{nat_tests}
 use Rattle.std.proofs.lemmas.Grind.{get_or_default_zero}
 use Rattle.std.proofs.lemmas.List.{append-nil, get_or-replicate, length-replicate}
 use Rattle.std.proofs.lemmas.List.Elements.{All-contains, All-filter, All-take, All-weaker, filter_passes}
 use Rattle.std.proofs.lemmas.List.Kept.{AllPairs-from_increasing}
 use Rattle.std.proofs.lemmas.Nat.Bits.{bit_at-lt, bit_at_mask_inside, bit_at_or}
-use Rattle.tetri_base.specs.Lists.{Ascends, Each, EachPair, bit, count, has, sum_of}
-use Rattle.tetri_base.proofs.ListLaws.{Each-at, Each-from, EachPair-from, common-le, eq_from_test, filter-ascends, has-range, range-ascends, sum_of-le, sum_of-range, test_from_eq}
+use Rattle.tetri_base.specs.Lists.{Ascends, Each, bit, count, has, sum_of}
+use Rattle.tetri_base.proofs.ListLaws.{Each-at, Each-from, EachPair-from, common-le, eq_from_test, filter-ascends, has-range, sum_of-le, sum_of-range, test_from_eq}
 use Rattle.tetri_strl.specs.declared.expr.Leaf.{Leaf}
 use Rattle.tetri_space.specs.Slots.{is_marked, slots_of}
-use Rattle.tetri_space.proofs.SlotLaws.{meets_at}
+use Rattle.tetri_space.proofs.InstanceLaws.{meets_at}
 use Rattle.tetri_space.specs.Free.{is_free_throughout}
 use Rattle.tetri_space.specs.Space.{Space, set_of}
 use Rattle.tetri_advice.specs.Fit.{Placement, enough, fit_of_leaf, is_available, is_held, is_live, lowest}
-use Rattle.tetri_advice.proofs.OrderLemmas.{each_of}
+use Rattle.tetri_advice.proofs.AdviceLaws.{each_of}
 use Rattle.tetri_greedy.specs.Fitted.{Fitted, grown}
 use Rattle.tetri_greedy.specs.Held.{AreMost, is_clear}
 

@@ -1,7 +1,7 @@
 -- Ranks, and jobs in their order.
-use Rattle.std.proofs.Common.{◌≡◌, ℕ, zero, suc, ◌+◌, ◌-◌, ◌^◌, ◌<◌, ◌≤◌, ◌==◌, ◌||◌, ◌⊎◌, inl, inr, Bool, true, false, cond, max, List, [], ◌∷◌, ◌++◌, map, length, get_or, take, drop, All, refl, sym, ap, ◌∙◌, subst, arith, true≢false, nat_lt}
+use Rattle.std.proofs.Common.{◌≡◌, ℕ, ◌+◌, ◌-◌, ◌^◌, ◌<◌, ◌≤◌, ◌==◌, ◌||◌, inl, inr, Bool, true, false, cond, max, List, [], ◌∷◌, ◌++◌, map, length, get_or, take, drop, All, refl, sym, ap, ◌∙◌, subst, arith, true≢false, nat_lt}
 use Rattle.std.specs.List.{filter, list_any}
-use Rattle.std.proofs.lemmas.Bool.{cases_lt, cond_both}
+use Rattle.std.proofs.lemmas.Bool.{cases_lt}
 use Rattle.std.proofs.lemmas.Bool.Decides.{nat_tests}
 use Rattle.std.proofs.lemmas.List.{get_or-map, length-map, map-append, take_more}
 use Rattle.std.proofs.lemmas.List.Elements.{All-append, All-cons, All-nil, filter-append}
@@ -15,10 +15,10 @@ use Rattle.tetri_strl.specs.Tree.{leaves, leaves_of, tree, trees}
 use Rattle.tetri_strl.specs.Worth.{greatest_of}
 use Rattle.tetri_space.specs.declared.instance.Offer.{Offer}
 use Rattle.tetri_space.specs.Space.{Bid, Space, bid, is_live}
-use Rattle.tetri_advice.specs.Creeds.{creed_order, deadline, is_served_first, window_top}
+use Rattle.tetri_advice.specs.Creeds.{deadline, is_served_first, window_top}
 use Rattle.tetri_advice.specs.declared.creed.Creed.{Creed}
 use Rattle.tetri_advice.specs.declared.creed.Creed.TheVariants.{Deadline, Worth}
-use Rattle.tetri_advice.proofs.OrderLemmas.{all_of, each_of}
+use Rattle.tetri_advice.proofs.AdviceLaws.{all_of, each_of}
 use Rattle.tetri_greedy.specs.Order.{AreInOrder, AreRanked, IsRanked, is_lower, job_at, past_last_start, rank_of}
 use Rattle.tetri_greedy.specs.declared.order.Ranked.{Ranked}
 use Rattle.tetri_greedy.proofs.Steps.{next_part}

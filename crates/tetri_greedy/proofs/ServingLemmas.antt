@@ -14,9 +14,7 @@ use Rattle.tetri_space.specs.Space.{Bid, Covers, Space}
 use Rattle.tetri_space.proofs.InstanceLaws.{throughout_decides}
 use Rattle.tetri_advice.specs.Creeds.{served}
 use Rattle.tetri_advice.specs.Fit.{Placement, fit, fit_beside, grants_of, is_held}
-use Rattle.tetri_advice.proofs.FitLaws.{IsRight}
-use Rattle.tetri_advice.proofs.FitSame.{fit-same}
-use Rattle.tetri_advice.proofs.GreedyLaws.{bid_fit, good_bid}
+use Rattle.tetri_advice.proofs.AdviceLaws.{bid_fit, fit-same, good_bid, IsRight}
 use Rattle.tetri_greedy.specs.Held.{AreHoldable, TellsOf, all_marked}
 use Rattle.tetri_greedy.specs.Order.{job_at}
 use Rattle.tetri_greedy.specs.Served.{IsServed}

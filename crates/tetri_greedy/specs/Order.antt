@@ -1,5 +1,5 @@
 -- Jobs by a number that says when they are served.
-use Rattle.std.specs.Prelude.{◌≡◌, ℕ, ◌+◌, ◌-◌, ◌^◌, ◌<◌, ◌==◌, Bool, nat_lt, if◌then◌else◌, All, List, map, filter, length, slice_index_or}
+use Rattle.std.specs.Prelude.{◌≡◌, ℕ, ◌+◌, ◌-◌, ◌^◌, ◌<◌, Bool, nat_lt, All, List, map, filter, length, slice_index_or}
 use Rattle.tetri_strl.specs.declared.expr.Leaf.{Leaf}
 use Rattle.tetri_strl.specs.Prune.{starts_in}
 use Rattle.tetri_strl.specs.Worth.{greatest_of}

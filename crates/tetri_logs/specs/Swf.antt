@@ -3,12 +3,10 @@ use Rattle.std.specs.Prelude.{ℕ, ◌==◌, ◌||◌, Bool, true, false, not, L
 use Rattle.tetri_base.specs.ResultSteps.{◌>>=◌}
 use Rattle.tetri_logs.specs.Account.{account_of, positive}
 use Rattle.tetri_logs.specs.Words.{amount, needed}
+use Rattle.tetri_io.specs.Words.{is_blank}
 use Rattle.tetri_logs.specs.declared.account.Account.{Account}
 use Rattle.tetri_logs.specs.declared.entry.Cause.{Cause}
 use Rattle.tetri_logs.specs.declared.entry.Cause.TheVariants.{Unreadable, Step, NoNodes}
-
-abbrev pub is_blank : ℕ → Bool
-is_blank b = b == 32 || b == 9 || b == 13
 
 -- whether the first byte that is no blank begins a comment, or there is none
 abbrev pub is_comment : List ℕ → Bool

@@ -1,16 +1,11 @@
 // A line of the Standard Workload Format: 18 numbers, where -1 says that a number is not known.
 ghost use Rattle.std.specs.Prelude.{◌≡◌, map};
-ghost use Rattle.tetri_logs.specs.Swf.{is_blank, is_comment, is_known_as, is_part, swf_account, width_of};
+ghost use Rattle.tetri_logs.specs.Swf.{is_comment, is_known_as, is_part, swf_account, width_of};
 
 use crate::account::{Account, Columns, account_of, positive};
 use crate::entry::Cause;
 use crate::words::{amount, needed};
-
-fn is_blank(b: u8) -> bool
-    ensures { result ≡ is_blank b }
-{
-    b == b' ' || b == b'\t' || b == b'\r'
-}
+use tetri_io::is_blank;
 
 /// Whether the first byte that is no blank begins a comment, or there is none.
 pub(crate) fn is_comment(line: &[u8]) -> bool

@@ -1,2 +1,3 @@
-pub mod Options
+pub mod NoticeLaws
 pub mod ObjectLemmas
+pub mod Options

@@ -1,5 +1,6 @@
 -- What the steps of reading answer.
-use Rattle.std.specs.Prelude.{◌≡◌, Result, Ok, Err}
+use Rattle.std.specs.Prelude.{◌≡◌, Result, Err}
+use Rattle.tetri_base.specs.Answers.{AnswersBy}
 use Rattle.tetri_notice.specs.declared.fault.TraceWhy.{TraceWhy}
 use Rattle.tetri_notice.specs.declared.fault.Stop.{Stop}
 use Rattle.tetri_notice.specs.declared.fault.Stop.TheVariants as stops
@@ -11,5 +12,4 @@ Stops stops.NoMemory reading = Unit {0}
 
 -- What a step returned, seen by view, is what reading gives, unless memory ran out.
 abbrev pub Gives : {X Y : Type 0} → (X → Y) → Result X Stop → Result Y TraceWhy → Type 0
-Gives view (Ok x) reading = reading ≡ Ok (view x)
-Gives view (Err e) reading = Stops e reading
+Gives = AnswersBy Stops

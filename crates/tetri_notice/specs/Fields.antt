@@ -1,12 +1,12 @@
 -- What the values of a JSON object say.
 use Rattle.std.specs.Prelude.{ℕ, ◌&&◌, ℤ, pos, negsuc, List, [], ◌∷◌, Bool, nat_le, int_le, is_some, if◌then◌else◌, Option, Some, None, option_map, option_and_then, ok_or, Result, Ok, Err, codes}
 use Rattle.std.specs.Str.{is_utf8}
+use Rattle.tetri_base.specs.ResultSteps.{◌>>=◌}
 use Rattle.serde_json.specs.Data.{Data, Items, no_items, item}
 use Rattle.serde_json.specs.Read.{read}
 use Rattle.serde_json.specs.Find.{get, as_null, as_number, as_i64, as_str, as_array, as_object}
 use Rattle.tetri_cluster.specs.Names.{is_name}
 use Rattle.tetri_cluster.specs.declared.cluster.NodeText.{NodeText}
-use Rattle.tetri_base.specs.ResultSteps.{◌>>=◌}
 use Rattle.tetri_notice.specs.declared.fault.Field.{Field}
 use Rattle.tetri_notice.specs.declared.fault.TraceWhy.{TraceWhy}
 use Rattle.tetri_notice.specs.declared.fault.TraceWhy.TheVariants.{MissingField, NotJson, NotObject}

@@ -1,9 +1,9 @@
 -- What the header of a trace says, with names for what has no number yet.
 use Rattle.std.specs.Prelude.{◌≡◌, ◌≤◌, ◌&&◌, true, All, List, length, nat_le, if◌then◌else◌, Option, Some, None, option_and_then, ok_or, Result, Ok, codes}
+use Rattle.tetri_base.specs.ResultSteps.{◌>>=◌}
 use Rattle.serde_json.specs.Data.{Data}
 use Rattle.serde_json.specs.Find.{get, as_array}
 use Rattle.serde_json.specs.View.{view}
-use Rattle.tetri_base.specs.ResultSteps.{◌>>=◌}
 use Rattle.tetri_cluster.specs.Cluster.{names_of}
 use Rattle.tetri_cluster.specs.Names.{is_name}
 use Rattle.tetri_cluster.specs.declared.cluster.NodeText.{NodeText}

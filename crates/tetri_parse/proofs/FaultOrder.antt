@@ -205,11 +205,11 @@ module _ (cluster : List NodeText) where
 abbrev Before : Miss → Miss → Type 0
 Before m n = (n.left < m.left) ⊎ ((m.left ≡ n.left) × (fault_number m.fault < fault_number n.fault))
 
-abbrev IsWithin : ℕ → ℕ → Miss → Type 0
-IsWithin high low m = (low < m.left) × (m.left ≤ high)
+abbrev LiesBetween : ℕ → ℕ → Miss → Type 0
+LiesBetween high low m = (low < m.left) × (m.left ≤ high)
 
 record AreBetween (high low : ℕ) (ms : List Miss) : Type 0 where
-  within : Each (IsWithin high low) ms
+  within : Each (LiesBetween high low) ms
   ordered : EachPair Before ms
 
 none_between : (high low : ℕ) → AreBetween high low []
@@ -223,11 +223,11 @@ if_between false fault left high low lt le = none_between high low
 append_between : (high mid low : ℕ) (ms ns : List Miss) → mid ≤ high → low ≤ mid → AreBetween high mid ms → AreBetween mid low ns → AreBetween high low (ms ++ ns)
 append_between high mid low ms ns below above f g = record {
   within =
-      Each-append (IsWithin high low) ms ns (Each-map (IsWithin high mid) (IsWithin high low) (λ m h. (omega (arith, h.0, above), h.1)) ms f.within)
-      (Each-map (IsWithin mid low) (IsWithin high low) (λ n h. (h.0, omega (arith, h.1, below))) ns g.within);
+      Each-append (LiesBetween high low) ms ns (Each-map (LiesBetween high mid) (LiesBetween high low) (λ m h. (omega (arith, h.0, above), h.1)) ms f.within)
+      (Each-map (LiesBetween mid low) (LiesBetween high low) (λ n h. (h.0, omega (arith, h.1, below))) ns g.within);
   ordered =
       EachPair-append Before ms ns f.ordered g.ordered
-      (Each-across (IsWithin high mid) (IsWithin mid low) Before (λ m n h k. inl (omega (arith, h.0, k.1))) ms ns f.within g.within);
+      (Each-across (LiesBetween high mid) (LiesBetween mid low) Before (λ m n h k. inl (omega (arith, h.0, k.1))) ms ns f.within g.within);
 }
 
 set_between : (left : ℕ) (nodes : Option (List ℕ)) (sets : List (List ℕ)) (low : ℕ) → low < left → AreBetween left low (set_faults left nodes sets)
@@ -246,7 +246,7 @@ word_between : (b c : Bool) (left mid low : ℕ) (ms : List Miss) → mid < left
 word_between false c left mid low ms lt le h = rich_between c left mid low ms lt le h
 word_between true c left mid low ms lt le h =
     let rest = rich_between c left mid low ms lt le h in
-    let behind : Each (Before (record { fault = Mixed; left = left })) ms = Each-map (IsWithin mid low) (Before (record { fault = Mixed; left = left })) (λ n k. inl (omega (arith, k.1, lt))) ms h.within in
+    let behind : Each (Before (record { fault = Mixed; left = left })) ms = Each-map (LiesBetween mid low) (Before (record { fault = Mixed; left = left })) (λ n k. inl (omega (arith, k.1, lt))) ms h.within in
     record {
       within = ((omega (arith, lt, le), omega arith), rest.within);
       ordered = (Each-append (Before (record { fault = Mixed; left = left })) (fault_if c TooRich left) ms (tied c) behind, rest.ordered);
@@ -262,7 +262,7 @@ module _ (unit : ℕ) where
       let value = if_between (l.linear && not (l.v * unit % l.k == 0)) Uneven l.value_left l.value_left low h.3 (omega arith) in
       let set = append_between l.set_left l.value_left low (set_faults l.set_left l.nodes sets) _ (omega (arith, h.2)) (omega (arith, h.3)) (set_between l.set_left l.nodes sets l.value_left h.2) value in
       let all = word_between (list_any (λ s. not (s == l.start)) starts) (nat_lt PEAK (l.v * unit)) l.left l.set_left low _ h.1 (omega (arith, h.2, h.3)) set in
-      record { within = Each-map (IsWithin l.left low) (IsWithin high low) (λ m k. (k.0, omega (arith, k.1, h.0))) (leaf_faults unit starts l sets) all.within; ordered = all.ordered }
+      record { within = Each-map (LiesBetween l.left low) (LiesBetween high low) (λ m k. (k.0, omega (arith, k.1, h.0))) (leaf_faults unit starts l sets) all.within; ordered = all.ordered }
 
   mutual
     faults_between : (starts : List ℕ) (p : Phrase) (sets : List (List ℕ)) (high low : ℕ) → IsPlaced high p low → AreBetween high low (all_faults unit starts p sets)
@@ -289,7 +289,7 @@ module _ (unit : ℕ) where
 
 -- ---- by their offsets
 offsets_ascend : (count low : ℕ) (ms : List Miss) → AreBetween count low ms → EachPair (ComesBefore count) ms
-offsets_ascend count low ms h = EachPair-with (IsWithin count low) Before (ComesBefore count) (λ m n p q before. comes m n p.1 q.1 before) ms h.within h.ordered
+offsets_ascend count low ms h = EachPair-with (LiesBetween count low) Before (ComesBefore count) (λ m n p q before. comes m n p.1 q.1 before) ms h.within h.ordered
   where
     comes : (m n : Miss) → m.left ≤ count → n.left ≤ count → Before m n → ComesBefore count m n
     comes m n p q (inl lt) = inl (omega (arith, p, q, lt))

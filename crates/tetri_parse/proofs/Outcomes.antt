@@ -6,7 +6,8 @@ use Rattle.tetri_strl.specs.Tree.{tree}
 use Rattle.tetri_parse.specs.declared.fault.Stop.{Stop}
 use Rattle.tetri_parse.specs.Answers.{Gives}
 use Rattle.tetri_parse.specs.Phrase.{Phrase}
-use Rattle.tetri_parse.specs.TextTree.{AreWithin, IsTextTree}
+use Rattle.tetri_parse.specs.TextTree.{IsTextTree}
+use Rattle.tetri_cluster.specs.Sets.{HaveNodesBelow}
 use Rattle.tetri_parse.specs.SetText.{IsNodeSet}
 use Rattle.tetri_parse.specs.Settling.{settled, settled_set}
 use Rattle.tetri_parse.specs.Written.{IsSpelled}
@@ -19,16 +20,16 @@ module _ (unit arrival count : ℕ) (early : arrival ≤ 10000) (p : Phrase) (to
   read_tree (Ok e) h = (is_read unit arrival count early p to sets (tree e, after) spelled h).0
   read_tree (Err e) h = tt
 
-  pub read_within : (r : Result Expr Stop) → Gives (λ e. (tree e, after)) r (settled unit arrival None p sets) → IfOk r (λ _. AreWithin count sets → AreWithin count after)
+  pub read_within : (r : Result Expr Stop) → Gives (λ e. (tree e, after)) r (settled unit arrival None p sets) → IfOk r (λ _. HaveNodesBelow count sets → HaveNodesBelow count after)
   read_within (Ok e) h = (is_read unit arrival count early p to sets (tree e, after) spelled h).1
   read_within (Err e) h = tt
 
 -- a set over the nodes of a cluster keeps the sets so
-pub set_within : (left count : ℕ) (nodes : Option (List ℕ)) (sets after : List (List ℕ)) (r : Result ℕ Stop) → Gives (λ n. (n, after)) r (settled_set left nodes sets) → OnErr r (after ≡ sets) → IfSome nodes (All (λ n. n < count)) → AreWithin count sets → AreWithin count after
+pub set_within : (left count : ℕ) (nodes : Option (List ℕ)) (sets after : List (List ℕ)) (r : Result ℕ Stop) → Gives (λ n. (n, after)) r (settled_set left nodes sets) → OnErr r (after ≡ sets) → IfSome nodes (All (λ n. n < count)) → HaveNodesBelow count sets → HaveNodesBelow count after
 set_within left count nodes sets after (Ok n) h same known before =
     let found = set_found left nodes sets (n, after) h in
     added_all found.0 sets (n, after) found.2 (All (λ m. m < count)) before (subst (λ o. IfSome o (All (λ m. m < count))) found.1 known)
-set_within left count nodes sets after (Err e) h same known before = subst (AreWithin count) (sym same) before
+set_within left count nodes sets after (Err e) h same known before = subst (HaveNodesBelow count) (sym same) before
 
 pub nodes_known : (count : ℕ) (nodes : Option (List ℕ)) → IfSome nodes (IsNodeSet count) → IfSome nodes (All (λ n. n < count))
 nodes_known count None h = tt

@@ -10,7 +10,7 @@ use Rattle.std.proofs.lemmas.Slice.Eq.{bytes_eq-Decides}
 use Rattle.tetri_cluster.specs.declared.cluster.NodeText.{NodeText}
 use Rattle.tetri_cluster.specs.Names.{differ, is_name}
 use Rattle.tetri_cluster.specs.Cluster.{names_of, name_at}
-use Rattle.tetri_cluster.proofs.NamesBack.{number_back}
+use Rattle.tetri_cluster.proofs.ClusterLaws.{number_back}
 use Rattle.tetri_parse.specs.declared.token.Class.TheVariants.{Named}
 use Rattle.tetri_base.specs.ResultSteps.{◌>>=◌}
 use Rattle.tetri_parse.specs.Printing.{after_comma, with_commas, is_every, set_text, HasNames}

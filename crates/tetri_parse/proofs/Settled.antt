@@ -14,7 +14,8 @@ use Rattle.tetri_parse.specs.declared.fault.Fault.TheVariants.{Mixed, Uneven}
 use Rattle.tetri_parse.specs.LeafText.{LeafText}
 use Rattle.tetri_base.specs.ResultSteps.{◌>>=◌}
 use Rattle.tetri_parse.specs.Phrase.{Phrase, Phrases, asked, joined, scaled, barred, nothing, followed}
-use Rattle.tetri_parse.specs.TextTree.{AreWithin, IsTextTree}
+use Rattle.tetri_parse.specs.TextTree.{IsTextTree}
+use Rattle.tetri_cluster.specs.Sets.{HaveNodesBelow}
 use Rattle.tetri_parse.specs.Settling.{first_start_of, wanted_below, is_mixed, settled_set, unless_rich, made_of, peak_of, peaks_of, leaf_with, settled_value, settled_leaf, settled, settled_all}
 use Rattle.tetri_parse.specs.Written.{HasPart, IsLeafFrom, IsBody, AreSpelled, IsSpelled}
 use Rattle.tetri_parse.proofs.Added.{added_all, added_grown, added_number}
@@ -106,7 +107,7 @@ module _ (unit arrival count : ℕ) where
     pub numbered : numbers x.0 ≡ range_with_len from leaf_count
     pub few : to ≤ 128
     pub grown : length sets ≤ length x.1
-    pub within : AreWithin count sets → AreWithin count x.1
+    pub within : HaveNodesBelow count sets → HaveNodesBelow count x.1
 
   pub record AreSettled (levels from : ℕ) (wanted : Option ℕ) (ps : Phrases) (to : ℕ) (sets : List (List ℕ)) (x : List Tree × List (List ℕ)) : Type 0 where
     pub sound : AreSound (row x.0)
@@ -122,7 +123,7 @@ module _ (unit arrival count : ℕ) where
     pub numbered : numbers_of (row x.0) ≡ range_with_len from leaf_count
     pub few : HasPart ps → to ≤ 128
     pub grown : length sets ≤ length x.1
-    pub within : AreWithin count sets → AreWithin count x.1
+    pub within : HaveNodesBelow count sets → HaveNodesBelow count x.1
 
   few_after : (levels mid to : ℕ) (ps : Phrases) → AreSpelled count levels mid ps to → mid ≤ 128 → (HasPart ps → to ≤ 128) → to ≤ 128
   few_after levels mid to nothing h le further = omega (arith, h)
@@ -268,7 +269,7 @@ module _ (unit arrival count : ℕ) where
           })
 
     -- the tree that was made, and the sets afterwards
-    pub is_read : (p : Phrase) (to : ℕ) (sets : List (List ℕ)) (x : Tree × List (List ℕ)) → IsSpelled count 64 0 p to → settled unit arrival None p sets ≡ Ok x → IsTextTree arrival (length x.1) x.0 × (AreWithin count sets → AreWithin count x.1)
+    pub is_read : (p : Phrase) (to : ℕ) (sets : List (List ℕ)) (x : Tree × List (List ℕ)) → IsSpelled count 64 0 p to → settled unit arrival None p sets ≡ Ok x → IsTextTree arrival (length x.1) x.0 × (HaveNodesBelow count sets → HaveNodesBelow count x.1)
     is_read p to sets x good h =
         let a = is_settled 63 0 None p to sets x good.1 h in
         let leaf_numbers : map (λ l. l.num) (leaves x.0) ≡ range_with_len 0 a.leaf_count = sym (numbers_of_leaves x.0) ∙ a.numbered in

@@ -13,7 +13,7 @@ use Rattle.tetri_strl.specs.WellMade.{PEAK, peak, peaks, peak_joined, HasChild, 
 use Rattle.tetri_cluster.specs.declared.cluster.NodeText.{NodeText}
 use Rattle.tetri_cluster.specs.Cluster.{names_of}
 use Rattle.tetri_cluster.specs.Names.{differ}
-use Rattle.tetri_cluster.specs.Sets.{AreSets}
+use Rattle.tetri_cluster.specs.Sets.{AreSets, HaveNodesBelow}
 use Rattle.tetri_parse.specs.declared.fault.Fault.TheVariants.{TooRich}
 use Rattle.tetri_parse.specs.declared.fault.Miss.{Miss}
 use Rattle.tetri_base.specs.ResultSteps.{◌>>=◌}
@@ -24,7 +24,7 @@ use Rattle.tetri_parse.specs.Printing.{after_comma, with_commas, HasNames, nodes
 use Rattle.tetri_parse.specs.Rows.{row_at}
 use Rattle.tetri_parse.specs.SetText.{IsNodeSet}
 use Rattle.tetri_parse.specs.Settling.{at, is_mixed, first_start, first_start_of, wanted_below, unless_rich, made_of, peak_of, peaks_of, settled, settled_all}
-use Rattle.tetri_parse.specs.TextTree.{AreWithin, IsTextTree}
+use Rattle.tetri_parse.specs.TextTree.{IsTextTree}
 use Rattle.tetri_parse.proofs.LeavesBack.{numbers_onto, leaf_read, leaf_back, leaf_settles}
 use Rattle.tetri_parse.proofs.TokensBack.{test_false, number_back}
 
@@ -197,7 +197,7 @@ module _ (arrival : ℕ) (cluster : List NodeText) (sets : List (List ℕ)) wher
   deeper : (levels : ℕ) → 1 ≤ levels → levels ≡ suc (levels - 1)
   deeper levels h = omega arith
 
-  module _ (d : differ (names_of cluster) ≡ true) (lawful : AreSets sets) (within : AreWithin (length cluster) sets) where
+  module _ (d : differ (names_of cluster) ≡ true) (lawful : AreSets sets) (within : HaveNodesBelow (length cluster) sets) where
     node_set : (l : Leaf) → l.set < length sets → IsNodeSet (length cluster) (nodes_of sets l)
     node_set l lt = record {
       ascending = All-get_or IsStrictlyIncreasing sets l.set [] lt lawful.ascending;
@@ -417,7 +417,7 @@ module _ (arrival : ℕ) (cluster : List NodeText) (sets : List (List ℕ)) wher
     fit_all none start known named = tt
     fit_all (more t ts) start known named = (fit_leaves t start.0 known.0 named.0, fit_all ts start.1 known.1 named.1)
 
-  pub reads_back : (t : Tree) → IsTextTree arrival (length sets) t → AreWithin (length cluster) sets → AreSets sets → differ (names_of cluster) ≡ true → AreNamed cluster sets t → expression (text_of arrival cluster sets t) 1 arrival cluster sets ≡ Ok (t, sets)
+  pub reads_back : (t : Tree) → IsTextTree arrival (length sets) t → HaveNodesBelow (length cluster) sets → AreSets sets → differ (names_of cluster) ≡ true → AreNamed cluster sets t → expression (text_of arrival cluster sets t) 1 arrival cluster sets ≡ Ok (t, sets)
   reads_back t h within lawful d named =
       let count : length (numbers t) ≡ length (leaves t) = ap length h.numbered ∙ length-range_with_len 0 (length (leaves t)) in
       whole_back arrival cluster sets d lawful within t (record {

@@ -1,5 +1,6 @@
 -- What the steps of reading answer.
-use Rattle.std.specs.Prelude.{ℕ, ◌≡◌, ◌-◌, List, length, Result, Ok, Err}
+use Rattle.std.specs.Prelude.{ℕ, ◌≡◌, ◌-◌, List, length, Result, Err}
+use Rattle.tetri_base.specs.Answers.{AnswersBy}
 use Rattle.tetri_parse.specs.declared.fault.Fault.{Fault}
 use Rattle.tetri_parse.specs.declared.fault.Miss.{Miss}
 use Rattle.tetri_parse.specs.declared.fault.Stop.{Stop}
@@ -14,8 +15,7 @@ Stops stops.NoMemory reading = Unit {0}
 
 -- what a step returned, seen by view, is what reading gives, unless memory ran out
 abbrev pub Gives : {X Y : Type 0} → (X → Y) → Result X Stop → Result Y Miss → Type 0
-Gives view (Ok x) reading = reading ≡ Ok (view x)
-Gives view (Err e) reading = Stops e reading
+Gives = AnswersBy Stops
 
 -- the same of a whole text, whose first fault has an offset
 abbrev pub Refuses : {Y : Type 0} → ParseFault → Result Y (ℕ × Fault) → Type 0
@@ -23,8 +23,7 @@ Refuses (faults.At offset fault) reading = reading ≡ Err (offset, fault)
 Refuses faults.NoMemory reading = Unit {0}
 
 abbrev pub Answers : {X Y : Type 0} → (X → Y) → Result X ParseFault → Result Y (ℕ × Fault) → Type 0
-Answers view (Ok x) reading = reading ≡ Ok (view x)
-Answers view (Err e) reading = Refuses e reading
+Answers = AnswersBy Refuses
 
 -- what is answered where reading a text stopped
 abbrev pub fault_in : List ℕ → Stop → ParseFault

@@ -1,11 +1,11 @@
 -- What the text of an expression or of a set says, or its first fault.
 use Rattle.std.specs.Prelude.{ℕ, ◌-◌, ◌==◌, if◌then◌else◌, List, length, None, Result, Ok, Err}
+use Rattle.tetri_base.specs.ResultSteps.{◌>>=◌}
 use Rattle.tetri_strl.specs.Tree.{Tree}
 use Rattle.tetri_cluster.specs.declared.cluster.NodeText.{NodeText}
 use Rattle.tetri_parse.specs.declared.fault.Fault.{Fault}
 use Rattle.tetri_parse.specs.declared.fault.Fault.TheVariants.{Trailing}
 use Rattle.tetri_parse.specs.declared.fault.Miss.{Miss}
-use Rattle.tetri_base.specs.ResultSteps.{◌>>=◌}
 use Rattle.tetri_parse.specs.Tokens.{skip_blanks, missed}
 use Rattle.tetri_parse.specs.SetText.{set_at}
 use Rattle.tetri_parse.specs.Grammar.{whole_at}

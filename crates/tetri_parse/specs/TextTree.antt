@@ -1,13 +1,9 @@
 -- What is granted of a tree that was read.
-use Rattle.std.specs.Prelude.{◌≡◌, ℕ, ◌+◌, ◌<◌, ◌≤◌, All, List, length}
+use Rattle.std.specs.Prelude.{◌≡◌, ℕ, ◌+◌, ◌<◌, ◌≤◌, length}
 use Rattle.std.specs.List.{range_with_len}
 use Rattle.tetri_strl.specs.Aligned.{EachLeaf}
 use Rattle.tetri_strl.specs.Tree.{Tree, numbers, leaves}
 use Rattle.tetri_strl.specs.WellMade.{IsWellMade}
-
--- sets over the nodes of a cluster of so many
-abbrev pub AreWithin : ℕ → List (List ℕ) → Type 0
-AreWithin count sets = All (All (λ n. n < count)) sets
 
 -- a well-made tree that was read for an arrival, over the first so many sets
 pub record IsTextTree (arrival sets : ℕ) (t : Tree) : Type 0 where

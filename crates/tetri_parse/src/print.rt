@@ -3,11 +3,11 @@ ghost use Rattle.std.specs.Prelude.{◌≡◌, ◌<◌, ◌≤◌, length, true,
 ghost use Rattle.tetri_strl.specs.Aligned.{EachLeaf};
 ghost use Rattle.tetri_cluster.specs.Cluster.{names_of};
 ghost use Rattle.tetri_cluster.specs.Names.{differ};
-ghost use Rattle.tetri_cluster.specs.Sets.{AreSets};
+ghost use Rattle.tetri_cluster.specs.Sets.{AreSets, HaveNodesBelow};
 ghost use Rattle.tetri_strl.specs.Tree.{tree};
 ghost use Rattle.tetri_parse.specs.Expression.{expression};
 ghost use Rattle.tetri_parse.specs.Printing.{text_of, AreNamed};
-ghost use Rattle.tetri_parse.specs.TextTree.{AreWithin, IsTextTree};
+ghost use Rattle.tetri_parse.specs.TextTree.{IsTextTree};
 
 use crate::printing::add_expr;
 use std::alloc::{AllocError, Global};
@@ -21,7 +21,7 @@ fn printed(
     cluster: &Cluster,
     sets: &Sets,
 ) -> Result<Vec<u8>, AllocError>
-    requires sets { AreWithin (length cluster.now) sets.now }
+    requires sets { HaveNodesBelow (length cluster.now) sets.now }
     requires known { EachLeaf (λ l. l.set < length sets.now) (tree e.now) }
     ensures value { IfOk result (λ v. v.items ≡ text_of arrival cluster.entry.now sets.entry.now (tree e.entry.now)) }
     ensures named { OnOk result (AreNamed cluster.entry.now sets.entry.now (tree e.entry.now)) }
@@ -52,7 +52,7 @@ pub fn print_expr(
 ) -> Result<Vec<u8>, AllocError>
     requires arrival { arrival ≤ 10000 }
     requires expr { IsTextTree arrival (length sets.now) (tree e.now) }
-    requires sets { AreWithin (length cluster.now) sets.now }
+    requires sets { HaveNodesBelow (length cluster.now) sets.now }
     ensures value { IfOk result (λ v. v.items ≡ text_of arrival cluster.entry.now sets.entry.now (tree e.entry.now)) }
     ensures reads_back { IfOk result (λ v. expression v.items 1 arrival cluster.entry.now sets.entry.now
         ≡ Ok (tree e.entry.now, sets.entry.now)) }

@@ -5,7 +5,7 @@ ghost use Rattle.tetri_strl.specs.Tree.{tree, trees};
 ghost use Rattle.tetri_cluster.specs.Names.{is_name};
 ghost use Rattle.tetri_cluster.specs.Cluster.{name_at};
 ghost use Rattle.tetri_parse.specs.Printing.{with_commas, is_every, set_text, HasNames, nodes_of, leaf_word, numbers_text, leaf_text, text_of, texts_of, AreNamed};
-ghost use Rattle.tetri_parse.specs.TextTree.{AreWithin};
+ghost use Rattle.tetri_cluster.specs.Sets.{HaveNodesBelow};
 
 use std::alloc::AllocError;
 use std::fmt::Write;
@@ -83,7 +83,7 @@ fn add_leaf(
     sets: &Sets,
     leaf: &Leaf,
 ) -> Result<(), AllocError>
-    requires sets { AreWithin (length cluster.now) sets.now }
+    requires sets { HaveNodesBelow (length cluster.now) sets.now }
     requires known { leaf.now.set < length sets.now }
     ensures value { OnOk result (string_bytes out.new ≡ string_bytes out.old
         ++ leaf_text arrival cluster.entry.now sets.entry.now leaf.entry.now) }
@@ -108,7 +108,7 @@ pub(crate) fn add_expr(
     sets: &Sets,
     e: &Expr,
 ) -> Result<(), AllocError>
-    requires sets { AreWithin (length cluster.now) sets.now }
+    requires sets { HaveNodesBelow (length cluster.now) sets.now }
     requires known { EachLeaf (λ l. l.set < length sets.now) (tree e.now) }
     ensures value { OnOk result (string_bytes out.new ≡ string_bytes out.old
         ++ text_of arrival cluster.entry.now sets.entry.now (tree e.entry.now)) }
@@ -142,7 +142,7 @@ fn add_join(
     sets: &Sets,
     parts: &[Expr],
 ) -> Result<(), AllocError>
-    requires sets { AreWithin (length cluster.now) sets.now }
+    requires sets { HaveNodesBelow (length cluster.now) sets.now }
     requires known { EachLeafOf (λ l. l.set < length sets.now) (trees parts.now) }
     ensures value { OnOk result (string_bytes out.new ≡ string_bytes out.old ++ word.now
         ++ with_commas (texts_of arrival cluster.entry.now sets.entry.now (trees parts.entry.now)) ++ codes ")") }

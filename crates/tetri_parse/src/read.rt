@@ -8,7 +8,8 @@ ghost use Rattle.tetri_parse.specs.Ascending.{LeastFault};
 ghost use Rattle.tetri_parse.specs.Answers.{Gives, Answers, fault_in};
 ghost use Rattle.tetri_parse.specs.Expression.{expression, expression_left, node_set, node_set_left};
 ghost use Rattle.tetri_parse.specs.Faults.{first_fault, AnswersFault};
-ghost use Rattle.tetri_parse.specs.TextTree.{AreWithin, IsTextTree};
+ghost use Rattle.tetri_parse.specs.TextTree.{IsTextTree};
+ghost use Rattle.tetri_cluster.specs.Sets.{HaveNodesBelow};
 
 use crate::fault::{Fault, ParseFault, Stop};
 use crate::reader::ClusterReader;
@@ -43,7 +44,7 @@ fn read_parts(
     ensures nodes { reader.new.nodes ≡ reader.old.nodes }
     ensures kept { take (length reader.old.sets) reader.new.sets ≡ reader.old.sets }
     ensures good { IfOk result (λ e. IsTextTree terms.arrival (length reader.new.sets) (tree e)) }
-    ensures within { IfOk result (λ _. AreWithin (length reader.old.nodes) reader.old.sets → AreWithin (length reader.old.nodes) reader.new.sets) }
+    ensures within { IfOk result (λ _. HaveNodesBelow (length reader.old.nodes) reader.old.sets → HaveNodesBelow (length reader.old.nodes) reader.new.sets) }
 {
     let syntax = whole(alloc, reader.cluster(), text)?;
     settle(alloc, terms, None, &syntax, reader)
@@ -56,7 +57,7 @@ fn read_nodes(alloc: Global, text: &[u8], reader: &mut ClusterReader) -> Result<
     ensures err { OnErr result (reader.new.sets ≡ reader.old.sets) }
     ensures kept { take (length reader.old.sets) reader.new.sets ≡ reader.old.sets }
     ensures number { IfOk result (λ n. n < length reader.new.sets) }
-    ensures within { AreWithin (length reader.old.nodes) reader.old.sets → AreWithin (length reader.old.nodes) reader.new.sets }
+    ensures within { HaveNodesBelow (length reader.old.nodes) reader.old.sets → HaveNodesBelow (length reader.old.nodes) reader.new.sets }
 {
     let start = skip_blanks(text);
     let (set, rest) = set_front(alloc, reader.cluster(), start)?;
@@ -93,7 +94,7 @@ impl ClusterReader {
         ensures numbered { IfOk result (λ e. numbers (tree e) ≡ range_with_len 0 (length (leaves (tree e)))) }
         ensures known { IfOk result (λ e. EachLeaf (λ l. l.set < length self.new.sets) (tree e)) }
         ensures text_tree { IfOk result (λ e. IsTextTree arrival (length self.new.sets) (tree e)) }
-        ensures within { AreWithin (length self.old.nodes) self.old.sets → AreWithin (length self.old.nodes) self.new.sets }
+        ensures within { HaveNodesBelow (length self.old.nodes) self.old.sets → HaveNodesBelow (length self.old.nodes) self.new.sets }
     {
         let held = self.sets().len();
         let result = read_parts(alloc, text, Terms { unit, arrival }, self);
@@ -114,7 +115,7 @@ impl ClusterReader {
         ensures refused { OnErr result (self.new.sets ≡ self.old.sets) }
         ensures kept { take (length self.old.sets) self.new.sets ≡ self.old.sets }
         ensures number { IfOk result (λ n. n < length self.new.sets) }
-        ensures within { AreWithin (length self.old.nodes) self.old.sets → AreWithin (length self.old.nodes) self.new.sets }
+        ensures within { HaveNodesBelow (length self.old.nodes) self.old.sets → HaveNodesBelow (length self.old.nodes) self.new.sets }
     {
         match read_nodes(alloc, text, self) {
             Ok(set) => Ok(set),

@@ -1,7 +1,6 @@
 -- Nodes that are closed in the same slots, and the sets of nodes that are closed at the turns.
-use Rattle.std.proofs.Common.{◌≡◌, ℕ, ◌+◌, ◌<◌, ◌≤◌, ◌&&◌, Bool, true, List, Contains, refl, sym, ap, ◌∙◌, arith}
-use Rattle.std.specs.List.{list_all, range_with_len}
-use Rattle.tetri_base.specs.Lists.{has, same, Each}
+use Rattle.std.proofs.Common.{◌≡◌, ℕ, ◌<◌, ◌≤◌, ◌&&◌, true, sym, ap, ◌∙◌, arith}
+use Rattle.tetri_base.specs.Lists.{has, same}
 use Rattle.tetri_base.proofs.ListLaws.{Each-at, Each-from, all_from, from_all, has-filter, has-range}
 use Rattle.tetri_space.specs.Free.{is_closed}
 use Rattle.tetri_space.specs.Partitions.{alike, nodes_of, turns, closed_at, closed_sets}

@@ -4,7 +4,7 @@ use Rattle.std.specs.List.{list_any, filter, position, range_with_len}
 use Rattle.std.proofs.lemmas.List.Quantifiers.{position-Some}
 use Rattle.std.proofs.lemmas.Slice.Eq.{bytes_eq-Decides}
 use Rattle.std.specs.Bool.{one_answer}
-use Rattle.tetri_cluster.proofs.NameTables.{list_any_map, position_map}
+use Rattle.tetri_cluster.proofs.ClusterLaws.{list_any_map, position_map}
 use Rattle.std.specs.List.Sorted.{IsStrictlyIncreasing}
 use Rattle.std.proofs.lemmas.Bool.{cases_eq, eq-eqb, ne_eqb}
 use Rattle.std.proofs.lemmas.List.{append-nil, append_assoc, map-append, length-map, get_or-map, get_or_default, get_or-drop, get_or-set_same, get_or-set_other, map-set, drop_more}
@@ -16,10 +16,10 @@ use Rattle.tetri_strl.specs.declared.expr.Leaf.{Leaf}
 use Rattle.tetri_strl.specs.Tree.{leaves, tree}
 use Rattle.tetri_strl.specs.Prune.{pruned}
 use Rattle.tetri_strl.specs.Aligned.{EachLeaf}
-use Rattle.tetri_strl.proofs.WorthLemmas.{EachLeaf-from}
+use Rattle.tetri_strl.proofs.ExprLaws.{EachLeaf-from}
 use Rattle.tetri_space.specs.Closed.{AreTurns}
-use Rattle.tetri_space.specs.Finding.{IsSigned, has_some, firsts, grouped, list_at}
-use Rattle.tetri_base.specs.Lists.{has, Each}
+use Rattle.tetri_space.specs.Finding.{IsSigned, has_some, firsts, grouped}
+use Rattle.tetri_base.specs.Lists.{has, Each, list_at}
 use Rattle.tetri_space.specs.Partitions.{with_left, bids_left, sets_in}
 use Rattle.tetri_space.specs.Space.{Space, bid}
 use Rattle.tetri_space.specs.declared.instance.Offer.{Offer}
@@ -27,7 +27,7 @@ use Rattle.tetri_space.proofs.BidLemmas.{next_bid}
 use Rattle.tetri_space.proofs.NodeLemmas.{never_falls}
 use Rattle.tetri_space.proofs.GroupLemmas.{range_next, group_empty, group_joined, group_new}
 use Rattle.tetri_space.proofs.PrunedLemmas.{sets_in_has}
-use Rattle.tetri_base.proofs.ListLaws.{any_from, Each-at, Each-from, EachPair-from, none_from, Each-map, test_from_ne}
+use Rattle.tetri_base.proofs.ListLaws.{Each-from, none_from, Each-map, test_from_ne}
 
 -- ---- a number put last in one of several lists
 put_at : (vs : List (Vec ℕ Global)) (i j x : ℕ) (old new : Vec ℕ Global) → i < length vs → old ≡ get_or vs i old → new.items ≡ old.items ++ x ∷ [] →

@@ -1,5 +1,5 @@
 -- The first node of a partition.
-use Rattle.std.proofs.Common.{◌≡◌, ℕ, ◌<◌, ◌≤◌, ◌∙◌, ◌||◌, Bool, true, List, [], ◌∷◌, length, get_or, refl, sym, ap, subst, arith, true≢false}
+use Rattle.std.proofs.Common.{◌≡◌, ℕ, ◌<◌, ◌≤◌, ◌∙◌, ◌||◌, true, List, [], ◌∷◌, length, get_or, refl, sym, ap, arith, true≢false}
 use Rattle.std.specs.List.{list_any}
 use Rattle.tetri_base.specs.Lists.{has}
 use Rattle.tetri_base.proofs.ListLaws.{range_from, test_from_eq}
@@ -7,7 +7,7 @@ use Rattle.tetri_strl.specs.declared.expr.Leaf.{Leaf}
 use Rattle.tetri_space.specs.Free.{is_closed, slots}
 use Rattle.tetri_space.specs.Partitions.{is_closed_part, part_at, partitions}
 use Rattle.tetri_space.specs.Space.{Space}
-use Rattle.tetri_space.proofs.ClosedLaws.{closed_part_is, part_some}
+use Rattle.tetri_space.proofs.ClosedFacts.{closed_part_is, part_some}
 use Rattle.tetri_space.proofs.MemberLemmas.{any_same}
 
 some_long : (ns : List ℕ) (n : ℕ) → has ns n ≡ true → 1 ≤ length ns

@@ -9,7 +9,7 @@ use Rattle.std.proofs.lemmas.List.{drop_more}
 use Rattle.tetri_base.specs.Lists.{bit, count}
 use Rattle.tetri_strl.specs.declared.expr.Leaf.{Leaf}
 use Rattle.tetri_space.specs.Free.{IsFree, IsFreeThroughout, is_closed, is_free, is_free_throughout, is_idle, slots}
-use Rattle.tetri_space.specs.Space.{Covers, Space}
+use Rattle.tetri_space.specs.Space.{Space}
 use Rattle.tetri_space.proofs.SpanLemmas.{any_in_range, any_of_range}
 
 at_place : {X : Type 0} (xs : List X) (k : ℕ) (x d : X) → slice_get xs k ≡ Some x → slice_index_or xs k d ≡ x

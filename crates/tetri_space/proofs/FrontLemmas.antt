@@ -1,10 +1,9 @@
 -- Grants that ascend by job and leaf, beside masks of the slots in which their nodes are held.
-use Rattle.std.proofs.Common.{◌≡◌, ◌⊎◌, ℕ, ◌+◌, ◌-◌, ◌<◌, ◌≤◌, ◌==◌, ◌&&◌, ◌||◌, Bool, true, false, List, [], ◌∷◌, ◌++◌, length, get_or, take, All, AllPairs, Contains, Option, Some, Result, Ok, Err, refl, sym, ap, ◌∙◌, subst, arith, true≢false, inl, inr, nat_lt}
+use Rattle.std.proofs.Common.{◌≡◌, ◌⊎◌, ℕ, ◌+◌, ◌-◌, ◌<◌, ◌≤◌, ◌==◌, ◌&&◌, ◌||◌, Bool, true, false, List, [], ◌∷◌, ◌++◌, length, get_or, take, All, AllPairs, Contains, Some, Result, Ok, Err, refl, sym, ap, ◌∙◌, subst, arith, true≢false, inl, inr, nat_lt}
 use Rattle.std.specs.Prelude.{OnOk, is_err}
-use Rattle.std.specs.List.{list_any}
 use Rattle.std.proofs.lemmas.Bool.{cases_lt}
 use Rattle.std.proofs.lemmas.Bool.Decides.{nat_tests}
-use Rattle.std.proofs.lemmas.List.{get_or-take, length-take, take_more}
+use Rattle.std.proofs.lemmas.List.{get_or-take, length-take}
 use Rattle.std.proofs.lemmas.List.Elements.{All-contains, All-nil, All-push, All-weaker}
 use Rattle.std.proofs.lemmas.List.Quantifiers.{all_pairs_push}
 use Rattle.std.proofs.lemmas.Option.{same_Some}
@@ -15,12 +14,12 @@ use Rattle.tetri_space.specs.Free.{IsFree}
 use Rattle.tetri_space.specs.Front.{IsTaken}
 use Rattle.tetri_space.specs.GrantOrder.{ComesBefore, comes_first}
 use Rattle.tetri_space.specs.Lawful.{AreApart, IsLawful, IsLawfulGrant, MayBeGranted}
-use Rattle.tetri_space.specs.Slots.{is_marked, marked, meets, overlap, slots_of}
+use Rattle.tetri_space.specs.Slots.{is_marked, marked, overlap, slots_of}
 use Rattle.tetri_space.specs.Sound.{IsSound}
 use Rattle.tetri_space.specs.Space.{Covers, Space, leaf_in}
 use Rattle.tetri_space.proofs.ClashLemmas.{value_in}
 use Rattle.tetri_space.proofs.SearchLemmas.{offered_leaf}
-use Rattle.tetri_space.proofs.SlotLaws.{IsInWindow, length-marked, marked_meets, meets_overlap, slots_bound}
+use Rattle.tetri_space.proofs.SlotLemmas.{IsInWindow, marked_meets, meets_overlap, slots_bound}
 
 lt_test : (x y : ℕ) → x < y → nat_lt x y ≡ true
 lt_test x y h = grind (arith, nat_tests)

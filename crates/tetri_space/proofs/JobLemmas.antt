@@ -6,7 +6,7 @@ use Rattle.std.proofs.lemmas.List.{take-append-drop}
 use Rattle.std.proofs.lemmas.List.Sums.{sum_by-cons}
 use Rattle.std.proofs.lemmas.List.Elements.{All-cons, All-head, All-tail, All-nil, All-weaker, Contains-get_or}
 use Rattle.tetri_strl.specs.declared.grants.Grant.{Grant}
-use Rattle.tetri_strl.proofs.GrantLemmas.{NamesNot, worth_of-append_left, worth_of-append_right, worth_of-none}
+use Rattle.tetri_strl.proofs.ExprLaws.{NamesNot, worth_of-append_left, worth_of-append_right, worth_of-none}
 use Rattle.tetri_space.specs.declared.instance.Offer.{Offer}
 use Rattle.tetri_space.specs.Space.{Bid, Space, bid}
 use Rattle.tetri_space.specs.Sound.{IsSoundBid, IsSound}

@@ -10,8 +10,7 @@ use Rattle.tetri_strl.specs.declared.grants.Grant.{Grant}
 use Rattle.tetri_strl.specs.Tree.{leaves}
 use Rattle.tetri_strl.specs.Worth.{granted, leaf_worth, leaf_top}
 use Rattle.tetri_strl.specs.WellMade.{IsGoodLeaf}
-use Rattle.tetri_strl.proofs.WorthLemmas.{worth_by-le, leaf_worth_le, EachLeaf-from, EachLeaf-both, each_good, eq_from_test}
-use Rattle.tetri_strl.proofs.GrantLemmas.{leaf_worth-none}
+use Rattle.tetri_strl.proofs.ExprLaws.{each_good, EachLeaf-both, EachLeaf-from, eq_from_test, leaf_worth-none, leaf_worth_le, worth_by-le}
 use Rattle.tetri_space.specs.Space.{Bid, Space, leaf_in, IsLive}
 use Rattle.tetri_space.specs.Lawful.{MayBeGranted, IsLawfulGrant}
 use Rattle.tetri_space.specs.Sound.{IsSoundBid, IsSound}

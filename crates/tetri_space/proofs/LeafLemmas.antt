@@ -7,7 +7,7 @@ use Rattle.std.proofs.lemmas.Option.{option_and_then_some}
 use Rattle.std.proofs.lemmas.List.Elements.{All-contains}
 use Rattle.tetri_strl.specs.declared.expr.Leaf.{Leaf}
 use Rattle.tetri_strl.specs.Tree.{leaves}
-use Rattle.tetri_strl.proofs.WorthLemmas.{eq_from_test}
+use Rattle.tetri_strl.proofs.ExprLaws.{eq_from_test}
 use Rattle.tetri_space.specs.Space.{Bid, Space, leaf_in}
 use Rattle.tetri_space.specs.Sound.{IsSoundBid, IsSound}
 

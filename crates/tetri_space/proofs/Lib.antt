@@ -1,7 +1,7 @@
-pub mod AllotmentLaws
+pub mod AllotmentLemmas
 pub mod BidLemmas
 pub mod ClashLemmas
-pub mod ClosedLaws
+pub mod ClosedFacts
 pub mod ClosedLemmas
 pub mod FindingLemmas
 pub mod FirstLemmas
@@ -20,9 +20,9 @@ pub mod PartsLemmas
 pub mod PrunedLemmas
 pub mod RuleLemmas
 pub mod SearchLemmas
-pub mod SlotLaws
+pub mod SlotLemmas
 pub mod SpanLemmas
-pub mod StableLaws
+pub mod StableLemmas
 pub mod TotalLemmas
 pub mod TrimmedLemmas
 pub mod TurnLemmas

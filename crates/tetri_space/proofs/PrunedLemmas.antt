@@ -9,7 +9,7 @@ use Rattle.tetri_strl.specs.Prune.{starts_in, kept, join_kept, pruned_join, prun
 use Rattle.tetri_strl.specs.Tree.{Operator, greatest, least, added, Tree, one, join, scale, barrier, Trees, none, more, row, leaves, leaves_of, numbers, numbers_of}
 use Rattle.tetri_strl.specs.WellMade.{peak, peaks, peak_joined, PEAK, HasChild, IsSound, AreSound, depth, depth_of}
 use Rattle.tetri_strl.specs.Worth.{greatest_of, added_of}
-use Rattle.tetri_strl.proofs.PartsApart.{AreApart, AreApartOf}
+use Rattle.tetri_strl.proofs.ExprLaws.{AreApart, AreApartOf}
 use Rattle.tetri_base.specs.Lists.{Each, EachPair}
 use Rattle.tetri_space.specs.Partitions.{with_left, bids_left, set_at, sets_in, asked}
 use Rattle.tetri_space.specs.Space.{Bid, Space}

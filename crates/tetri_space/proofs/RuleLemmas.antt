@@ -9,7 +9,7 @@ use Rattle.std.proofs.lemmas.List.Quantifiers.{all_pairs_push}
 use Rattle.std.proofs.lemmas.Option.{slice_get-get_or, slice_get_within, get_or_from_slice_get, same_Some}
 use Rattle.tetri_strl.specs.declared.expr.Leaf.{Leaf}
 use Rattle.tetri_strl.specs.declared.grants.Grant.{Grant}
-use Rattle.tetri_strl.proofs.WorthLemmas.{eq_from_test}
+use Rattle.tetri_strl.proofs.ExprLaws.{eq_from_test}
 use Rattle.tetri_space.specs.declared.rules.Rule.{Rule}
 use Rattle.tetri_space.specs.declared.rules.Rule.TheVariants.{NotPending, NotLive, Doubled, BadNodes, TooMany, Outside, NotFree, Clash}
 use Rattle.tetri_space.specs.declared.rules.Unlawful.{Unlawful}

@@ -15,7 +15,7 @@ use Rattle.tetri_strl.specs.declared.expr.Expr.{Expr}
 use Rattle.tetri_strl.specs.Tree.{Tree, one, join, scale, barrier, Trees, none, more, tree, trees, leaves, leaves_of}
 use Rattle.tetri_strl.specs.Aligned.{EachLeaf, EachLeafOf}
 use Rattle.tetri_strl.specs.WellMade.{IsGoodLeaf}
-use Rattle.tetri_strl.proofs.WorthLemmas.{each_good}
+use Rattle.tetri_strl.proofs.ExprLaws.{each_good}
 use Rattle.tetri_space.specs.declared.instance.Offer.{Offer}
 use Rattle.tetri_space.specs.Space.{Bid, Space, bid, leaf_in}
 use Rattle.tetri_space.specs.Sound.{HasKnownSet, IsSoundBid, IsSound}

@@ -6,7 +6,7 @@ use Rattle.std.specs.List.{sum_by}
 use Rattle.tetri_strl.specs.declared.grants.Grant.{Grant}
 use Rattle.tetri_strl.specs.Worth.{leaf_worth, leaf_top}
 use Rattle.tetri_strl.specs.WellMade.{PEAK}
-use Rattle.tetri_strl.proofs.WorthLemmas.{worth_le_limit, leaf_worth_le, leaf_top_le}
+use Rattle.tetri_strl.proofs.ExprLaws.{worth_le_limit, leaf_worth_le, leaf_top_le}
 use Rattle.tetri_space.specs.Space.{Bid, Space}
 use Rattle.tetri_space.specs.Sound.{IsSoundBid, IsSound}
 use Rattle.tetri_space.specs.Total.{bid_worth, bid_top, total_in, tops_in}

@@ -5,8 +5,7 @@ use Rattle.std.proofs.lemmas.List.{append_assoc, take-append-drop}
 use Rattle.std.proofs.lemmas.List.Elements.{All-head, All-tail, All-weaker}
 use Rattle.tetri_strl.specs.declared.grants.Grant.{Grant}
 use Rattle.tetri_strl.specs.Trim.{trimmed}
-use Rattle.tetri_strl.proofs.GrantLemmas.{NamesNot}
-use Rattle.tetri_strl.proofs.TrimOfOthers.{trimmed-append_left, trimmed-append_right}
+use Rattle.tetri_strl.proofs.ExprLaws.{NamesNot, trimmed-append_left, trimmed-append_right}
 use Rattle.tetri_space.specs.declared.instance.Offer.{Offer}
 use Rattle.tetri_space.specs.Space.{Bid, bid}
 use Rattle.tetri_space.proofs.BidLemmas.{later_jobs, next_bid}

@@ -1,16 +1,12 @@
 -- Nodes grouped by their signatures: the sets that they are in, and when they close and open.
-use Rattle.std.specs.Prelude.{◌≡◌, ℕ, ◌<◌, ◌≤◌, All, Contains, length, Bool, true, false, ◌&&◌, not, List, [], ◌∷◌, ◌++◌, map, bytes_eq, slice_index_or, Vec}
+use Rattle.std.specs.Prelude.{◌≡◌, ℕ, ◌<◌, ◌≤◌, All, Contains, length, Bool, true, false, ◌&&◌, not, List, [], ◌∷◌, ◌++◌, map, bytes_eq, Vec}
 use Rattle.std.specs.List.{list_any, filter, range_with_len}
 use Rattle.std.specs.List.Sorted.{IsStrictlyIncreasing}
 use Rattle.std.specs.declared.alloc.Global.{Global}
-use Rattle.tetri_base.specs.Lists.{has}
+use Rattle.tetri_base.specs.Lists.{has, list_at}
 use Rattle.tetri_space.specs.Closed.{AreTurns}
 use Rattle.tetri_space.specs.Partitions.{live_bids, partitions, parts_in, sets_in}
 use Rattle.tetri_space.specs.Space.{Space}
-
--- the list at a place, and the empty list past the end
-abbrev pub list_at : List (Vec ℕ Global) → ℕ → List ℕ
-list_at vs k = slice_index_or (map (λ v. v.items) vs) k []
 
 -- whether the list has an item
 abbrev pub has_some : List ℕ → Bool

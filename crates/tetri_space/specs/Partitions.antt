@@ -1,5 +1,5 @@
 -- Groups of nodes that the live leaves and the closures cannot tell apart, and how many of their nodes are free.
-use Rattle.std.specs.Prelude.{◌≡◌, ℕ, ◌+◌, ◌<◌, Bool, true, ◌&&◌, not, nat_lt, max, List, [], ◌∷◌, ◌++◌, map, length, slice_index_or, Contains, Option, Some, None}
+use Rattle.std.specs.Prelude.{◌≡◌, ℕ, ◌+◌, ◌<◌, Bool, ◌&&◌, not, nat_lt, max, List, [], ◌∷◌, ◌++◌, map, length, slice_index_or, Contains, Option, Some, None}
 use Rattle.std.specs.List.{list_any, list_all, filter, flat_map, range_with_len}
 use Rattle.tetri_strl.specs.Prune.{pruned}
 use Rattle.tetri_strl.specs.Tree.{Tree, leaves}

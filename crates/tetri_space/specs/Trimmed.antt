@@ -4,7 +4,7 @@ use Rattle.std.specs.List.{flat_map}
 use Rattle.tetri_strl.specs.Thrifty.{IsThriftyFor}
 use Rattle.tetri_strl.specs.Trim.{trimmed}
 use Rattle.tetri_strl.specs.declared.grants.Grant.{Grant}
-use Rattle.tetri_space.specs.Space.{Bid, Space}
+use Rattle.tetri_space.specs.Space.{Space}
 
 -- no grant of any job is wasted
 abbrev pub IsThriftyForAll : Space → List Grant → Type 0

@@ -13,6 +13,4 @@ pub fn tops_bound_every_lawful_total(inst: &Instance)
     requires { IsSound (space inst.now) }
     ensures { (a : List Grant) → IsLawful (space inst.entry.now) a
         → total_in (space inst.entry.now) a ≤ tops_in (space inst.entry.now) }
-{
-    let _ = inst;
-}
+{}

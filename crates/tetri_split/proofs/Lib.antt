@@ -1,7 +1,8 @@
 pub mod GroupingLemmas
 pub mod LabelLemmas
 pub mod Members
-pub mod PartLaws
-pub mod RestrictedLaws
+pub mod PartLemmas
+pub mod RestrictedLemmas
 pub mod RestrictingLemmas
+pub mod SplitLaws
 pub mod SplitLemmas

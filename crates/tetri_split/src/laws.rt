@@ -16,10 +16,7 @@ pub fn totals_of_parts_add(inst: &Instance, parts: &Parts)
     requires sound { IsSound (space inst.now) }
     requires parts { ArePartsOf (space inst.now) parts.now }
     ensures { (a : List Grant) → total_in (space inst.entry.now) a ≡ total_by_parts (space inst.entry.now) parts.entry.now (by_parts parts.entry.now a) }
-{
-    let _ = inst;
-    let _ = parts;
-}
+{}
 
 /// Bounds of the totals of all lawful allotments, one for each part's instance, are together a bound for the whole
 /// instance.
@@ -28,7 +25,4 @@ pub fn bounds_of_parts_add(inst: &Instance, parts: &Parts)
     requires parts { ArePartsOf (space inst.now) parts.now }
     ensures { (bounds : List ℕ) → AllZip (BoundsPart (space inst.entry.now)) parts.entry.now bounds
         → (a : List Grant) → IsLawful (space inst.entry.now) a → total_in (space inst.entry.now) a ≤ sum bounds }
-{
-    let _ = inst;
-    let _ = parts;
-}
+{}

@@ -7,7 +7,7 @@ use Rattle.tetri_trace.specs.declared.trace.Happening.{Happening}
 use Rattle.tetri_trace.specs.declared.trace.Happening.TheVariants.{Arrive, Cancel, Drain, Undrain, Fail}
 use Rattle.tetri_trace.specs.Scenario.{Scenario}
 use Rattle.tetri_trace.specs.Sound.{ArrivesOnTime, IsSound, NamesKnown}
-use Rattle.tetri_trace.proofs.SoundLaws.{arrive_on_time}
+use Rattle.tetri_trace.proofs.TraceLaws.{arrive_on_time}
 use Rattle.tetri_state.specs.Begin.{events_at}
 use Rattle.tetri_state.specs.Snapshot.{ArrivedBefore}
 use Rattle.tetri_state.proofs.Ascending.{each_from, each_passing}

@@ -21,7 +21,7 @@ use Rattle.tetri_state.specs.Begin.{has_expired}
 use Rattle.tetri_state.specs.Planning.{bid_of, busy_until, expected_or, instance_of}
 use Rattle.tetri_state.specs.Snapshot.{ArrivedBefore, Snapshot, offered}
 use Rattle.tetri_state.proofs.OfferedLemmas.{IsGoodOffer, good_offer}
-use Rattle.tetri_state.proofs.StandLemmas.{IsWithin, Stands}
+use Rattle.tetri_state.proofs.StandLemmas.{KeepsToTrace, Stands}
 
 -- numbers that ascend within a range are no more than it has
 ascend_length : (ns : List ℕ) (low high : ℕ) → low ≤ high → Ascends ns → Each (λ n. low ≤ n) ns → Each (λ n. n < high) ns → length ns + low ≤ high
@@ -84,7 +84,7 @@ module _ (t : Scenario) (s : Snapshot) (sound : IsSound t) (stands : Stands t (s
     busy_within = λ k d lt.
         let within : k < length t.nodes = omega (arith, length-map-range_with_len (busy_until s.now s.pieces) 0 (length t.nodes)) in
         subst (λ n. n ≤ 30000) (sym (get_or-map-range_with_len (busy_until s.now s.pieces) 0 (length t.nodes) k k d within (omega arith)))
-        (expected_within s.now s.pieces k (omega arith) (Each-map (IsWithin t) (λ p. p.expected ≤ 30000) (λ p known. known.expected) s.pieces stands.pieces));
+        (expected_within s.now s.pieces k (omega arith) (Each-map (KeepsToTrace t) (λ p. p.expected ≤ 30000) (λ p known. known.expected) s.pieces stands.pieces));
     sound_closures = sound.closures;
     few_jobs =
         omega (
@@ -106,7 +106,7 @@ module _ (t : Scenario) (s : Snapshot) (sound : IsSound t) (stands : Stands t (s
   pub nodes_there : All (λ p. All (λ n. n < length t.nodes) p.nodes) s.pieces
   nodes_there =
       all_each (λ p. All (λ n. n < length t.nodes) p.nodes) s.pieces
-      (Each-map (IsWithin t) (λ p. All (λ n. n < length t.nodes) p.nodes) (λ p known. known.nodes) s.pieces stands.pieces)
+      (Each-map (KeepsToTrace t) (λ p. All (λ n. n < length t.nodes) p.nodes) (λ p known. known.nodes) s.pieces stands.pieces)
 
 has_it : (ns : List ℕ) (n : ℕ) → Contains ns n → has ns n ≡ true
 has_it ns n at = list_any_at (λ m. m == n) ns at.0 n at.1 (same _ at.2)

@@ -34,7 +34,7 @@ use Rattle.tetri_state.specs.Snapshot.{ArrivedBefore, Snapshot, offered}
 use Rattle.tetri_state.proofs.Ascending.{each_from, each_passing}
 use Rattle.tetri_state.proofs.InstanceLemmas.{instance_sound, not_free}
 use Rattle.tetri_state.proofs.PieceLemmas.{NoneShare}
-use Rattle.tetri_state.proofs.StandLemmas.{IsWithin, NamesLeaf, Stands, WasPlanned}
+use Rattle.tetri_state.proofs.StandLemmas.{KeepsToTrace, NamesLeaf, Stands, WasPlanned}
 
 -- of the elements that pass a test
 module _ {X : Type 0} (test : X → Bool) where
@@ -231,12 +231,12 @@ module _ (t : Scenario) (s : Snapshot) (sound : IsSound t) (stands : Stands t (s
   made_is : (g : Grant) (p : Piece) (l : Leaf) → leaf_in i.bids g.job g.leaf ≡ Some l → made t i g ≡ Some p → p ≡ piece_of t g l
   made_is g p l is given = let e : Some p ≡ Some (piece_of t g l) = sym given ∙ ap (option_map (piece_of t g)) is in cc
 
-  made_within : (g : Grant) → Contains a g → goes g ≡ true → (p : Piece) → made t i g ≡ Some p → IsWithin t p
+  made_within : (g : Grant) → Contains a g → goes g ≡ true → (p : Piece) → made t i g ≡ Some p → KeepsToTrace t p
   made_within g at starts p given =
       let m = grant_leaf g at in
       let l = m.0 in
       let good = good_leaf g l m.1 in
-      subst (IsWithin t) (sym (made_is g p l m.1 given))
+      subst (KeepsToTrace t) (sym (made_is g p l m.1 given))
       (record {
         nodes = λ k d lt. (m.2.nodes_right.free k d lt s.now (covers_now g l at starts m.1)).there;
         expected = omega (arith, good.within, good.few_slots);
@@ -253,10 +253,10 @@ module _ (t : Scenario) (s : Snapshot) (sound : IsSound t) (stands : Stands t (s
   contained : Each (Contains a) a
   contained = each_from (Contains a) a (All-contains_itself a)
 
-  new_within : Each (IsWithin t) (new_pieces t i a)
+  new_within : Each (KeepsToTrace t) (new_pieces t i a)
   new_within =
-      each_given (made t i) (IsWithin t) (filter goes a)
-      (each_passing goes (Contains a) (λ g. (p : Piece) → made t i g ≡ Some p → IsWithin t p) made_within a contained)
+      each_given (made t i) (KeepsToTrace t) (filter goes a)
+      (each_passing goes (Contains a) (λ g. (p : Piece) → made t i g ≡ Some p → KeepsToTrace t p) made_within a contained)
 
   -- the job of a grant is pending
   grant_job : (g : Grant) → Contains a g → has s.pending g.job ≡ true
@@ -336,7 +336,7 @@ module _ (t : Scenario) (s : Snapshot) (sound : IsSound t) (stands : Stands t (s
     arrived = Each-filter (ArrivedBefore t (s.now + 1)) (λ j. not (starts_now i a j)) s.pending stands.arrived;
     ran = Each-append (λ p. ArrivedBefore t (s.now + 1) p.job) s.pieces (new_pieces t i a) stands.ran new_ran;
     drained = stands.drained;
-    pieces = Each-append (IsWithin t) s.pieces (new_pieces t i a) stands.pieces new_within;
+    pieces = Each-append (KeepsToTrace t) s.pieces (new_pieces t i a) stands.pieces new_within;
     apart = EachPair-append ShareNoNode s.pieces (new_pieces t i a) stands.apart new_apart (old_apart ahead);
     planned = after_planned;
     alive = λ begun. absurd (omega (arith, begun));

@@ -4,6 +4,7 @@ pub mod BeginLemmas
 pub mod BusyLemmas
 pub mod CarryLemmas
 pub mod InstanceLemmas
+pub mod KnownLemmas
 pub mod LaunchLemmas
 pub mod OfferedLemmas
 pub mod PieceLemmas
@@ -14,7 +15,7 @@ pub mod RunOnLemmas
 pub mod SearchLemmas
 pub mod SlotLemmas
 pub mod SoundLemmas
-pub mod ToldLemmas
 pub mod StandLemmas
+pub mod StateLaws
+pub mod ToldLemmas
 pub mod TurnLemmas
-pub mod KnownLemmas

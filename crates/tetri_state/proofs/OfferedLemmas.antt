@@ -17,7 +17,7 @@ use Rattle.tetri_request.specs.Options.{IsSetOf, IsSoundAsk, end_of, has_expired
 use Rattle.tetri_request.proofs.AskLaws.{IsOffer, keeps_thrift, offer_is, offer_leaves, offer_numbers, offers_until_expired, one_leaf_by_number, test_from_expired}
 use Rattle.tetri_trace.specs.Scenario.{Demand, Scenario, strl, asks, submission_of}
 use Rattle.tetri_trace.specs.Sound.{IsAskOver, IsSound, IsSoundDemand}
-use Rattle.tetri_trace.proofs.SoundLaws.{submission_sound}
+use Rattle.tetri_trace.proofs.TraceLaws.{submission_sound}
 use Rattle.tetri_state.specs.Begin.{has_expired, is_spent}
 use Rattle.tetri_state.specs.Snapshot.{ArrivedBefore, no_leaves, offered, offered_for}
 

@@ -23,7 +23,7 @@ use Rattle.tetri_state.proofs.ToldLemmas.{in_order-rises}
 use Rattle.tetri_state.proofs.TurnLemmas.{Keeps, happen_all_keeps}
 
 -- the piece runs on nodes that are there, and is expected to end in time
-pub record IsWithin (t : Scenario) (p : Piece) : Type 0 where
+pub record KeepsToTrace (t : Scenario) (p : Piece) : Type 0 where
   pub nodes : All (λ n. n < length t.nodes) p.nodes
   pub expected : p.expected ≤ 30000
 
@@ -46,7 +46,7 @@ pub record Stands (t : Scenario) (slot : ℕ) (s : Snapshot) : Type 0 where
   pub arrived : Each (ArrivedBefore t slot) s.pending
   pub ran : Each (λ p. ArrivedBefore t slot p.job) s.pieces
   pub drained : length s.drained ≡ length t.nodes
-  pub pieces : Each (IsWithin t) s.pieces
+  pub pieces : Each (KeepsToTrace t) s.pieces
   pub apart : NoneShare s.pieces
   pub planned : (job : ℕ) → NamesNot job s.plan ⊎ ((last : ℕ) × WasPlanned t s.now s.plan job last)
   -- once the slot of the state has begun
@@ -83,13 +83,13 @@ module _ (t : Scenario) (s : Snapshot) (sound : IsSound t) (stands : Stands t s.
         (Each-filter (λ p. ArrivedBefore t (s.now + 1) p.job) (λ p. runs (turn t s).running p.job) (running_on s) ran_later);
     drained = turn_keeps.drained;
     pieces =
-        each_mapped (IsWithin t) (IsWithin t) (prolonged s.now)
+        each_mapped (KeepsToTrace t) (KeepsToTrace t) (prolonged s.now)
         (λ p within. record {
           nodes = subst (All (λ n. n < length t.nodes)) (sym (prolonged-nodes s.now p)) within.nodes;
           expected = prolonged-within s.now p (omega arith) within.expected;
         }) (staying t s)
-        (Each-filter (IsWithin t) (λ p. runs (turn t s).running p.job) (running_on s)
-        (Each-filter (IsWithin t) (λ p. not (has_ended s.now p)) s.pieces stands.pieces));
+        (Each-filter (KeepsToTrace t) (λ p. runs (turn t s).running p.job) (running_on s)
+        (Each-filter (KeepsToTrace t) (λ p. not (has_ended s.now p)) s.pieces stands.pieces));
     apart =
         share_prolonged s.now (staying t s)
         (EachPair-filter ShareNoNode (λ p. runs (turn t s).running p.job) (running_on s) (EachPair-filter ShareNoNode (λ p. not (has_ended s.now p)) s.pieces stands.apart));

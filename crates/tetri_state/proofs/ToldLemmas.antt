@@ -8,9 +8,8 @@ use Rattle.std.proofs.lemmas.List.{get_or_default, drop_more}
 use Rattle.std.proofs.lemmas.List.Folds.{list_any_at, list_any_none}
 use Rattle.tetri_base.specs.Lists.{EachPair}
 use Rattle.tetri_base.specs.Order.{in_order}
-use Rattle.tetri_base.proofs.KeyOrderLaws.{order_by, order_then}
+use Rattle.tetri_base.proofs.OrderLaws.{in_order-rises as rises, IsOrder, NotAfter, order_by, order_then, sorted_is, sum_of-in_order}
 use Rattle.tetri_base.proofs.ListLaws.{Each-get}
-use Rattle.tetri_base.proofs.OrderLaws.{IsOrder, NotAfter, in_order-rises as rises, sorted_is, sum_of-in_order}
 use Rattle.tetri_state.specs.declared.happened.PieceId.{PieceId}
 use Rattle.tetri_state.specs.Begin.{comes_before, finished, runs}
 

@@ -1,8 +1,8 @@
 -- The beginning of a cycle: pieces end, the events of the slot happen, pieces run over, and jobs expire.
-use Rattle.std.specs.Prelude.{ℕ, ◌+◌, ◌==◌, ◌&&◌, ◌||◌, Bool, true, false, not, nat_lt, nat_le, ◌<◌, if◌then◌else◌, List, [], ◌∷◌, ◌++◌, find, map, filter, slice_set, Option, Some, None, option_map}
+use Rattle.std.specs.Prelude.{ℕ, ◌+◌, ◌==◌, ◌||◌, Bool, true, false, not, nat_lt, nat_le, ◌<◌, if◌then◌else◌, List, [], ◌∷◌, ◌++◌, find, map, filter, slice_set, Option, Some, None, option_map}
 use Rattle.std.specs.List.{list_any}
 use Rattle.tetri_base.specs.Lists.{has}
-use Rattle.tetri_base.specs.Order.{in_order}
+use Rattle.tetri_base.specs.Order.{by_then, in_order}
 use Rattle.tetri_strl.specs.Worth.{top_of}
 use Rattle.tetri_request.specs.Options.{has_expired as ask_has_expired}
 use Rattle.tetri_trace.specs.declared.trace.Event.{Event}
@@ -27,7 +27,7 @@ abbrev pub runs : List PieceId → ℕ → Bool
 runs ids job = list_any (λ a. a.job == job) ids
 
 abbrev pub comes_before : PieceId → PieceId → Bool
-comes_before a b = nat_lt a.job b.job || (a.job == b.job && nat_lt a.leaf b.leaf)
+comes_before = by_then (λ (a : PieceId). a.job) (λ a b. nat_lt a.leaf b.leaf)
 
 abbrev pub named : Piece → PieceId
 named p = record { job = p.job; leaf = p.leaf }

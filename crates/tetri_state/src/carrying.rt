@@ -57,7 +57,6 @@ impl State {
         ensures lawful { IfOk result (IsLawful (space inst.entry.now)) }
         ensures thrifty { IfOk result (IsThriftyForAll (space inst.entry.now)) }
     {
-        let _ = trace;
         let kept = still_pending(alloc, inst, self.plan.as_slice())?;
         match lawful(inst, &kept) {
             Ok(()) => Ok(kept),

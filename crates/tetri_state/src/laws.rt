@@ -26,9 +26,7 @@ use tetri_trace::Trace;
 pub fn no_two_running_pieces_share_a_node(trace: &Trace)
     requires { IsSound (scenario trace.now) }
     ensures { (m : moment.Moment) (s : Snapshot) → IsReached (scenario trace.entry.now) m s → AllPairs ShareNoNode s.pieces }
-{
-    let _ = trace;
-}
+{}
 
 /// A piece that runs in one slot runs in the next slot on the same nodes, unless the beginning of that slot tells that it
 /// ended, that its job was cancelled, or that its job failed.
@@ -36,9 +34,7 @@ pub fn running_pieces_run_on_unless_told(trace: &Trace)
     ensures stays { (s : Snapshot) (a : List Grant) (p : Piece) → Contains s.pieces p
         → Contains (after (scenario trace.entry.now) s a).pieces p }
     ensures runs_on { (s : Snapshot) (p : Piece) → Contains s.pieces p → RunsOnUnlessTold (scenario trace.entry.now) s p }
-{
-    let _ = trace;
-}
+{}
 
 /// The nodes of a running piece, one that ran over or not, are free to nobody in the slot, and no lawful grant uses one of
 /// them in that slot.
@@ -50,9 +46,7 @@ pub fn nodes_of_running_pieces_are_taken(trace: &Trace)
         → IsReached (scenario trace.entry.now) moment.begun s → Contains s.pieces p → Contains p.nodes n
         → IsLawful (instance_of (scenario trace.entry.now) s) a → Contains a g
         → leaf_in (instance_of (scenario trace.entry.now) s).bids g.job g.leaf ≡ Some l → Covers l s.now → Contains g.nodes n → ⊥ }
-{
-    let _ = trace;
-}
+{}
 
 /// Once a slot has begun, each pending job that asks has an offer in it.
 pub fn pending_asks_have_offers(trace: &Trace)
@@ -60,9 +54,7 @@ pub fn pending_asks_have_offers(trace: &Trace)
     ensures { (s : Snapshot) (job : ℕ) (a : Ask) → IsReached (scenario trace.entry.now) moment.begun s → Contains s.pending job
         → (submission_of (scenario trace.entry.now) job).demand ≡ asks a
         → (e : Tree) × (offer a (submission_of (scenario trace.entry.now) job).arrival s.now (scenario trace.entry.now).header.window ≡ Some e) }
-{
-    let _ = trace;
-}
+{}
 
 /// In all that a job offers, in whatever slots since it arrived, a number names the same leaf. So what was planned for an
 /// ask in one slot names the same leaf in the next.
@@ -72,9 +64,7 @@ pub fn leaves_keep_their_numbers(trace: &Trace)
         → ArrivedBefore (scenario trace.entry.now) (now + 1) job → ArrivedBefore (scenario trace.entry.now) (later + 1) job
         → Contains (leaves (offered (scenario trace.entry.now) now job)) l → Contains (leaves (offered (scenario trace.entry.now) later job)) m
         → l.num ≡ m.num → l ≡ m }
-{
-    let _ = trace;
-}
+{}
 
 /// What happens in a slot is told of jobs of the trace, and so is what the slot plans for.
 pub fn jobs_of_a_run_are_known(trace: &Trace)
@@ -83,6 +73,4 @@ pub fn jobs_of_a_run_are_known(trace: &Trace)
         → AreOfJobs (scenario trace.entry.now) (occurring (scenario trace.entry.now) s) }
     ensures pending { (s : Snapshot) → IsReached (scenario trace.entry.now) moment.begun s
         → All (λ b. b.job < length (scenario trace.entry.now).submissions) (instance_of (scenario trace.entry.now) s).bids }
-{
-    let _ = trace;
-}
+{}

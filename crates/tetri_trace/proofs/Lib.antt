@@ -1,7 +1,8 @@
-pub mod JobNames
-pub mod Later
-pub mod SoundLaws
-pub mod NamedLaws
+pub mod Beginnings
 pub mod Demands
 pub mod Ends
-pub mod Beginnings
+pub mod JobNames
+pub mod Later
+pub mod NamedLemmas
+pub mod SoundLemmas
+pub mod TraceLaws

@@ -1,8 +1,9 @@
 -- The trace that the bytes of a content are, one step a line.
-use Rattle.std.specs.Prelude.{ℕ, ◌+◌, ℤ, ◌==◌, ◌||◌, List, [], ◌∷◌, ◌++◌, length, Bool, nat_lt, is_none, if◌then◌else◌, Option, Some, None, ok_or, Result, Ok, Err}
+use Rattle.std.specs.Prelude.{ℕ, ◌+◌, ℤ, List, [], ◌∷◌, ◌++◌, length, Bool, nat_lt, is_none, if◌then◌else◌, Option, Some, None, ok_or, Result, Ok, Err}
 use Rattle.std.specs.List.{list_all, list_any}
 use Rattle.serde_json.specs.Data.{Data}
 use Rattle.tetri_io.specs.Lines.{lines_from}
+use Rattle.tetri_io.specs.Words.{is_blank}
 use Rattle.tetri_cluster.specs.Names.{first_repeated, is_among, number_of}
 use Rattle.tetri_cluster.specs.Cluster.{names_of}
 use Rattle.tetri_cluster.specs.declared.cluster.NodeText.{NodeText}
@@ -23,11 +24,8 @@ use Rattle.tetri_trace.specs.declared.trace.Happening.{Happening}
 use Rattle.tetri_trace.specs.declared.trace.Happening.TheVariants.{Arrive, Cancel, Drain, Undrain, Fail}
 
 -- spaces, tabs and carriage returns alone
-abbrev pub is_blank_byte : ℕ → Bool
-is_blank_byte b = b == 32 || b == 9 || b == 13
-
-abbrev pub is_blank : List ℕ → Bool
-is_blank line = list_all is_blank_byte line
+abbrev pub is_blank_line : List ℕ → Bool
+is_blank_line line = list_all is_blank line
 
 -- the slot of one more event, which no earlier event comes after
 abbrev pub next_slot : Scenario → ℕ → Result ℕ TraceWhy
@@ -102,7 +100,7 @@ add_object (Some s) d = add_event s d >>= λ t. Ok (Some t)
 -- a line, with the offset behind it and its line feed, after those that made this trace
 unfoldable pub add_line : Option Scenario → List ℕ × ℕ → Result (Option Scenario) TraceWhy
 add_line so_far line =
-    if nat_lt 1048576 (length line.0) then Err LineTooLong else (if nat_lt 67108864 line.1 then Err TraceTooLong else (if is_blank line.0 then Ok so_far else (do
+    if nat_lt 1048576 (length line.0) then Err LineTooLong else (if nat_lt 67108864 line.1 then Err TraceTooLong else (if is_blank_line line.0 then Ok so_far else (do
       object ← object_in line.0
       add_object so_far object)))
 

@@ -18,7 +18,7 @@ use tetri_request::{Ask, Prefer};
 use tetri_strl::Expr;
 
 /// The expression of a job that arrives at this slot.
-#[tactic(auto, using(crate::proofs::NamedLaws::adds_kept))]
+#[tactic(auto, using(crate::proofs::NamedLemmas::adds_kept))]
 pub(crate) fn expr_of(
     alloc: Global,
     reader: &mut ClusterReader,
@@ -42,7 +42,7 @@ pub(crate) fn expr_of(
 }
 
 // The number of a set that an ask names.
-#[tactic(auto, using(crate::proofs::NamedLaws::adds_kept))]
+#[tactic(auto, using(crate::proofs::NamedLemmas::adds_kept))]
 fn set_of(alloc: Global, reader: &mut ClusterReader, text: &str) -> Result<u32, Stop>
     ensures value { Gives (λ n. (n, reader.new.sets)) result (in_text (node_set text.now reader.old.nodes reader.old.sets)) }
     ensures adds { AddsSets reader.old reader.new }
@@ -58,7 +58,7 @@ fn set_of(alloc: Global, reader: &mut ClusterReader, text: &str) -> Result<u32, 
 }
 
 // The place that an ask prefers.
-#[tactic(auto, using(crate::proofs::NamedLaws::adds_none))]
+#[tactic(auto, using(crate::proofs::NamedLemmas::adds_none))]
 fn prefer_of(
     alloc: Global,
     reader: &mut ClusterReader,
@@ -83,7 +83,7 @@ fn prefer_of(
 }
 
 /// An ask, its own set read before the preferred one.
-#[tactic(auto, using(crate::proofs::NamedLaws::adds_both), unfolding(crate::specs::Lines::ask_of))]
+#[tactic(auto, using(crate::proofs::NamedLemmas::adds_both), unfolding(crate::specs::Lines::ask_of))]
 pub(crate) fn ask_of(alloc: Global, reader: &mut ClusterReader, ask: AskText) -> Result<Ask, Stop>
     requires { IsSoundAskText (ask_text ask) }
     ensures value { Gives (λ a. (a, reader.new.sets)) result (ask_of reader.old.nodes (ask_text ask.entry) reader.old.sets) }

@@ -12,7 +12,7 @@ use tetri_cluster::Cluster;
 use tetri_notice::{ClosureText, Stop, TraceWhy};
 use tetri_space::{Closure, Closures};
 
-#[tactic(auto, using(tetri_notice::proofs::Options::some_from_ok, tetri_notice::proofs::Options::stops_first, tetri_notice::proofs::Options::stops_none))]
+#[tactic(auto, using(tetri_notice::proofs::NoticeLaws::some_from_ok, tetri_notice::proofs::NoticeLaws::stops_first, tetri_notice::proofs::NoticeLaws::stops_none))]
 fn numbered(alloc: Global, cluster: &Cluster, texts: &[ClosureText]) -> Result<Vec<Closure>, Stop>
     requires { All IsWithinLimits texts.now }
     ensures value { Gives (λ v. v.items) result (ok_or (closures_at (names_of cluster.now) texts.now) whys.NoSuchNode) }

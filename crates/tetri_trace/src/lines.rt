@@ -4,13 +4,14 @@ ghost use Rattle.std.specs.Option.{ForSome};
 ghost use Rattle.serde_json.specs.View.{view};
 ghost use Rattle.tetri_notice.specs.Answers.{Gives};
 ghost use Rattle.tetri_trace.specs.Draft.{so_far, IsSoundDraft};
-ghost use Rattle.tetri_trace.specs.Lines.{add_event, add_line, add_object, is_blank, is_blank_byte};
+ghost use Rattle.tetri_trace.specs.Lines.{add_event, add_line, add_object, is_blank_line};
 
 use crate::draft::Draft;
 use crate::happen::{happened, next_slot};
 use crate::header::begun;
 use serde_json::Value;
 use std::alloc::Global;
+use tetri_io::is_blank;
 use tetri_notice::{Stop, TraceWhy, event_in, header_in, object_in};
 
 /// The bytes that a line has at most, without its line feed.
@@ -18,16 +19,10 @@ pub(crate) const LINE_MOST: usize = 1_048_576;
 
 const TRACE_MOST: u64 = 67_108_864;
 
-fn is_blank_byte(b: u8) -> bool
-    ensures { result ≡ is_blank_byte b }
+fn is_blank_line(line: &[u8]) -> bool
+    ensures { result ≡ is_blank_line line.now }
 {
-    b == b' ' || b == b'\t' || b == b'\r'
-}
-
-fn is_blank(line: &[u8]) -> bool
-    ensures { result ≡ is_blank line.now }
-{
-    line.iter().all(|b| is_blank_byte(*b))
+    line.iter().all(|b| is_blank(*b))
 }
 
 #[tactic(auto, unfolding(crate::specs::Lines::add_event))]
@@ -76,7 +71,7 @@ pub(crate) fn add_line(
     if next > TRACE_MOST {
         return Err(Stop::Because(TraceWhy::TraceTooLong));
     }
-    if is_blank(line) {
+    if is_blank_line(line) {
         return Ok(());
     }
     let object = object_in(alloc, line)?;

@@ -1,7 +1,7 @@
 use Rattle.std.proofs.Common.{All, subst}
 use Rattle.std.specs.List.Sorted.{IsStrictlyIncreasing}
 use Rattle.tetri_space.specs.Space.{space}
-use Rattle.tetri_advice.proofs.GreedyLaws.{greedy_lawful}
+use Rattle.tetri_advice.proofs.GreedyLemmas.{greedy_lawful}
 use Rattle.tetri_advice.proofs.laws.greedy_lists_are_lawful.Goals as goal
 
 pub returns : goal.returns

@@ -2,7 +2,7 @@ use Rattle.std.proofs.Common.{rules, sym, subst}
 use Rattle.std.specs.Prelude.{◌↔◌, IsTrue}
 use Rattle.tetri_space.specs.Lawful.{IsLawful}
 use Rattle.tetri_space.specs.Space.{space}
-use Rattle.tetri_space.proofs.AllotmentLaws.{lawful_in_order}
+use Rattle.tetri_space.proofs.InstanceLaws.{lawful_in_order}
 use Rattle.tetri_advice.proofs.OrderLemmas.{lawful_out_of_order}
 use Rattle.tetri_advice.proofs.testing.is_lawful_in_any_order.Goals as goal
 

@@ -1,4 +1,4 @@
-use Rattle.std.proofs.Common.{◌≡◌, ◌<◌, All, List, [], ℕ, subst, sym}
+use Rattle.std.proofs.Common.{◌<◌, All, [], ℕ, subst, sym}
 use Rattle.std.specs.List.Sorted.{IsStrictlyIncreasing}
 use Rattle.tetri_space.specs.Slots.{is_marked}
 use Rattle.tetri_space.specs.Space.{set_of, space}

@@ -1,8 +1,7 @@
-use Rattle.std.proofs.Common.{sym}
 use Rattle.std.specs.Bool.{one_answer}
 use Rattle.tetri_space.specs.Free.{IsFreeThroughout, is_free_throughout}
 use Rattle.tetri_space.specs.Space.{space}
-use Rattle.tetri_space.proofs.FreeLemmas.{throughout_decides}
+use Rattle.tetri_space.proofs.InstanceLaws.{throughout_decides}
 use Rattle.tetri_greedy.proofs.fits.is_free.Goals as goal
 
 pub returns : goal.returns

@@ -1,13 +1,12 @@
 use mathlib.Core.Path.{fun_ext}
-use Rattle.std.proofs.Common.{◌≡◌, ◌∙◌, ◌+◌, ◌<◌, ◌≤◌, Bool, ap, subst, sym, rules, of_calls}
+use Rattle.std.proofs.Common.{◌≡◌, ◌∙◌, Bool, subst, sym, rules, of_calls}
 use Rattle.std.specs.List.Sorted.{IsSortedBy, IsStableBy}
 use Rattle.std.specs.Ordering.{is_lt, nat_cmp}
 use Rattle.std.proofs.lemmas.Fn.{always_returns_same}
 use Rattle.tetri_base.specs.Order.{in_order}
-use Rattle.tetri_base.proofs.KeyOrderLaws.{order_by, test_last}
-use Rattle.tetri_base.proofs.OrderLaws.{IsOrder, in_order-rises, rises_along}
+use Rattle.tetri_base.proofs.OrderLaws.{in_order-rises, IsOrder, order_by, rises_along, test_last}
 use Rattle.tetri_space.specs.Space.{space}
-use Rattle.tetri_space.proofs.StableLaws.{filter-in_order, same_stably}
+use Rattle.tetri_space.proofs.InstanceLaws.{filter-in_order, same_stably}
 use Rattle.tetri_greedy.specs.Order.{is_lower}
 use Rattle.tetri_greedy.specs.declared.order.Ranked.{Ranked}
 use Rattle.tetri_greedy.proofs.RankLemmas.{in_creed_order}

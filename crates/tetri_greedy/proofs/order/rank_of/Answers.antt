@@ -1,4 +1,4 @@
-use Rattle.std.proofs.Common.{◌≡◌, ◌+◌, ◌-◌, ◌==◌, ◌∙◌, ap, cond, sym}
+use Rattle.std.proofs.Common.{◌+◌, ◌-◌, ◌==◌, ◌∙◌, ap, cond, sym}
 use Rattle.tetri_base.proofs.ListLaws.{test_from_ne}
 use Rattle.tetri_space.specs.Space.{bid, space}
 use Rattle.tetri_greedy.specs.Order.{rank_of}

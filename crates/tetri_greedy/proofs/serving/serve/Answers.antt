@@ -3,8 +3,8 @@ use Rattle.std.specs.Prelude.{OnOk, Result, Ok, Err, is_ok}
 use Rattle.std.specs.List.Sorted.{IsStrictlyIncreasing}
 use Rattle.tetri_strl.specs.declared.grants.Grant.{Grant}
 use Rattle.tetri_space.specs.Space.{bid, space}
-use Rattle.tetri_advice.specs.Fit.{Placement, grants_of}
-use Rattle.tetri_advice.proofs.GreedyLaws.{known_leaves}
+use Rattle.tetri_advice.specs.Fit.{grants_of}
+use Rattle.tetri_advice.proofs.AdviceLaws.{known_leaves}
 use Rattle.tetri_greedy.specs.Fitted.{Fitted, with_fit}
 use Rattle.tetri_greedy.specs.Held.{AreHoldable, all_marked}
 use Rattle.tetri_greedy.specs.Served.{IsServed}

@@ -1,7 +1,6 @@
 use Rattle.std.proofs.Common.{◌≡◌, ◌<◌, ◌++◌, ◌∷◌, [], Bool, false, cond, length, drop, get_or, ap, sym, ◌∙◌, arith}
 use Rattle.std.proofs.lemmas.List.{append-nil, length-set}
-use Rattle.tetri_base.specs.Lists.{has}
-use Rattle.tetri_space.specs.Finding.{list_at}
+use Rattle.tetri_base.specs.Lists.{has, list_at}
 use Rattle.tetri_space.proofs.FindingLemmas.{past_lists, put_next}
 use Rattle.tetri_space.proofs.finding.add_to_each.Goals as goal
 

@@ -1,6 +1,5 @@
 use Rattle.std.proofs.Common.{◌≡◌, ℕ, ◌<◌, ◌++◌, ◌∷◌, [], length, drop, cond}
-use Rattle.tetri_space.specs.Finding.{list_at}
-use Rattle.tetri_base.specs.Lists.{has}
+use Rattle.tetri_base.specs.Lists.{has, list_at}
 use Rattle.tetri_space.proofs.finding.add_to_each.Given as goal
 
 abbrev pub invariant-loop-place : goal.invariant-loop-place

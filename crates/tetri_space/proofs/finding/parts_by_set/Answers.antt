@@ -1,6 +1,5 @@
 use Rattle.std.proofs.Common.{◌≡◌, ◌++◌, ◌∷◌, [], List, ℕ, cond, length, arith, ap, sym, ◌∙◌}
-use Rattle.tetri_space.specs.Finding.{list_at}
-use Rattle.tetri_base.specs.Lists.{has}
+use Rattle.tetri_base.specs.Lists.{has, list_at}
 use Rattle.std.specs.List.{filter, range_with_len}
 use Rattle.tetri_space.proofs.PartsLemmas.{places_rise}
 use Rattle.tetri_space.proofs.FindingLemmas.{filter_kept, list_is}

@@ -1,4 +1,4 @@
-use Rattle.std.proofs.Common.{◌≡◌, ◌∙◌, ◌==◌, ℕ, false, true, List, length, sym, ap, subst, arith, true≢false}
+use Rattle.std.proofs.Common.{◌≡◌, ◌∙◌, ◌==◌, false, List, sym, subst, arith, true≢false}
 use Rattle.std.specs.Vec.{vec_len}
 use Rattle.tetri_base.proofs.ListLaws.{test_from_eq}
 use Rattle.tetri_space.specs.Closed.{AreTurns}

@@ -1,7 +1,8 @@
-use Rattle.std.proofs.Common.{◌≡◌, ◌∙◌, ℕ, ◌+◌, ◌<◌, ◌≤◌, List, length, set, sym, ap, subst, arith, inl, inr}
+use Rattle.std.proofs.Common.{◌≡◌, ◌∙◌, ℕ, ◌<◌, List, length, set, sym, subst, arith, inl, inr}
 use Rattle.std.proofs.lemmas.Bool.{cases_lt}
 use Rattle.std.proofs.lemmas.List.{length-set}
-use Rattle.tetri_space.specs.Finding.{IsSigned, list_at}
+use Rattle.tetri_space.specs.Finding.{IsSigned}
+use Rattle.tetri_base.specs.Lists.{list_at}
 use Rattle.tetri_space.specs.Space.{space}
 use Rattle.tetri_space.proofs.FindingLemmas.{list_is, put_here, put_other}
 use Rattle.tetri_space.proofs.finding.sign_each.Goals as goal

@@ -1,7 +1,6 @@
 use Rattle.std.proofs.Common.{◌&&◌, ◌++◌, ◌∷◌, [], false, List, ℕ, cond, length, slice_index_or, ap, sym, ◌∙◌, arith}
 use Rattle.std.proofs.lemmas.List.{append-nil}
-use Rattle.tetri_space.specs.Finding.{list_at}
-use Rattle.tetri_base.specs.Lists.{has}
+use Rattle.tetri_base.specs.Lists.{has, list_at}
 use Rattle.tetri_space.specs.Partitions.{set_at}
 use Rattle.tetri_space.specs.Space.{space}
 use Rattle.tetri_space.proofs.FindingLemmas.{filter_kept, and_true, and_false}

@@ -1,7 +1,6 @@
 use Rattle.std.proofs.Common.{◌≡◌, ℕ, ◌<◌, ◌&&◌, false, length, slice_index_or}
 use Rattle.std.specs.List.{filter, range_with_len}
-use Rattle.tetri_space.specs.Finding.{list_at}
-use Rattle.tetri_base.specs.Lists.{has}
+use Rattle.tetri_base.specs.Lists.{has, list_at}
 use Rattle.tetri_space.specs.Partitions.{set_at}
 use Rattle.tetri_space.specs.Space.{space}
 use Rattle.tetri_space.proofs.finding.signatures_of.Given as goal

@@ -1,4 +1,4 @@
-use Rattle.std.proofs.Common.{◌≡◌, ◌<◌, ◌≤◌, ◌∙◌, ℕ, List, All, get_or, length, sym, ap, subst}
+use Rattle.std.proofs.Common.{◌<◌, ◌∙◌, ℕ, List, All, get_or, length, sym, ap, subst}
 use Rattle.std.specs.List.{list_any}
 use Rattle.tetri_space.specs.Lawful.{IsLawfulGrant}
 use Rattle.tetri_space.specs.Slots.{marked, meets, slots_of}

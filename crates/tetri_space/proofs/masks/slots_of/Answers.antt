@@ -1,5 +1,5 @@
 use Rattle.std.proofs.Common.{◌+◌, ◌-◌, ◌^◌, ◌≡◌, min, ap, arith, ◌∙◌}
-use Rattle.tetri_space.proofs.SlotLaws.{mask_value, shifted_order}
+use Rattle.tetri_space.proofs.SlotLemmas.{mask_value, shifted_order}
 use Rattle.tetri_space.proofs.masks.slots_of.Goals as goal
 
 pub overflow_sub-result : goal.overflow_sub-result

@@ -1,16 +1,15 @@
 use mathlib.Core.Path.{fun_ext}
-use Rattle.std.proofs.Common.{◌≡◌, ◌∙◌, ◌+◌, ◌<◌, ◌≤◌, ℕ, Bool, false, List, length, get_or, sym, ap, subst, rules, of_calls, nat_lt}
+use Rattle.std.proofs.Common.{◌≡◌, ◌∙◌, Bool, sym, ap, subst, rules, of_calls, nat_lt}
 use Rattle.std.specs.List.{filter}
 use Rattle.std.specs.List.Sorted.{IsSortedBy, IsStableBy, ties}
 use Rattle.std.specs.Ordering.{is_lt, nat_cmp, ordering_then}
 use Rattle.std.proofs.lemmas.Fn.{always_returns_same}
 use Rattle.tetri_base.specs.Order.{in_order}
-use Rattle.tetri_base.proofs.KeyOrderLaws.{test_last, test_then}
-use Rattle.tetri_base.proofs.OrderLaws.{in_order-rises, rises_along}
+use Rattle.tetri_base.proofs.OrderLaws.{in_order-rises, rises_along, test_last, test_then}
 use Rattle.tetri_strl.specs.declared.grants.Grant.{Grant}
 use Rattle.tetri_space.specs.GrantOrder.{comes_first}
-use Rattle.tetri_space.proofs.AllotmentLaws.{grant_order}
-use Rattle.tetri_space.proofs.StableLaws.{filter-in_order, same_stably}
+use Rattle.tetri_space.proofs.AllotmentLemmas.{grant_order}
+use Rattle.tetri_space.proofs.StableLemmas.{filter-in_order, same_stably}
 use Rattle.tetri_space.proofs.ordering.order_grants.Goals as goal
 
 -- the order of the keys

@@ -1,8 +1,7 @@
 use Rattle.std.proofs.Common.{◌<◌, ◌∙◌, List, Vec, Global, ℕ, length, ap, arith}
 use Rattle.std.specs.List.{filter, range_with_len}
 use Rattle.std.proofs.lemmas.List.{length-map}
-use Rattle.tetri_space.specs.Finding.{list_at}
-use Rattle.tetri_base.specs.Lists.{has}
+use Rattle.tetri_base.specs.Lists.{has, list_at}
 use Rattle.tetri_space.specs.Space.{space}
 use Rattle.tetri_space.proofs.partitions.find_partitions.Goals as goal
 

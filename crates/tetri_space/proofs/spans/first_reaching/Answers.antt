@@ -1,7 +1,5 @@
-use Rattle.std.proofs.Common.{◌≡◌, true, false, rules, of_calls}
-use Rattle.std.specs.List.Sorted.{IsPartitionPoint}
+use Rattle.std.proofs.Common.{rules, of_calls}
 use Rattle.std.proofs.lemmas.Fn.{always_returns_same}
-use Rattle.tetri_space.specs.declared.closure.Closure.{Closure}
 use Rattle.tetri_space.specs.Spans.{is_past}
 use Rattle.tetri_space.proofs.SpanLemmas.{past_first, past_taken, reaching_left}
 use Rattle.tetri_space.proofs.spans.first_reaching.Goals as goal

@@ -1,4 +1,3 @@
-use Rattle.std.proofs.Common.{◌≡◌, arith}
 use Rattle.tetri_space.proofs.SpanLemmas.{meets_begun, meets_later, meets_other, meets_over}
 use Rattle.tetri_space.proofs.spans.meets.Goals as goal
 

@@ -1,4 +1,4 @@
-use Rattle.std.proofs.Common.{◌≡◌, ◌+◌, ◌∷◌, ◌∙◌, [], ℕ, List, Vec, Global, drop, get_or, sym, ap, subst}
+use Rattle.std.proofs.Common.{◌+◌, ◌∷◌, ◌∙◌, ℕ, List, Vec, Global, drop, get_or, sym, ap, subst}
 use Rattle.std.proofs.lemmas.List.{drop_more, drop_all}
 use Rattle.tetri_space.specs.Spans.{AreSpansOf}
 use Rattle.tetri_space.specs.declared.closure.Closure.{Closure}

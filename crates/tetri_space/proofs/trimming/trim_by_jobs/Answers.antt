@@ -1,4 +1,4 @@
-use Rattle.std.proofs.Common.{◌≡◌, ◌≤◌, ◌++◌, ◌∙◌, [], List, length, drop, map, All, subst, sym, ap, arith}
+use Rattle.std.proofs.Common.{◌++◌, ◌∙◌, List, map, All, subst, sym, ap, arith}
 use Rattle.std.proofs.lemmas.List.{append-nil, drop_all, length-map}
 use Rattle.tetri_space.specs.Sound.{IsSoundBid}
 use Rattle.tetri_space.specs.Space.{Bid, bid, space}

@@ -1,4 +1,4 @@
-use Rattle.std.proofs.Common.{◌≡◌, ◌<◌, ◌≤◌, ◌++◌, ◌∙◌, [], List, length, drop, map, All, AllPairs, subst, sym, ap, arith}
+use Rattle.std.proofs.Common.{◌<◌, ◌++◌, ◌∙◌, List, map, All, AllPairs, subst, sym, ap, arith}
 use Rattle.std.proofs.lemmas.List.{append-nil, drop_all, length-map}
 use Rattle.std.specs.List.Sorted.{IsNonDecreasingBy}
 use Rattle.std.proofs.lemmas.List.Sorted.{IsNonDecreasingBy-drop}

@@ -7,7 +7,7 @@ use Rattle.tetri_space.specs.Lawful.{IsLawful}
 use Rattle.tetri_space.specs.Total.{total_in}
 use Rattle.tetri_space.specs.Trimmed.{IsThriftyForAll}
 use Rattle.tetri_split.specs.Parts.{in_a_row}
-use Rattle.tetri_split.proofs.PartLaws.{joined_lawful, joined_ordered, joined_thrifty, joined_total}
+use Rattle.tetri_split.proofs.PartLemmas.{joined_lawful, joined_ordered, joined_thrifty, joined_total}
 use Rattle.tetri_split.proofs.joining.join.Goals as goal
 
 pub returns-clause-lawful : goal.returns-clause-lawful

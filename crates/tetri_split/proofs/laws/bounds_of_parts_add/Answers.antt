@@ -1,5 +1,5 @@
 use Rattle.tetri_space.specs.Space.{space}
-use Rattle.tetri_split.proofs.PartLaws.{bounds_add}
+use Rattle.tetri_split.proofs.PartLemmas.{bounds_add}
 use Rattle.tetri_split.proofs.laws.bounds_of_parts_add.Goals as goal
 
 pub returns : goal.returns

@@ -1,5 +1,5 @@
 use Rattle.tetri_space.specs.Space.{space}
-use Rattle.tetri_split.proofs.PartLaws.{totals_add}
+use Rattle.tetri_split.proofs.PartLemmas.{totals_add}
 use Rattle.tetri_split.proofs.laws.totals_of_parts_add.Goals as goal
 
 pub returns : goal.returns

@@ -2,7 +2,7 @@ use Rattle.std.proofs.Common.{rules, get_or, refl}
 use Rattle.std.proofs.lemmas.List.{get_or_default}
 use Rattle.std.proofs.lemmas.List.Sorted.{answers_always}
 use Rattle.tetri_space.specs.declared.instance.Offer.{Offer}
-use Rattle.tetri_space.proofs.SearchLemmas.{found_bid, searched_bid}
+use Rattle.tetri_space.proofs.InstanceLaws.{found_bid, searched_bid}
 use Rattle.tetri_split.proofs.restricting.expr_of.Goals as goal
 
 pub returns-in-Ok : goal.returns-in-Ok

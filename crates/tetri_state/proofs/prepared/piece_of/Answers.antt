@@ -1,7 +1,7 @@
 use Rattle.std.proofs.Common.{rules, ◌≤ℤ◌, ℤ, negsuc, pos, sym, subst, w32}
 use mir.Val.{SFits}
 use Rattle.std.proofs.lemmas.Int.{to_z-of_z}
-use Rattle.tetri_trace.proofs.SoundLaws.{submission_sound}
+use Rattle.tetri_trace.proofs.TraceLaws.{submission_sound}
 use Rattle.tetri_trace.specs.Scenario.{Submission, scenario}
 use Rattle.tetri_state.proofs.prepared.piece_of.Goals as goal
 

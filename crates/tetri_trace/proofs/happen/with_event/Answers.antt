@@ -1,7 +1,7 @@
 use Rattle.std.proofs.Common.{ap, subst, sym}
 use Rattle.tetri_trace.specs.Draft.{so_far}
 use Rattle.tetri_trace.specs.Sound.{IsSound}
-use Rattle.tetri_trace.proofs.SoundLaws.{with_event_sound}
+use Rattle.tetri_trace.proofs.SoundLemmas.{with_event_sound}
 use Rattle.tetri_trace.proofs.happen.with_event.Goals as goal
 
 pub returns-clause-sound : goal.returns-clause-sound

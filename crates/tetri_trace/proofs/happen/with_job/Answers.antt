@@ -5,7 +5,7 @@ use Rattle.tetri_trace.specs.Draft.{so_far}
 use Rattle.tetri_trace.specs.Scenario.{submission, job_names}
 use Rattle.tetri_trace.specs.Sound.{IsSound}
 use Rattle.tetri_trace.specs.declared.trace.Happening.TheVariants.{Arrive}
-use Rattle.tetri_trace.proofs.SoundLaws.{with_job_sound}
+use Rattle.tetri_trace.proofs.SoundLemmas.{with_job_sound}
 use Rattle.tetri_trace.proofs.happen.with_job.Goals as goal
 
 pub returns-clause-sound : goal.returns-clause-sound

@@ -3,7 +3,7 @@ use Rattle.tetri_cluster.specs.Sets.{AreSets}
 use Rattle.tetri_strl.specs.Tree.{tree}
 use Rattle.tetri_trace.specs.Draft.{so_far}
 use Rattle.tetri_trace.proofs.Demands.{text_tree_sound}
-use Rattle.tetri_trace.proofs.NamedLaws.{with_named-sets, with_named_sound}
+use Rattle.tetri_trace.proofs.NamedLemmas.{with_named-sets, with_named_sound}
 use Rattle.tetri_trace.proofs.happen.with_work.Goals as goal
 
 pub returns-in_ok-expr-in-Strl-clause-good : goal.returns-in_ok-expr-in-Strl-clause-good

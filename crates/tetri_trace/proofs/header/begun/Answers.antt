@@ -2,7 +2,7 @@ use Rattle.std.proofs.Common.{sym}
 use Rattle.std.proofs.lemmas.Result.{err_from_is_err_and}
 use Rattle.tetri_notice.specs.Headers.{header_text}
 use Rattle.tetri_trace.proofs.Beginnings.{begins, stops_at_closures, stops_at_nodes}
-use Rattle.tetri_trace.proofs.SoundLaws.{header_sound}
+use Rattle.tetri_trace.proofs.SoundLemmas.{header_sound}
 use Rattle.tetri_trace.proofs.header.begun.Goals as goal
 
 pub returns-in_err-cluster-clause-gives : goal.returns-in_err-cluster-clause-gives

@@ -1,4 +1,4 @@
-use Rattle.std.proofs.Common.{◌≡◌, ◌+◌, ◌<◌, ◌≤◌, [], ◌∷◌, ◌++◌, length, set, true, false, refl, ap, ◌∙◌, arith, take, drop, map, not, vec_len, vec_capacity}
+use Rattle.std.proofs.Common.{◌≡◌, ◌+◌, ◌<◌, ◌≤◌, [], ◌∷◌, ◌++◌, length, set, true, false, refl, ap, ◌∙◌, arith, take, drop, not, vec_len, vec_capacity}
 use Rattle.tetri_advice.specs.Asked.{nobody}
 use Rattle.tetri_advice.proofs.panel.PanelOf.consult.Goals as goal
 use Rattle.tetri_advice.proofs.panel.PanelOf.consult.Goals.{in-Given+in_ok-push-in-Given+in_ok-push-in-Given-2, in-Struck+in_ok-push-in-Struck, in-Out+in_ok-push-in-Out, in-Missed+in_ok-push-in-Missed}

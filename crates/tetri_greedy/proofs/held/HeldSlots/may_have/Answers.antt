@@ -1,4 +1,4 @@
-use Rattle.std.proofs.Common.{◌≡◌, ◌<◌, All, List, length, ℕ, Bool, false, arith, subst, sym}
+use Rattle.std.proofs.Common.{◌≡◌, ◌<◌, All, List, length, ℕ, false, arith, subst, sym}
 use Rattle.tetri_space.specs.Slots.{is_marked}
 use Rattle.tetri_greedy.proofs.OpenLemmas.{few_open}
 use Rattle.tetri_greedy.proofs.held.HeldSlots.may_have.Goals as goal

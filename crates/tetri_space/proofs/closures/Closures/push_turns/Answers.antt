@@ -1,4 +1,4 @@
-use Rattle.std.proofs.Common.{◌≡◌, ◌<◌, ◌^◌, ◌++◌, ◌∙◌, List, All, length, take, drop, sym, ap, subst}
+use Rattle.std.proofs.Common.{◌<◌, ◌^◌, ◌++◌, ◌∙◌, List, All, drop, sym, ap, subst}
 use Rattle.std.proofs.lemmas.List.Elements.{All-drop}
 use Rattle.tetri_space.specs.Spans.{AreSpansOf, ends_in}
 use Rattle.tetri_space.specs.declared.closure.Closure.{Closure}

@@ -1,7 +1,5 @@
-use Rattle.std.proofs.Common.{◌≡◌, ◌<◌, ◌∙◌, ℕ, List, length, get_or, ap, arith}
-use Rattle.std.specs.List.{list_any}
+use Rattle.std.proofs.Common.{◌<◌, ◌∙◌, ℕ, List, length, get_or, ap, arith}
 use Rattle.tetri_space.specs.Closed.{is_closed_by}
-use Rattle.tetri_space.specs.Free.{slots}
 use Rattle.tetri_space.specs.Partitions.{part_at, partitions}
 use Rattle.tetri_space.specs.Space.{space}
 use Rattle.tetri_space.specs.declared.closure.Closure.{Closure}

@@ -1,4 +1,4 @@
-use Rattle.std.proofs.Common.{◌≡◌, ◌<◌, ◌∙◌, ℕ, List, length, get_or, ap, arith}
+use Rattle.std.proofs.Common.{◌<◌, ◌∙◌, ℕ, List, length, get_or, ap, arith}
 use Rattle.std.specs.List.{list_any}
 use Rattle.tetri_space.specs.Closed.{is_closed_by}
 use Rattle.tetri_space.specs.Free.{slots}

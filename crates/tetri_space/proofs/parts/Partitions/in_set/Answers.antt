@@ -2,7 +2,7 @@ use Rattle.std.proofs.Common.{◌≡◌, ◌<◌, ℕ, List, Bool, Contains, len
 use Rattle.std.specs.Prelude.{◌↔◌, IsTrue, is_ok}
 use Rattle.std.specs.List.Sorted.{IsStrictlyIncreasing}
 use Rattle.std.proofs.lemmas.List.{length-map}
-use Rattle.tetri_cluster.proofs.SetsAdded.{search_finds}
+use Rattle.tetri_cluster.proofs.ClusterLaws.{search_finds}
 use Rattle.tetri_space.specs.Partitions.{parts_found, parts_of}
 use Rattle.tetri_space.proofs.PartsLemmas.{rise_at}
 use Rattle.tetri_space.proofs.parts.Partitions.in_set.Goals as goal

@@ -4,7 +4,7 @@ use Rattle.tetri_space.specs.Lawful.{IsLawful}
 use Rattle.tetri_space.specs.Trimmed.{IsThriftyForAll}
 use Rattle.tetri_split.specs.Parts.{is_in_part}
 use Rattle.tetri_split.specs.Restricted.{grants_to, restricted}
-use Rattle.tetri_split.proofs.RestrictedLaws.{lawful-kept, thrifty-kept}
+use Rattle.tetri_split.proofs.RestrictedLemmas.{lawful-kept, thrifty-kept}
 use Rattle.tetri_split.proofs.parts.Parts.keep.Goals as goal
 
 pub returns-clause-lawful : goal.returns-clause-lawful

@@ -4,7 +4,7 @@ use Rattle.tetri_space.specs.Sound.{IsSound}
 use Rattle.tetri_space.specs.Space.{space}
 use Rattle.tetri_split.specs.Parts.{is_in_part}
 use Rattle.tetri_split.specs.Restricted.{restricted}
-use Rattle.tetri_split.proofs.RestrictedLaws.{sound-kept}
+use Rattle.tetri_split.proofs.RestrictedLemmas.{sound-kept}
 use Rattle.tetri_split.proofs.parts.Parts.part_of.Goals as goal
 
 pub returns-clause-sound : goal.returns-clause-sound

@@ -8,7 +8,7 @@ use Rattle.tetri_state.specs.Begin.{Occurrences, occurrences, occurring, turn}
 use Rattle.tetri_state.specs.Reached.{IsReached, begun}
 use Rattle.tetri_state.proofs.Ascending.{ascend_to}
 use Rattle.tetri_state.proofs.ReachedLemmas.{begin_reached, if_ok, stands_between}
-use Rattle.tetri_state.proofs.StandLemmas.{IsWithin, expired_ascends, turn_arrived}
+use Rattle.tetri_state.proofs.StandLemmas.{KeepsToTrace, expired_ascends, turn_arrived}
 use Rattle.tetri_state.proofs.state.State.begin_cycle.Goals as goal
 use Rattle.tetri_state.specs.Snapshot.{ArrivedBefore}
 
@@ -30,7 +30,7 @@ pub begin-requires-clause-nodes : goal.begin-requires-clause-nodes
 begin-requires-clause-nodes c =
     let t = scenario c.args.trace.now in
     let s = c.args.self.now in
-    λ k d lt. (Each-get (IsWithin t) s.pieces k d (stands_between t s c.requires.sound c.requires.reached).pieces lt).nodes
+    λ k d lt. (Each-get (KeepsToTrace t) s.pieces k d (stands_between t s c.requires.sound c.requires.reached).pieces lt).nodes
 
 pub returns-clause-reached : goal.returns-clause-reached
 returns-clause-reached c =

@@ -13,10 +13,9 @@ use Rattle.tetri_strl.specs.declared.expr.Leaf.{Leaf}
 use Rattle.tetri_strl.specs.Aligned.{EachLeaf, EachLeafOf}
 use Rattle.tetri_strl.specs.Tree.{greatest, least, added, Tree, one, join, scale, barrier, Trees, none, more, leaves, leaves_of}
 use Rattle.tetri_strl.specs.WellMade.{IsGoodLeaf}
-use Rattle.tetri_strl.proofs.PartsApart.{left_pairs, right_pairs, across_pairs}
-use Rattle.tetri_strl.proofs.WorthLemmas.{eq_from_test}
+use Rattle.tetri_strl.proofs.ExprLaws.{across_pairs, eq_from_test, left_pairs, right_pairs}
 use Rattle.tetri_space.specs.Space.{Space, set_of}
-use Rattle.tetri_space.proofs.LawfulLemmas.{AllPairs-append}
+use Rattle.tetri_space.proofs.InstanceLaws.{AllPairs-append}
 use Rattle.tetri_space.specs.Free.{is_free_throughout}
 use Rattle.tetri_advice.specs.Fit.{Placement, all_fit, best_fit, better, enough, fit_beside, fit_of_leaf, fit_worth, fits, is_available, is_held, is_held_by, is_live, lowest}
 

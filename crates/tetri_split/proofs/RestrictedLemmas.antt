@@ -11,8 +11,7 @@ use Rattle.tetri_strl.specs.declared.grants.Grant.{Grant}
 use Rattle.tetri_strl.specs.Thrifty.{IsThriftyFor, held_leaves}
 use Rattle.tetri_strl.specs.Tree.{leaves}
 use Rattle.tetri_strl.specs.Worth.{granted, leaf_worth, worth_at}
-use Rattle.tetri_strl.proofs.GrantLemmas.{worth_by-same}
-use Rattle.tetri_strl.proofs.ThriftOfOthers.{thrifty_of-same}
+use Rattle.tetri_strl.proofs.ExprLaws.{thrifty_of-same, worth_by-same}
 use Rattle.tetri_space.specs.Free.{IsFreeThroughout}
 use Rattle.tetri_space.specs.Lawful.{AreApart, IsLawful, IsLawfulGrant, MayBeGranted}
 use Rattle.tetri_space.specs.Sound.{HasKnownSet, IsSound, IsSoundBid}

@@ -1,12 +1,12 @@
 -- The lists of creeds are lawful.
-use Rattle.std.proofs.Common.{◌≡◌, ◌≢◌, ℕ, ◌+◌, ◌<◌, ◌==◌, ◌&&◌, ◌||◌, inl, inr, Bool, true, false, not, cond, List, [], ◌∷◌, ◌++◌, map, get_or, suc, All, AllPairs, Contains, refl, sym, ap, ◌∙◌, subst, arith, nat_le, nat_lt}
+use Rattle.std.proofs.Common.{◌≡◌, ◌≢◌, ℕ, ◌+◌, ◌==◌, ◌&&◌, ◌||◌, inl, inr, Bool, true, false, not, List, [], ◌∷◌, ◌++◌, map, get_or, suc, All, AllPairs, Contains, refl, sym, ap, ◌∙◌, subst, arith, nat_le, nat_lt}
 use Rattle.std.specs.Prelude.{Option, None, Some}
 use Rattle.std.specs.List.{list_any}
 use Rattle.std.specs.Option.{IsSomeAnd}
 use Rattle.std.specs.List.Sorted.{IsStrictlyIncreasing}
 use Rattle.std.proofs.lemmas.Bool.{true≢false}
 use Rattle.std.proofs.lemmas.Bool.Decides.{nat_tests}
-use Rattle.std.proofs.lemmas.List.Elements.{All-nil, All-cons, All-head, All-tail, All-append, All-contains, All-contains_itself, All-map, All-weaker, Contains-append_cases}
+use Rattle.std.proofs.lemmas.List.Elements.{All-nil, All-head, All-tail, All-append, All-contains, All-contains_itself, All-map, All-weaker, Contains-append_cases}
 use Rattle.std.proofs.lemmas.List.Folds.{list_any-append, list_any_at}
 use Rattle.std.proofs.lemmas.List.Kept.{AllPairs-cons}
 use Rattle.tetri_base.proofs.ListLaws.{EachPair-from}
@@ -25,7 +25,7 @@ use Rattle.tetri_space.proofs.InstanceLaws.{AllPairs-append, leaf_in-found, thro
 use Rattle.tetri_advice.specs.Creeds.{creed_order, greedy_list, is_served_first, served}
 use Rattle.tetri_advice.specs.declared.creed.Creed.{Creed}
 use Rattle.tetri_advice.specs.Fit.{Placement, fit, fit_beside, grant_of, grants_of, is_held, is_held_by, is_live, overlap}
-use Rattle.tetri_advice.proofs.FitLaws.{AreFit, Follows, IsPlain, IsRight, are_fit, none_any}
+use Rattle.tetri_advice.proofs.FitLemmas.{AreFit, Follows, IsPlain, IsRight, are_fit, none_any}
 use Rattle.tetri_advice.proofs.OrderLemmas.{all_of, each_of, pairs_of}
 
 -- two leaves differ in number

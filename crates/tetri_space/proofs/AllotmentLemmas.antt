@@ -1,26 +1,20 @@
 -- Laws of allotments in order, and of what of them earns something.
-use Rattle.std.proofs.Common.{◌≡◌, ◌≢◌, ◌⊎◌, ℕ, zero, suc, ◌+◌, ◌<◌, ◌≤◌, ◌==◌, ◌&&◌, ◌||◌, Bool, true, false, cond, List, [], ◌∷◌, ◌++◌, length, get_or, map, All, AllPairs, Contains, refl, sym, ap, ◌∙◌, subst, arith, true≢false, inl, inr, nat_lt}
-use Rattle.std.specs.List.{filter, flat_map, sum_by}
-use Rattle.std.proofs.lemmas.Bool.{cases_lt, cases_order}
+use Rattle.std.proofs.Common.{◌≡◌, ◌≢◌, ◌⊎◌, ℕ, suc, ◌+◌, ◌<◌, ◌==◌, ◌&&◌, ◌||◌, Bool, true, false, cond, List, [], ◌∷◌, ◌++◌, length, get_or, map, All, AllPairs, Contains, refl, sym, ap, ◌∙◌, subst, arith, true≢false, inl, inr, nat_lt}
+use Rattle.std.specs.List.{filter, flat_map}
+use Rattle.std.proofs.lemmas.Bool.{cases_order}
 use Rattle.std.proofs.lemmas.Bool.Decides.{nat_tests}
 use Rattle.std.proofs.lemmas.List.{get_or_default}
 use Rattle.std.proofs.lemmas.List.Elements.{All-append, All-contains, All-contains_itself, All-nil, All-weaker}
 use Rattle.tetri_base.specs.Lists.{sum_of, Each, EachPair}
 use Rattle.tetri_base.specs.Order.{in_order}
-use Rattle.tetri_base.proofs.KeyOrderLaws.{order_by, order_then}
-use Rattle.tetri_base.proofs.ListLaws.{Each-at, Each-both, Each-from, Each-map, EachPair-from, eq_from_test, sum_of-eq, test_from_eq}
-use Rattle.tetri_base.proofs.OrderLaws.{Each-in_order, EachPair-in_order, IsOrder, NotAfter, in_order-rises, sum_of-in_order, sum_of-sum_by}
+use Rattle.tetri_base.proofs.OrderLaws.{Each-in_order, EachPair-in_order, in_order-rises, IsOrder, NotAfter, order_by, order_then, sum_of-in_order, sum_of-sum_by}
+use Rattle.tetri_base.proofs.ListLaws.{Each-at, Each-both, Each-from, Each-map, EachPair-from, sum_of-eq}
 use Rattle.tetri_strl.specs.declared.grants.Grant.{Grant}
 use Rattle.tetri_strl.specs.Thrifty.{IsThriftyFor, held_leaves}
 use Rattle.tetri_strl.specs.Tree.{Tree}
 use Rattle.tetri_strl.specs.Trim.{earns, idle, trimmed}
 use Rattle.tetri_strl.specs.Worth.{granted, leaf_worth, worth_at, worth_of}
-use Rattle.tetri_strl.proofs.GrantLemmas.{NamesNot, worth_by-same, worth_of-append_left, worth_of-append_right}
-use Rattle.tetri_strl.proofs.PartsApart.{apart_of_pairs}
-use Rattle.tetri_strl.proofs.ThriftOfOthers.{thrifty-append_left, thrifty-append_right, thrifty_of-members}
-use Rattle.tetri_strl.proofs.TrimOfOthers.{trimmed_of_job}
-use Rattle.tetri_strl.proofs.TrimThrift.{trimmed_thrifty}
-use Rattle.tetri_strl.proofs.TrimWorth.{trimmed_worth}
+use Rattle.tetri_strl.proofs.ExprLaws.{apart_of_pairs, NamesNot, thrifty-append_left, thrifty-append_right, thrifty_of-members, trimmed_of_job, trimmed_thrifty, trimmed_worth, worth_by-same, worth_of-append_left, worth_of-append_right}
 use Rattle.tetri_space.specs.GrantOrder.{ComesBefore, comes_first}
 use Rattle.tetri_space.specs.Lawful.{AreApart, IsLawful, IsLawfulGrant}
 use Rattle.tetri_space.specs.Sound.{IsSound, IsSoundBid}

@@ -8,8 +8,7 @@ use Rattle.std.proofs.lemmas.List.Quantifiers.{all_pairs_push}
 use Rattle.tetri_cluster.specs.Cluster.{names_of}
 use Rattle.tetri_cluster.specs.declared.cluster.NodeText.{NodeText}
 use Rattle.tetri_cluster.specs.Names.{differ, is_name}
-use Rattle.tetri_cluster.specs.Sets.{AreSets}
-use Rattle.tetri_parse.specs.TextTree.{AreWithin}
+use Rattle.tetri_cluster.specs.Sets.{AreSets, HaveNodesBelow}
 use Rattle.tetri_space.specs.Closed.{AreSoundClosures}
 use Rattle.tetri_space.specs.declared.closure.Closure.{Closure}
 use Rattle.tetri_trace.specs.Draft.{with_sets, BringsNone, IsNextSlot}
@@ -129,7 +128,7 @@ with_event_sound s at what sound next known none = record {
     t : Scenario
     t = with_event s at what
 
-pub with_sets_sound : (s : Scenario) (sets : List (List ℕ)) → IsSound s → AreSets sets → length sets ≤ 4096 → AreWithin (length s.nodes) sets → length s.sets ≤ length sets → IsSound (with_sets s sets)
+pub with_sets_sound : (s : Scenario) (sets : List (List ℕ)) → IsSound s → AreSets sets → length sets ≤ 4096 → HaveNodesBelow (length s.nodes) sets → length s.sets ≤ length sets → IsSound (with_sets s sets)
 with_sets_sound s sets sound are few within more = record {
   header = sound.header;
   some_nodes = sound.some_nodes;

@@ -1,10 +1,10 @@
 -- Laws of partitions and closed nodes: a partition is closed as each of its nodes is.
-use Rattle.std.proofs.Common.{◌≡◌, ◌⊎◌, ℕ, ◌+◌, ◌<◌, ◌≤◌, ◌&&◌, not, Bool, true, false, cond, List, [], ◌∷◌, ◌++◌, length, get_or, Contains, refl, sym, ap, ◌∙◌, arith, true≢false, inl, inr}
-use Rattle.std.specs.List.{list_any, list_all, filter, range_with_len}
+use Rattle.std.proofs.Common.{◌≡◌, ◌⊎◌, ℕ, ◌+◌, ◌<◌, ◌≤◌, ◌&&◌, not, Bool, true, false, cond, List, [], ◌++◌, length, get_or, Contains, refl, sym, ap, ◌∙◌, arith, true≢false, inl, inr}
+use Rattle.std.specs.List.{filter}
 use Rattle.std.proofs.lemmas.Bool.{cases_Bool, cases_lt, and_parts}
 use Rattle.std.proofs.lemmas.List.{length-map, get_or-map, get_or_default, get_or_past}
 use Rattle.std.proofs.lemmas.List.Folds.{list_all-append}
-use Rattle.tetri_base.specs.Lists.{has, same, bit, count, Each}
+use Rattle.tetri_base.specs.Lists.{has, same, bit, count}
 use Rattle.tetri_base.proofs.ListLaws.{Each-at, Each-filter, Each-from, any_from, none_from, has-filter, has-range, range_from, sum_of-eq, sum_of-zero}
 use Rattle.tetri_space.specs.Free.{is_closed, is_free, is_idle}
 use Rattle.tetri_space.specs.Partitions.{alike, asked, available, closed_sets, is_closed_part, leads, live_bids, nodes_of, part_at, partitions}

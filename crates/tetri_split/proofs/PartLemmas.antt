@@ -18,12 +18,11 @@ use Rattle.tetri_space.specs.Sound.{IsSound}
 use Rattle.tetri_space.specs.Space.{Bid, Space, leaf_in, set_of}
 use Rattle.tetri_space.specs.Total.{bid_worth, total_in}
 use Rattle.tetri_space.specs.Trimmed.{IsThriftyForAll}
-use Rattle.tetri_space.proofs.AllotmentLaws.{lawful_in_order, ordered_in_order, thrifty_in_order, total_in_order}
-use Rattle.tetri_space.proofs.InstanceLaws.{IsLawful-append}
+use Rattle.tetri_space.proofs.InstanceLaws.{IsLawful-append, lawful_in_order, ordered_in_order, thrifty_in_order, total_in_order}
 use Rattle.tetri_split.specs.Parts.{AreIndependent, ArePartsOf, BoundsPart, IsLawfulForPart, IsThriftyForPart, MayUse, by_parts, in_a_row, total_by_parts}
 use Rattle.tetri_split.specs.Restricted.{grants_to, restricted}
 use Rattle.tetri_split.proofs.Members.{all_pass, contains_filter, contains_from, has_from, none_passes}
-use Rattle.tetri_split.proofs.RestrictedLaws.{grants_name_kept, lawful-kept, lawful-whole, thrifty-whole, total-kept}
+use Rattle.tetri_split.proofs.RestrictedLemmas.{grants_name_kept, lawful-kept, lawful-whole, thrifty-whole, total-kept}
 
 -- ---- each job is in one part
 none_zero : (x j : ℕ) (ps : List (List ℕ)) → Each (λ q. has q j ≡ false) ps → sum_of (λ p. cond (has p j) x 0) ps ≡ 0

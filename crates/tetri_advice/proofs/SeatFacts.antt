@@ -9,7 +9,8 @@ use Rattle.tetri_strl.specs.declared.grants.Grant.{Grant}
 use Rattle.tetri_advice.specs.Asked.{Asked, nobody, gave, struck, left, missed, Taught}
 use Rattle.tetri_algebra.specs.Counts.{Rose}
 use Rattle.tetri_advice.specs.Creeds.{IsListed, greedy_list}
-use Rattle.tetri_advice.specs.Seat.{Seat, AllTell, Tells, creeds_of, with_creed}
+use Rattle.tetri_advice.specs.Seat.{Seat, AllTell, Tells, creeds_of}
+use Rattle.tetri_base.specs.Lists.{with_first}
 use Rattle.tetri_space.specs.Lawful.{IsLawful}
 use Rattle.tetri_space.specs.Space.{Space}
 use Rattle.tetri_advice.specs.declared.creed.Creed.{Creed}
@@ -17,7 +18,7 @@ use Rattle.tetri_advice.specs.Consulted.{Consulted}
 use Rattle.tetri_advice.specs.Heard.{EachHeard, Heard, IsGiven, StillSit}
 
 -- ---- creeds
-few_told : (o : Option Creed) (cs : List Creed) → length (with_creed o cs) ≤ length cs + 1
+few_told : (o : Option Creed) (cs : List Creed) → length (with_first o cs) ≤ length cs + 1
 few_told None cs = omega arith
 few_told (Some c) cs = omega arith
 
@@ -25,11 +26,11 @@ few_creeds : (ss : List Seat) → length (creeds_of ss) ≤ length ss
 few_creeds [] = omega arith
 few_creeds (s ∷ ss) = omega (arith, few_told s.creed (creeds_of ss), few_creeds ss)
 
-creeds_of-push : (ss : List Seat) (s : Seat) → creeds_of (ss ++ s ∷ []) ≡ creeds_of ss ++ with_creed s.creed []
+creeds_of-push : (ss : List Seat) (s : Seat) → creeds_of (ss ++ s ∷ []) ≡ creeds_of ss ++ with_first s.creed []
 creeds_of-push [] s = refl
 creeds_of-push (r ∷ ss) s = by_creed r.creed (creeds_of-push ss s)
   where
-    by_creed : (o : Option Creed) → creeds_of (ss ++ s ∷ []) ≡ creeds_of ss ++ with_creed s.creed [] → with_creed o (creeds_of (ss ++ s ∷ [])) ≡ with_creed o (creeds_of ss) ++ with_creed s.creed []
+    by_creed : (o : Option Creed) → creeds_of (ss ++ s ∷ []) ≡ creeds_of ss ++ with_first s.creed [] → with_first o (creeds_of (ss ++ s ∷ [])) ≡ with_first o (creeds_of ss) ++ with_first s.creed []
     by_creed None e = e
     by_creed (Some c) e = ap (λ z. c ∷ z) e
 
@@ -42,7 +43,7 @@ dropped_tells_none i s unlawful t = by_creed s.creed t
     by_creed (Some c) u = absurd (unlawful (subst (λ (x : List Grant). IsLawful i x) (sym u.list) u.is_lawful))
 
 creeds_stay : (ss ts : List Seat) (s t : Seat) → creeds_of ts ≡ creeds_of ss → t.creed ≡ s.creed → creeds_of (ts ++ t ∷ []) ≡ creeds_of (ss ++ s ∷ [])
-creeds_stay ss ts s t e f = creeds_of-push ts t ∙ ap (λ z. creeds_of ts ++ with_creed z []) f ∙ ap (λ z. z ++ with_creed s.creed []) e ∙ sym (creeds_of-push ss s)
+creeds_stay ss ts s t e f = creeds_of-push ts t ∙ ap (λ z. creeds_of ts ++ with_first z []) f ∙ ap (λ z. z ++ with_first s.creed []) e ∙ sym (creeds_of-push ss s)
 
 pub creeds_asked : (i : Space) (ss : List Seat) (hs : List Bool) (gs : List (List Grant)) (ts : List Seat) → Asked i ss hs gs ts → creeds_of ts ≡ creeds_of ss
 creeds_asked i _ _ _ _ nobody = refl
@@ -50,13 +51,13 @@ creeds_asked i _ _ _ _ (gave ss hs gs ts s t a w l n) = creeds_stay ss ts s t (c
 creeds_asked i _ _ _ _ (struck ss hs gs ts s t a w l n m) = creeds_stay ss ts s t (creeds_asked i ss hs gs ts a) w.creed
 creeds_asked i _ _ _ _ (missed ss hs gs ts s t a w l n) = creeds_stay ss ts s t (creeds_asked i ss hs gs ts a) w.creed
 creeds_asked i _ _ _ _ (left ss hs gs ts s a w l n) =
-    creeds_asked i ss hs gs ts a ∙ sym (append-nil (creeds_of ss)) ∙ ap (λ z. creeds_of ss ++ with_creed z []) (sym (dropped_tells_none i s l w)) ∙ sym (creeds_of-push ss s)
+    creeds_asked i ss hs gs ts a ∙ sym (append-nil (creeds_of ss)) ∙ ap (λ z. creeds_of ss ++ with_first z []) (sym (dropped_tells_none i s l w)) ∙ sym (creeds_of-push ss s)
 
 pub creeds_taught : (ss ts : List Seat) → Taught ss ts → creeds_of ts ≡ creeds_of ss
 creeds_taught [] [] w = refl
 creeds_taught [] (t ∷ ts) w = absurd w
 creeds_taught (s ∷ ss) [] w = absurd w
-creeds_taught (s ∷ ss) (t ∷ ts) w = ap (λ o. with_creed o (creeds_of ts)) w.0.creed ∙ ap (with_creed s.creed) (creeds_taught ss ts w.1)
+creeds_taught (s ∷ ss) (t ∷ ts) w = ap (λ o. with_first o (creeds_of ts)) w.0.creed ∙ ap (with_first s.creed) (creeds_taught ss ts w.1)
 
 -- ---- how many sit
 record Counts (ss : List Seat) (hs : List Bool) (gs : List (List Grant)) (ts : List Seat) : Type 0 where
@@ -115,26 +116,26 @@ creeds_said i gs [] a f = All-nil _
 creeds_said i gs (s ∷ ss) a f =
     by_creed s.creed (All-head (Tells i) s ss a) (All-head (IsGiven i gs) s ss f) (creeds_said i gs ss (All-tail (Tells i) s ss a) (All-tail (IsGiven i gs) s ss f))
   where
-    by_creed : (o : Option Creed) → IfSome o (IsListed i (s.says i)) → IsGiven i gs s → All (λ c. Contains gs (greedy_list c i)) (creeds_of ss) → All (λ c. Contains gs (greedy_list c i)) (with_creed o (creeds_of ss))
+    by_creed : (o : Option Creed) → IfSome o (IsListed i (s.says i)) → IsGiven i gs s → All (λ c. Contains gs (greedy_list c i)) (creeds_of ss) → All (λ c. Contains gs (greedy_list c i)) (with_first o (creeds_of ss))
     by_creed None t k h = h
     by_creed (Some c) t k h =
         All-cons (λ d. Contains gs (greedy_list d i)) c (creeds_of ss)
         (subst (λ (x : List Grant). Contains gs x) t.list (k (subst (λ (x : List Grant). IsLawful i x) (sym t.list) t.is_lawful))) h
 
 -- where all tell a creed, so do those before the last, and the last
-tell_before : (ss : List Seat) (s : Seat) → AllTell (ss ++ s ∷ []) → AllTell ss × (length (with_creed s.creed []) ≡ 1)
+tell_before : (ss : List Seat) (s : Seat) → AllTell (ss ++ s ∷ []) → AllTell ss × (length (with_first s.creed []) ≡ 1)
 tell_before ss s e =
-    let l : length (creeds_of ss) + length (with_creed s.creed []) ≡ length ss + 1 = sym (length-append (creeds_of ss) (with_creed s.creed [])) ∙ ap length (sym (creeds_of-push ss s)) ∙ e ∙ length-append ss (s ∷ []) in
+    let l : length (creeds_of ss) + length (with_first s.creed []) ≡ length ss + 1 = sym (length-append (creeds_of ss) (with_first s.creed [])) ∙ ap length (sym (creeds_of-push ss s)) ∙ e ∙ length-append ss (s ∷ []) in
     (omega (arith, l, few_creeds ss, few_told s.creed []), omega (arith, l, few_creeds ss, few_told s.creed []))
 
 abbrev lists : Space → List Creed → List (List Grant)
 lists i cs = map (λ c. greedy_list c i) cs
 
 -- an advisor that tells a creed says its list, which is lawful
-one_said : (i : Space) (s : Seat) → length (with_creed s.creed []) ≡ 1 → Tells i s → (s.says i ∷ [] ≡ lists i (with_creed s.creed [])) × IsLawful i (s.says i)
+one_said : (i : Space) (s : Seat) → length (with_first s.creed []) ≡ 1 → Tells i s → (s.says i ∷ [] ≡ lists i (with_first s.creed [])) × IsLawful i (s.says i)
 one_said i s l t = by_creed s.creed l t
   where
-    by_creed : (o : Option Creed) → length (with_creed o []) ≡ 1 → IfSome o (IsListed i (s.says i)) → (s.says i ∷ [] ≡ lists i (with_creed o [])) × IsLawful i (s.says i)
+    by_creed : (o : Option Creed) → length (with_first o []) ≡ 1 → IfSome o (IsListed i (s.says i)) → (s.says i ∷ [] ≡ lists i (with_first o [])) × IsLawful i (s.says i)
     by_creed None l u = absurd (omega (arith, l))
     by_creed (Some c) l u = (ap (λ x. x ∷ []) u.list, subst (λ (x : List Grant). IsLawful i x) (sym u.list) u.is_lawful)
 
@@ -143,7 +144,7 @@ exactly_said i _ _ _ _ nobody e all = refl
 exactly_said i _ _ _ _ (gave ss hs gs ts s t a w l n) e all =
     let b = tell_before ss s all in
     ap (λ z. z ++ s.says i ∷ []) (exactly_said i ss hs gs ts a (heard_before hs e) b.0) ∙ ap (λ z. lists i (creeds_of ss) ++ z) (one_said i s b.1 w.told).0
-    ∙ sym (map-append (λ c. greedy_list c i) (creeds_of ss) (with_creed s.creed [])) ∙ ap (lists i) (sym (creeds_of-push ss s))
+    ∙ sym (map-append (λ c. greedy_list c i) (creeds_of ss) (with_first s.creed [])) ∙ ap (lists i) (sym (creeds_of-push ss s))
 exactly_said i _ _ _ _ (struck ss hs gs ts s t a w l n m) e all = absurd (l (one_said i s (tell_before ss s all).1 w.told).1)
 exactly_said i _ _ _ _ (missed ss hs gs ts s t a w l n) e all = absurd (not_heard hs e)
 exactly_said i _ _ _ _ (left ss hs gs ts s a w l n) e all = absurd (l (one_said i s (tell_before ss s all).1 w).1)
