@@ -1,7 +1,7 @@
 -- Cuts that follow one another, and what a taken cut says.
-use Rattle.std.proofs.Common.{◌≡◌, ℕ, ◌+◌, ◌^◌, ◌<◌, ◌≤◌, refl, sym, ap, ◌∙◌, subst, arith, All, inl, inr, List, [], ◌∷◌, ◌++◌, length, Option, Some, None, option_map}
-use Prim.Native.Nat.{zero, suc}
-use Rattle.std.specs.Prelude.{◌-◌, ◌≤ℤ◌, ◌<ℤ◌, ◌⊎◌, ◌*ℤ◌}
+use Rattle.std.proofs.Common.{◌≡◌, ℕ, ◌+◌, ◌^◌, ◌<◌, ◌≤◌, refl, sym, ap, ◌∙◌, subst, arith, inl, inr, List, [], ◌∷◌, ◌++◌, length, Option, Some, None}
+use Prim.Native.Nat.{suc}
+use Rattle.std.specs.Prelude.{◌-◌, ◌≤ℤ◌, ◌<ℤ◌, ◌*ℤ◌}
 use Rattle.std.specs.Int.{int_div_euclid, saturate_unsigned, w64}
 use Rattle.std.proofs.lemmas.Bool.{cases_lt}
 use Rattle.std.proofs.lemmas.Int.{ints}
@@ -9,22 +9,20 @@ use lib.IntN.{ℤ, pos, ◌+ℤ◌}
 use Rattle.tetri_algebra.specs.Integers.{mul_lt_cancel, mul_positive}
 use Rattle.tetri_algebra.specs.Quotients.{div_above}
 use Rattle.tetri_algebra.specs.IntegerRing.{ℤ_ring}
-use Rattle.tetri_algebra.specs.Rational.{ℚ}
 use Rattle.tetri_algebra.specs.Sums.{dot}
 use Rattle.tetri_ip.specs.declared.programs.Program.{Program}
-use Rattle.tetri_ip.specs.declared.programs.Row.{Row}
 use Rattle.tetri_ip.specs.declared.programs.Term.{Term}
 use Rattle.tetri_ip.specs.declared.programs.Weight.{Weight}
 use Rattle.tetri_ip.specs.Points.{IsFit, IsFitRow, IsPoint, box_of, left_side, objective}
 use Rattle.tetri_ip.specs.SamePrograms.{SaysSame}
 use Rattle.tetri_ip.specs.Weighed.{AreNotNegative, weighed}
-use Rattle.tetri_ip.proofs.Duality.{weak_duality}
-use Rattle.tetri_simplex.specs.Certificates.{Certifies, CertifiesBest, CertifiesCut}
+use Rattle.tetri_ip.proofs.IntegerProgramLaws.{weak_duality}
+use Rattle.tetri_simplex.specs.Certificates.{Certifies, CertifiesBest}
 use Rattle.tetri_simplex.specs.Ends.{End, best, cut, empty, past, long}
-use Rattle.tetri_simplex.proofs.EndFacts.{machine_certified}
+use Rattle.tetri_simplex.proofs.DualRunLaws.{machine_certified}
 use Rattle.tetri_cuts.specs.declared.tightening.Added.{Added}
 use Rattle.tetri_cuts.specs.Cuts.{HasNoNegativeBound, IsMetByPoints, cut_right, cut_terms}
-use Rattle.tetri_cuts.specs.Tightening.{Bounds, HasRowLast, IsTaken, IsUpperBound, PlainRoot, Stops, Takes, Tightens, bound_by, own_root, root_behind, root_run}
+use Rattle.tetri_cuts.specs.Tightening.{Bounds, HasRowLast, PlainRoot, Stops, Takes, Tightens, bound_by, own_root, root_behind, root_run}
 use Rattle.tetri_cuts.proofs.ColumnLemmas.{whole_box}
 use Rattle.tetri_cuts.proofs.CutLaw.{cut_met}
 

@@ -9,7 +9,8 @@ use lib.IntN.{ℤ, pos}
 use Rattle.tetri_ip.specs.declared.programs.Program.{Program}
 use Rattle.tetri_ip.specs.declared.programs.Row.{Row}
 use Rattle.tetri_ip.specs.declared.programs.Term.{Term}
-use Rattle.tetri_ip.specs.Points.{AreWithin, IsBelow, IsBetween, IsFit, IsFitRow, IsInBox, IsPoint, IsWithin, MeetsRows, box_of, cost_reach, left_side, number_at, reach, right_of, size_at, terms_of}
+use Rattle.tetri_ip.specs.Points.{NumbersWithin, IsBelow, IsFit, IsFitRow, IsInBox, IsPoint, MeetsRows, box_of, cost_reach, left_side, number_at, reach, right_of, size_at, terms_of}
+use Rattle.tetri_algebra.specs.Range.{IsWithin}
 use Rattle.tetri_ip.specs.SamePrograms.{SaysSame}
 use Rattle.tetri_cuts.specs.Cuts.{HasNoNegativeBound, IsMetByPoints}
 use Rattle.tetri_cuts.specs.Tightening.{HasRowLast}
@@ -76,9 +77,9 @@ module _ (p q : Program) (same : SameColumns p q) where
     lower_count = ap (λ (xs : List ℤ). length xs) same.lower ∙ fit.lower_count ∙ sym count;
     upper_count = ap (λ (xs : List ℤ). length xs) same.upper ∙ fit.upper_count ∙ sym count;
     ordered = below_same p.costs.items p.lower.items p.upper.items q.costs.items q.lower.items q.upper.items same.costs same.lower same.upper fit.ordered;
-    costs_within = subst AreWithin (sym same.costs) fit.costs_within;
-    lower_within = subst AreWithin (sym same.lower) fit.lower_within;
-    upper_within = subst AreWithin (sym same.upper) fit.upper_within;
+    costs_within = subst NumbersWithin (sym same.costs) fit.costs_within;
+    lower_within = subst NumbersWithin (sym same.lower) fit.lower_within;
+    upper_within = subst NumbersWithin (sym same.upper) fit.upper_within;
     widths = λ k l. subst (λ (xs : List ℤ). IsWithin (number_at xs k -ℤ number_at q.lower.items k)) (sym same.upper) (subst (λ (xs : List ℤ). IsWithin (number_at p.upper.items k -ℤ number_at xs k)) (sym same.lower) (fit.widths k (omega (arith, l, count))));
     rows = rows;
     costs = omega (arith, ap (λ (xs : List ℤ). cost_reach q 0 xs) same.costs, cost_same 0 p.costs.items, fit.costs);

@@ -1,17 +1,10 @@
 -- Programs that say the same, and a row that is added last.
-use Rattle.std.proofs.Common.{◌≡◌, ℕ, ◌+◌, ◌*◌, ◌^◌, ◌<◌, ◌≤◌, refl, sym, ap, ◌∙◌, subst, arith, inl, inr, List, [], ◌∷◌, ◌++◌, length, get_or, take, max}
+use Rattle.std.proofs.Common.{◌≡◌, ℕ, ◌+◌, ◌<◌, refl, sym, ap, ◌∙◌, subst, arith, List, [], ◌∷◌, ◌++◌, length, get_or, take}
 use Prim.Native.Nat.{zero, suc}
-use Rattle.std.specs.Prelude.{◌≤ℤ◌, ◌-ℤ◌, unsigned_abs}
-use Rattle.std.proofs.lemmas.Bool.{cases_lt}
 use Rattle.std.proofs.lemmas.List.{length_push, take_more}
-use lib.IntN.{ℤ, pos}
-use Rattle.tetri_ip.specs.declared.programs.Program.{Program}
 use Rattle.tetri_ip.specs.declared.programs.Row.{Row}
-use Rattle.tetri_ip.specs.declared.programs.Term.{Term}
-use Rattle.tetri_ip.specs.Points.{IsBetween, IsFit, IsFitRow, IsPoint, IsWithin, MeetsRows, box_of, column_at, cost_reach, left_side, number_at, reach, right_of, size_at, term_at, terms_of}
-use Rattle.tetri_ip.specs.SamePrograms.{SameRows, SaysSame}
-use Rattle.tetri_cuts.specs.Cuts.{HasNoNegativeBound}
-use Rattle.tetri_cuts.specs.Tightening.{HasRowLast}
+use Rattle.tetri_ip.specs.Points.{right_of, terms_of}
+use Rattle.tetri_ip.specs.SamePrograms.{SameRows}
 
 -- ---- rows pushed one by one
 terms_push : (xs ys : List Row) (x y : Row) → length xs ≡ length ys → ((k : ℕ) → terms_of xs k ≡ terms_of ys k) → x.terms.items ≡ y.terms.items →

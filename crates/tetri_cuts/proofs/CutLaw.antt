@@ -1,9 +1,9 @@
 -- Each point of a program meets its cuts.
 use Rattle.std.proofs.Common.{◌≡◌, ℕ, ◌+◌, ◌<◌, refl, sym, ap, ◌∙◌, subst, arith, List, [], ◌∷◌, length, get_or, Bool, true, false, cond, ◌==◌}
-use Prim.Native.Nat.{zero, suc}
+use Prim.Native.Nat.{suc}
 use Rattle.std.specs.Prelude.{◌≤ℤ◌, ◌<ℤ◌, unsigned_abs}
 use Rattle.std.specs.Int.{int_div_euclid}
-use Rattle.std.proofs.lemmas.Bool.{cond_both, eqb-true}
+use Rattle.std.proofs.lemmas.Bool.{eqb-true}
 use Rattle.std.proofs.lemmas.Int.{ints}
 use lib.IntN.{ℤ, pos, ◌+ℤ◌, ◌*ℤ◌}
 use Rattle.tetri_algebra.specs.IntegerRing.{ℤ_ring}
@@ -18,7 +18,7 @@ use Rattle.tetri_ip.specs.declared.programs.Term.{Term}
 use Rattle.tetri_ip.specs.declared.programs.Weight.{Weight}
 use Rattle.tetri_ip.specs.Points.{IsPoint, box_of, left_side, number_at, right_of, terms_of}
 use Rattle.tetri_ip.specs.Weighed.{AreNotNegative, AreOfRows, column_sum, right_sum}
-use Rattle.tetri_ip.proofs.Duality.{dot_from-column_sum, left_sum}
+use Rattle.tetri_ip.proofs.IntegerProgramLaws.{dot_from-column_sum, left_sum}
 use Rattle.tetri_cuts.specs.Cuts.{HasNoNegativeBound, cut_right, cut_terms, quotients, sums_from, with_term}
 
 -- a term of 0 adds nothing

@@ -1,5 +1,5 @@
 -- The terms of a cut: ascending by column, in the program, and in range.
-use Rattle.std.proofs.Common.{◌≡◌, ℕ, ◌+◌, ◌*◌, ◌/◌, ◌^◌, ◌<◌, ◌≤◌, ◌==◌, refl, sym, ap, subst, arith, All, List, [], ◌∷◌, length, get_or, Bool, true, false, cond}
+use Rattle.std.proofs.Common.{◌≡◌, ℕ, ◌+◌, ◌/◌, ◌<◌, ◌≤◌, ◌==◌, arith, All, List, [], ◌∷◌, length, Bool, true, false, cond}
 use Prim.Native.Nat.{zero, suc}
 use Rattle.std.specs.Prelude.{◌≤ℤ◌, unsigned_abs}
 use Rattle.std.specs.Int.{int_div_euclid}
@@ -7,8 +7,9 @@ use Rattle.std.proofs.lemmas.Int.{ints}
 use Rattle.std.proofs.lemmas.List.Elements.{All-head, All-tail}
 use lib.IntN.{ℤ, pos, negsuc}
 use Rattle.tetri_ip.specs.declared.programs.Term.{Term}
-use Rattle.tetri_ip.specs.Points.{IsWithin, column_at, term_at}
-use Rattle.tetri_cuts.specs.Cuts.{quotients, with_term}
+use Rattle.tetri_ip.specs.Points.{column_at, term_at}
+use Rattle.tetri_algebra.specs.Range.{IsWithin}
+use Rattle.tetri_cuts.specs.Cuts.{quotients}
 
 -- a quotient by a natural number above 0 is no more than what is divided
 quotient_le : (a b : ℕ) → 1 ≤ b → a / b ≤ a

@@ -1,6 +1,6 @@
 -- The steps of the loops that form a cut.
-use Rattle.std.proofs.Common.{◌≡◌, ℕ, ◌+◌, ◌^◌, ◌<◌, ◌≤◌, refl, sym, ap, ◌∙◌, subst, arith, List, [], ◌∷◌, ◌++◌, length, get_or, drop, Option, Some, None, Bool, true, false, cond, ◌==◌}
-use Prim.Native.Nat.{zero, suc}
+use Rattle.std.proofs.Common.{◌≡◌, ℕ, ◌+◌, ◌<◌, ◌≤◌, refl, sym, ap, ◌∙◌, subst, arith, List, [], ◌∷◌, ◌++◌, length, get_or, drop, Option, Some, None, Bool, true, false, cond, ◌==◌}
+use Prim.Native.Nat.{suc}
 use Rattle.std.specs.Prelude.{unsigned_abs, is_none}
 use Rattle.std.specs.Int.{int_div_euclid}
 use Rattle.std.proofs.lemmas.Bool.{eqb-true}
@@ -13,7 +13,8 @@ use mir.Syntax.{w128}
 use Rattle.tetri_ip.specs.declared.programs.Row.{Row}
 use Rattle.tetri_ip.specs.declared.programs.Term.{Term}
 use Rattle.tetri_ip.specs.declared.programs.Weight.{Weight}
-use Rattle.tetri_ip.specs.Points.{IsWithin, right_of}
+use Rattle.tetri_ip.specs.Points.{right_of}
+use Rattle.tetri_algebra.specs.Range.{IsWithin}
 use Rattle.tetri_ip.specs.Weighed.{column_sum, right_sum}
 use Rattle.tetri_cuts.specs.Cuts.{coefficients, form_sum, past_from, quotients, sums_from, with_term}
 use Rattle.tetri_cuts.proofs.SumLemmas.{form_sum_is}

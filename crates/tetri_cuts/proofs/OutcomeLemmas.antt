@@ -1,21 +1,20 @@
 -- What the outcome of a run over the whole box says.
-use Rattle.std.proofs.Common.{◌≡◌, ℕ, refl, sym, ap, ◌∙◌, subst, List, length, Option, Some, None}
-use Rattle.std.specs.Prelude.{◌≤◌, Vec}
+use Rattle.std.proofs.Common.{◌≡◌, ℕ, sym, ap, ◌∙◌, subst, List, Some, None}
+use Rattle.std.specs.Prelude.{Vec}
 use Rattle.std.specs.Global.{Global}
 use lib.IntN.{ℤ}
 use Rattle.tetri_algebra.specs.Rational.{ℚ}
 use Rattle.tetri_num.specs.declared.fractions.Frac.{Frac}
-use Rattle.tetri_num.specs.declared.places.Place.{Place}
 use Rattle.tetri_ip.specs.declared.programs.Program.{Program}
 use Rattle.tetri_ip.specs.declared.programs.Weight.{Weight}
 use Rattle.tetri_ip.specs.Points.{Bounds, box_of}
 use Rattle.tetri_simplex.specs.declared.outcome.Outcome.{Outcome}
 use Rattle.tetri_simplex.specs.Certificates.{Certifies, CertifiesBest, CertifiesCut}
-use Rattle.tetri_simplex.specs.Ends.{End, best, cut, empty, past, long}
+use Rattle.tetri_simplex.specs.Ends.{End, best, cut}
 use Rattle.tetri_simplex.specs.Fractions.{values}
 use Rattle.tetri_simplex.specs.Machine.{machine}
 use Rattle.tetri_simplex.specs.Outcomes.{end_of}
-use Rattle.tetri_cuts.specs.Tightening.{GoesOn, PlainRoot, Stops, own_root, root_by, root_run}
+use Rattle.tetri_cuts.specs.Tightening.{PlainRoot, Stops, own_root, root_by, root_run}
 
 -- the best point and its weights, as the code reads them
 pub record BestSays (p : Program) (point : List ℚ) (q : ℤ) (ws : List Weight) : Type 0 where

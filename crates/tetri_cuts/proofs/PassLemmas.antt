@@ -1,5 +1,5 @@
 -- The cut of a divisor, and whether it passes.
-use Rattle.std.proofs.Common.{◌≡◌, ℕ, ◌+◌, ◌^◌, ◌<◌, ◌≤◌, refl, sym, ap, ◌∙◌, subst, arith, All, inl, inr, List, [], ◌∷◌, length, Option, Some, None, Result, Ok, Err, Bool, true, false, cond}
+use Rattle.std.proofs.Common.{◌≡◌, ℕ, ◌+◌, ◌^◌, ◌<◌, ◌≤◌, refl, sym, ap, ◌∙◌, subst, arith, All, inl, inr, List, length, Option, Some, None, Result, Ok, Err, Bool, true, false, cond}
 use Rattle.std.specs.Prelude.{◌≤ℤ◌, ◌<ℤ◌, ◌*ℤ◌, unsigned_abs, nat_lt, IfOk, MatchOption}
 use Rattle.std.specs.Int.{int_div_euclid}
 use Rattle.std.proofs.lemmas.Bool.{cases_lt}
@@ -15,7 +15,8 @@ use Rattle.tetri_ip.specs.declared.programs.Row.{Row}
 use Rattle.tetri_ip.specs.declared.programs.Term.{Term}
 use Rattle.tetri_ip.specs.declared.programs.Weight.{Weight}
 use Rattle.tetri_ip.specs.Forming.{within}
-use Rattle.tetri_ip.specs.Points.{IsFitRow, IsWithin}
+use Rattle.tetri_ip.specs.Points.{IsFitRow}
+use Rattle.tetri_algebra.specs.Range.{IsWithin}
 use Rattle.tetri_simplex.specs.Ends.{best}
 use Rattle.tetri_simplex.specs.Relaxation.{IsWhole}
 use Rattle.tetri_cuts.specs.declared.sums.Sums.{Sums}

@@ -11,8 +11,8 @@ use Rattle.tetri_algebra.specs.IntegerRing.{ℤ_ring}
 use Rattle.tetri_algebra.specs.Sums.{sum_over}
 use Rattle.tetri_ip.specs.declared.programs.Weight.{Weight}
 use Rattle.tetri_ip.specs.Forming.{add_product, then_form, within}
-use Rattle.tetri_ip.specs.Points.{IsWithin}
-use Rattle.tetri_ip.proofs.Steps.{add_fits}
+use Rattle.tetri_algebra.specs.Range.{IsWithin}
+use Rattle.tetri_ip.proofs.IntegerProgramLaws.{add_fits}
 use Rattle.tetri_cuts.specs.Cuts.{form_sum}
 
 -- ---- one step

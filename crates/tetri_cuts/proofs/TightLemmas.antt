@@ -1,14 +1,12 @@
 -- The steps of tightening.
-use Rattle.std.proofs.Common.{◌≡◌, ℕ, ◌+◌, ◌<◌, ◌≤◌, refl, sym, ap, ◌∙◌, subst, arith, All, List, [], ◌∷◌, ◌++◌, length, get_or, map}
-use Prim.Native.Nat.{zero, suc}
+use Rattle.std.proofs.Common.{◌≡◌, ℕ, ◌+◌, ◌<◌, ◌≤◌, refl, sym, ap, ◌∙◌, subst, arith, All, List, length, get_or}
 use Rattle.std.specs.Prelude.{unsigned_abs, Bool, IsTrue, ◌↔◌, true, false}
 use Rattle.std.proofs.lemmas.Int.{ints, to_z-of_z, to_z_pos}
 use Rattle.std.proofs.lemmas.List.{get_or_default, length-map}
 use borrow.Author.Count.{below_more}
-use lib.IntN.{ℤ, pos}
+use lib.IntN.{pos}
 use mir.Val.{of_z, to_z}
 use mir.Syntax.{w128}
-use Rattle.tetri_algebra.specs.Rational.{ℚ}
 use Rattle.tetri_algebra.specs.RationalRing.{zero_ℚ}
 use Rattle.tetri_num.specs.declared.fractions.Frac.{Frac}
 use Rattle.tetri_num.specs.Frac.{value}

@@ -4,6 +4,7 @@ use lib.IntN.{ℤ}
 use Rattle.tetri_algebra.specs.Rational.{ℚ, whole_ℚ}
 use Rattle.tetri_algebra.specs.RationalRing.{zero_ℚ}
 use Rattle.tetri_algebra.specs.RationalOrder.{◌<ℚ◌}
+use Rattle.tetri_base.specs.ResultSteps.{then_ok}
 use Rattle.tetri_num.specs.declared.fractions.Op.{Op}
 use Rattle.tetri_num.specs.declared.fractions.Op.TheVariants.{Add, Mul}
 use Rattle.tetri_num.specs.declared.fractions.Past.{Past}
@@ -26,19 +27,15 @@ abbrev pub or_refused : Option ℚ → Op → ℚ → ℚ → Result ℚ Refusal
 or_refused None op left right = Err (record { op = op; left = left; right = right })
 or_refused (Some x) op left right = Ok x
 
-abbrev pub then_formed : Result ℚ Refusal → (ℚ → Result ℚ Refusal) → Result ℚ Refusal
-then_formed (Err e) f = Err e
-then_formed (Ok x) f = f x
-
 -- the product of a coefficient and a number, and then the sum with it
 abbrev pub add_term : ℚ → ℚ → ℚ → Result ℚ Refusal
-add_term sum by x = then_formed (or_refused (checked_product by x) Mul by x) (λ part. or_refused (checked_sum sum part) Add sum part)
+add_term sum by x = then_ok (or_refused (checked_product by x) Mul by x) (λ part. or_refused (checked_sum sum part) Add sum part)
 
 -- each coefficient times its column's number, added to a sum one by one
 abbrev pub form_left : List Term → List ℚ → ℚ → Result ℚ Refusal
 form_left [] point sum = Ok sum
 form_left (t ∷ ts) point sum =
-    then_formed (add_term sum (whole_ℚ t.by) (coordinate point t.column)) (λ next. form_left ts point next)
+    then_ok (add_term sum (whole_ℚ t.by) (coordinate point t.column)) (λ next. form_left ts point next)
 
 -- the left side is formed, and is above the right side
 pub record IsBroken (ts : List Term) (right : ℤ) (point : List ℚ) : Type 0 where

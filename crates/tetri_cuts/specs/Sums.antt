@@ -2,7 +2,7 @@
 use Rattle.std.specs.Prelude.{◌≡◌, List, All, None}
 use Rattle.tetri_ip.specs.declared.programs.Program.{Program}
 use Rattle.tetri_ip.specs.declared.programs.Weight.{Weight}
-use Rattle.tetri_ip.specs.Points.{IsWithin}
+use Rattle.tetri_algebra.specs.Range.{IsWithin}
 use Rattle.tetri_ip.specs.Weighed.{right_sum}
 use Rattle.tetri_cuts.specs.declared.sums.Sums.{Sums}
 use Rattle.tetri_cuts.specs.Cuts.{past_column, sums_from}

@@ -7,7 +7,8 @@ use Rattle.tetri_algebra.specs.Rational.{ℚ}
 use Rattle.tetri_ip.specs.declared.programs.Program.{Program}
 use Rattle.tetri_ip.specs.declared.programs.Row.{Row}
 use Rattle.tetri_ip.specs.declared.programs.Weight.{Weight}
-use Rattle.tetri_ip.specs.Points.{IsFitRow, IsPoint, IsWithin, box_of, objective}
+use Rattle.tetri_ip.specs.Points.{IsFitRow, IsPoint, box_of, objective}
+use Rattle.tetri_algebra.specs.Range.{IsWithin}
 use Rattle.tetri_ip.specs.SamePrograms.{SaysSame}
 use Rattle.tetri_ip.specs.Weighed.{weighed}
 use Rattle.tetri_simplex.specs.Ends.{End, best, cut, empty, past, long}

@@ -2,9 +2,8 @@
 
 ghost use Rattle.std.specs.Prelude.{◌≡◌, ◌<◌, ◌^◌, ◌≤ℤ◌, None, length, pos, IfOk, IfErr, OnOk};
 ghost use Rattle.std.specs.Int.{int_div_euclid};
-ghost use Rattle.tetri_ip.specs.ColumnIndex.{WeightsAscend};
 ghost use Rattle.tetri_ip.specs.Points.{IsFit};
-ghost use Rattle.tetri_ip.specs.Weighed.{AreNotNegative, AreOfRows};
+ghost use Rattle.tetri_ip.specs.Weighed.{AreNotNegative, AreOfRows, WeightsAscend};
 ghost use Rattle.tetri_cuts.specs.Cuts.{HasNoNegativeBound, IsCut, IsCutFault, IsMetByPoints, past_column, quotients};
 
 use crate::fault::CutFault;

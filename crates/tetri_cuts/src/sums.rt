@@ -1,7 +1,8 @@
 //! The weighted sums of a program's rows, which all divisors share.
 
 ghost use Rattle.std.specs.Prelude.{◌≡◌, ◌<◌, None, All, pos, IfOk, IfErr, OnOk};
-ghost use Rattle.tetri_ip.specs.Points.{IsFit, IsWithin, right_of};
+ghost use Rattle.tetri_ip.specs.Points.{IsFit, right_of};
+ghost use Rattle.tetri_algebra.specs.Range.{IsWithin};
 ghost use Rattle.tetri_ip.specs.Weighed.{AreOfRows};
 ghost use Rattle.tetri_cuts.specs.Cuts.{IsCutFault, coefficients, form_sum, past_column, past_from, sums_from};
 ghost use Rattle.tetri_cuts.specs.Sums.{AreSums};

@@ -2,8 +2,8 @@
 
 ghost use Rattle.std.specs.Prelude.{◌≡◌, ◌↔◌, ◌<◌, ◌≤◌, ◌<ℤ◌, ℕ, None, All, length, option_map, pos, IfOk, IfSome, IsTrue, MatchOption};
 ghost use Rattle.std.specs.Int.{saturate_unsigned, w64};
-ghost use Rattle.tetri_ip.specs.ColumnIndex.{IsIndexOf};
-ghost use Rattle.tetri_ip.specs.Points.{IsFit, IsFitRow, IsWithin, bounds_of, box_of, column_at, term_at};
+ghost use Rattle.tetri_ip.specs.Points.{IsFit, IsFitRow, bounds_of, box_of, column_at, term_at};
+ghost use Rattle.tetri_algebra.specs.Range.{IsWithin};
 ghost use Rattle.tetri_ip.specs.Weighed.{AreOfRows};
 ghost use Rattle.tetri_simplex.specs.Certificates.{AreWeights};
 ghost use Rattle.tetri_simplex.specs.Ends.{best};
@@ -22,9 +22,9 @@ use crate::fitting::is_in_range;
 use crate::range::product;
 use crate::sums::{Sums, weighted_sums};
 use std::alloc::{AllocError, Global};
-use tetri_ip::{ColumnIndex, Program, Region, Row, Weight, weigh_by};
+use tetri_ip::{Program, Region, Row, Weight, weigh_over};
 use tetri_num::Frac;
-use tetri_simplex::{Outcome, dual_run_by};
+use tetri_simplex::{Outcome, dual_run_over};
 
 // The most cuts that are added.
 const MOST_CUTS: usize = 16;
@@ -81,15 +81,15 @@ fn capped(number: i128) -> u64
 }
 
 // The root of a multiplier and weights of a run over the whole box of the program.
-fn root_by(index: &ColumnIndex, p: &Program, r: &Region, q: i128, weights: Vec<Weight>) -> Root
+fn root_by(p: &Program, r: &Region, factors: &mut [i128], q: i128, weights: Vec<Weight>) -> Root
     requires fit { IsFit p.now }
     requires whole { bounds_of r.now ≡ box_of p.now }
-    requires index { IsIndexOf p.now index.now }
+    requires length { length factors.old ≡ length p.now.costs.items }
     requires multiplier { pos 0 <ℤ q }
     requires weights { AreWeights p.now (box_of p.now) q weights.items }
     ensures { plain_root result ≡ root_by p.now q weights.items }
 {
-    let bound = match weigh_by(index, p, r, q, &weights) {
+    let bound = match weigh_over(p, r, q, &weights, factors) {
         Ok(total) => capped(total.div_euclid(q)),
         Err(_) => 0,
     };
@@ -219,18 +219,19 @@ fn run_over(alloc: Global, p: &Program, made: usize) -> Result<Round, AllocError
     ensures cut { IfOk result (λ s. MatchOption s.cut (Stops p.now made) (Takes p.now made)) }
 {
     let region = Region::whole(alloc, p)?;
-    let index = ColumnIndex::new(alloc, p)?;
-    match dual_run_by(alloc, &index, p, &region, 0)? {
+    let mut list = vec![in alloc; 0i128; p.costs.len()]?;
+    let factors = list.as_mut_slice();
+    match dual_run_over(alloc, p, &region, factors, 0)? {
         Outcome::Best { point, q, weights } => {
             let cut = next_cut(alloc, p, made, &point, q, &weights)?;
-            let root = root_by(&index, p, &region, q, weights);
+            let root = root_by(p, &region, factors, q, weights);
             Ok(Round {
                 root: Some(root),
                 cut,
             })
         }
         Outcome::Cut { q, weights } => {
-            let root = root_by(&index, p, &region, q, weights);
+            let root = root_by(p, &region, factors, q, weights);
             Ok(Round {
                 root: Some(root),
                 cut: None,

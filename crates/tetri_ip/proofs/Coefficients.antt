@@ -19,6 +19,10 @@ unit_other c b j n = by_test (eqb c j) refl
 pub unit_same : (c : ℕ) (b : ℤ) (j : ℕ) → c ≡ j → unit_at ℤ_ring c b j ≡ b
 unit_same c b j e = ap (λ t. cond t b (pos 0)) (eq-eqb c j e)
 
+-- terms that ascend by column
+abbrev pub TermsAscend : List Term → Type 0
+TermsAscend ts = (k m : ℕ) → k < m → m < length ts → column_at ts k < column_at ts m
+
 -- a column that no term names has the coefficient 0
 pub coefficient_absent : (ts : List Term) (j : ℕ) → ((k : ℕ) → k < length ts → column_at ts k ≡ j → ⊥) → coefficient ts j ≡ pos 0
 coefficient_absent [] j h = refl
@@ -27,7 +31,7 @@ coefficient_absent (t ∷ ts) j h =
     ∙ ap (λ z. pos 0 +ℤ z) (coefficient_absent ts j (λ k l. h (suc k) (omega arith)))
 
 -- a column that a term names has its coefficient
-pub coefficient_at : (ts : List Term) (j i : ℕ) → ((k m : ℕ) → k < m → m < length ts → column_at ts k < column_at ts m) → i < length ts → column_at ts i ≡ j → coefficient ts j ≡ (term_at ts i).by
+pub coefficient_at : (ts : List Term) (j i : ℕ) → TermsAscend ts → i < length ts → column_at ts i ≡ j → coefficient ts j ≡ (term_at ts i).by
 coefficient_at [] j i h l e = absurd (omega arith)
 coefficient_at (t ∷ ts) j zero h l e =
     ap (λ z. z +ℤ coefficient ts j) (unit_same t.column t.by j e)

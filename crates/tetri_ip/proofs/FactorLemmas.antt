@@ -12,14 +12,13 @@ use Rattle.tetri_ip.specs.declared.programs.Row.{Row}
 use Rattle.tetri_ip.specs.declared.programs.Term.{Term}
 use Rattle.tetri_ip.specs.declared.programs.Weight.{Weight}
 use Rattle.tetri_ip.specs.declared.programs.WeighFault.{WeighFault}
-use Rattle.tetri_ip.specs.Points.{AreWithin, Bounds, IsWithin, coefficient, column_at, number_at, term_at}
+use Rattle.tetri_ip.specs.Points.{NumbersWithin, Bounds, coefficient, column_at, number_at, term_at}
+use Rattle.tetri_algebra.specs.Range.{IsWithin}
 use Rattle.tetri_ip.specs.Weighed.{AreNotNegative, bound_taken, weighed}
 use Rattle.tetri_ip.specs.Forming.{AreFactors, add_product, column_factor, first_negative, form_bounds, form_column, form_columns, form_factor, form_right, or_past, subtract_product, then_form, unless_negative, weigh_answer, within}
-use Rattle.tetri_ip.proofs.Coefficients.{coefficient_absent, unit_other, unit_same}
+use Rattle.tetri_ip.proofs.Coefficients.{TermsAscend, coefficient_absent, unit_other, unit_same}
 use Rattle.tetri_ip.proofs.Formed.{not_negative, right_fits, weighed_where_formed}
-use Rattle.tetri_ip.proofs.IndexLemmas.{TermsAscend}
-use Rattle.tetri_ip.proofs.MergeLemmas.{subtract_nothing, subtract_within}
-use Rattle.tetri_ip.proofs.Steps.{within_fits}
+use Rattle.tetri_ip.proofs.Steps.{subtract_nothing, subtract_within, within_fits}
 
 -- ---- one term of a row
 module _ (ts : List Term) (i : ℕ) (rising : TermsAscend ts) (inside : i < length ts) where
@@ -76,7 +75,7 @@ row_step ts us i fs a rest by next x o same rising inside lt re be oe on xe j =
     (ap (λ z. subtract_product (number_at (set fs (term_at us i).column z) j) a (coefficient (drop (i + 1) us) j)) xe
     ∙ term_taken us i (subst TermsAscend (sym same) rising) inside fs a next lt told j)
 
-pub set_within : (fs : List ℤ) (c : ℕ) (next : ℤ) → IsWithin next → AreWithin fs → AreWithin (set fs c next)
+pub set_within : (fs : List ℤ) (c : ℕ) (next : ℤ) → IsWithin next → NumbersWithin fs → NumbersWithin (set fs c next)
 set_within fs c next fits all k lt = elim (cases_eq c k) [
   | inl same ↦
       let inside : c < length fs = omega (arith, lt, length-set fs c next, same) in

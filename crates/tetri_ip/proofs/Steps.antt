@@ -2,18 +2,24 @@
 use Rattle.std.proofs.Common.{◌≡◌, ℕ, ◌+◌, ◌^◌, ◌<◌, refl, sym, ap, ◌∙◌, subst, arith, List, [], ◌∷◌, length, get_or, drop, Option, Some, None, Bool, true, false, cond}
 use Prim.Native.Nat.{zero, suc}
 use Rattle.std.specs.Prelude.{unsigned_abs, nat_lt}
-use Rattle.std.proofs.lemmas.Int.{fits_signed_from_abs}
+use Rattle.std.proofs.lemmas.Bool.{lt-ltb}
+use Rattle.std.proofs.lemmas.Int.{fits_signed_from_abs, ints}
 use lib.Signed.{lt_z}
 use Rattle.std.proofs.Math.Seq.{drop-cons}
 use borrow.Author.Tests.{ltb-true}
 use lib.IntN.{ℤ, pos, ◌+ℤ◌, ◌-ℤ◌, ◌*ℤ◌}
 use mir.Val.{SFits}
 use mir.Syntax.{w128}
+use Rattle.tetri_algebra.specs.CommutativeRing.{mul_zero_right}
+use Rattle.tetri_algebra.specs.IntegerRing.{ℤ_ring}
+use Rattle.tetri_algebra.specs.Range.{IsWithin}
+use Rattle.tetri_ip.specs.declared.programs.Program.{Program}
 use Rattle.tetri_ip.specs.declared.programs.Row.{Row}
 use Rattle.tetri_ip.specs.declared.programs.Weight.{Weight}
-use Rattle.tetri_ip.specs.Points.{Bounds, coefficient, number_at, right_of, terms_of}
+use Rattle.tetri_ip.specs.Points.{Bounds, IsFit, coefficient, number_at, right_of, terms_of}
 use Rattle.tetri_ip.specs.Weighed.{bound_taken}
 use Rattle.tetri_ip.specs.Forming.{add_product, form_column, form_factor, form_right, subtract_product, then_form, within}
+use Rattle.tetri_ip.proofs.Coefficients.{TermsAscend}
 
 pub right_of_at : (rows : List Row) (k : ℕ) (r : Row) → k < length rows → r ≡ get_or rows k r → right_of rows k ≡ r.right
 right_of_at [] k r h e = absurd (omega arith)
@@ -25,13 +31,40 @@ terms_of_at [] k r h e = absurd (omega arith)
 terms_of_at (x ∷ rs) zero r h e = ap (λ y. y.terms.items) (sym e)
 terms_of_at (x ∷ rs) (suc k) r h e = terms_of_at rs k r (omega arith) e
 
--- ---- a number in range fits its type
-pub within_fits : (z x : ℤ) → within z ≡ Some x → SFits w128 x
-within_fits z x e = by_test (nat_lt (unsigned_abs z) (2 ^ 127)) refl e
+-- the terms of a fit program's row ascend
+pub row_ascends : (p : Program) (k : ℕ) (r : Row) → IsFit p → k < length p.rows.items → r ≡ get_or p.rows.items k r → TermsAscend r.terms.items
+row_ascends p k r fit lt is = subst TermsAscend (terms_of_at p.rows.items k r lt is) (fit.rows k lt).ascending
+
+-- ---- a number in range
+pub within_itself : (z : ℤ) → IsWithin z → within z ≡ Some z
+within_itself z fits = ap (λ (t : Bool). cond t (Some z) None) (lt-ltb (unsigned_abs z) (2 ^ 127) fits)
+
+pub is_within : (z x : ℤ) → within z ≡ Some x → IsWithin x
+is_within z x e = by_test (nat_lt (unsigned_abs z) (2 ^ 127)) refl e
   where
-    by_test : (t : Bool) → nat_lt (unsigned_abs z) (2 ^ 127) ≡ t → cond t (Some z) None ≡ Some x → SFits w128 x
-    by_test true h f = let g : z ≡ x = cc in fits_signed_from_abs w128 x (subst (λ y. unsigned_abs y < 2 ^ 127) g (ltb-true _ _ h))
+    by_test : (t : Bool) → nat_lt (unsigned_abs z) (2 ^ 127) ≡ t → cond t (Some z) None ≡ Some x → IsWithin x
+    by_test true h f = let g : z ≡ x = cc in subst IsWithin g (ltb-true _ _ h)
     by_test false h f = cc
+
+pub within_fits : (z x : ℤ) → within z ≡ Some x → SFits w128 x
+within_fits z x e = fits_signed_from_abs w128 x (is_within z x e)
+
+-- what is left of a number in range is in range
+pub subtract_within : (rest a b x : ℤ) → subtract_product rest a b ≡ Some x → IsWithin x
+subtract_within rest a b x e = by_part (within (a *ℤ b)) e
+  where
+    by_part : (o : Option ℤ) → then_form o (λ part. within (rest -ℤ part)) ≡ Some x → IsWithin x
+    by_part None f = cc
+    by_part (Some part) f = is_within (rest -ℤ part) x f
+
+-- nothing is taken away
+pub subtract_nothing : (rest a b : ℤ) → IsWithin rest → b ≡ pos 0 → subtract_product rest a b ≡ Some rest
+subtract_nothing rest a b fits none =
+    ap (λ z. then_form (within z) (λ part. within (rest -ℤ part))) (ap (λ z. a *ℤ z) none ∙ mul_zero_right ℤ_ring a)
+    ∙ ap within (minus_zero rest) ∙ within_itself rest fits
+  where
+    minus_zero : (z : ℤ) → z -ℤ pos 0 ≡ z
+    minus_zero z = omega (arith, ints)
 
 then_fits : (o : Option ℤ) (f : ℤ → ℤ) (x : ℤ) → then_form o (λ z. within (f z)) ≡ Some x → SFits w128 x
 then_fits None f x e = cc
@@ -137,12 +170,3 @@ column_formed rows b q ws j cost sum q' cost' first first' d d' bound' sum' x y 
     ∙ ap (λ k. add_product sum d k) (be g)
     ∙ sym (ap (λ (o : Option ℤ). then_form o (λ k. add_product sum k (bound_taken b j k))) v)
     ∙ sym (ap (λ (o : Option ℤ). then_form o (λ f. then_form (form_factor rows ws j f) (λ k. add_product sum k (bound_taken b j k)))) u)
-
-pub column_not_formed : (rows : List Row) (b : Bounds) (q : ℤ) (ws : List Weight) (j : ℕ) (cost sum q' cost' first first' : ℤ) (x y : Option ℤ) →
-    q' ≡ q → cost' ≡ cost → x ≡ within (q' *ℤ cost') → x ≡ Some first → (SFits w128 first → first' ≡ first) →
-    y ≡ form_factor rows ws j first' → y ≡ None → None ≡ form_column rows b q ws j cost sum
-column_not_formed rows b q ws j cost sum q' cost' first first' x y qe ce xe xs fe ye ys =
-    let u : within (q *ℤ cost) ≡ Some first = ap (λ k. within (k *ℤ cost)) (sym qe) ∙ ap (λ k. within (q' *ℤ k)) (sym ce) ∙ sym xe ∙ xs in
-    let v : form_factor rows ws j first ≡ None = ap (λ k. form_factor rows ws j k) (sym (fe (within_fits (q *ℤ cost) first u))) ∙ sym ye ∙ ys in
-    sym (ap (λ (o : Option ℤ). then_form o (λ f. then_form (form_factor rows ws j f) (λ k. add_product sum k (bound_taken b j k)))) u
-    ∙ ap (λ (o : Option ℤ). then_form o (λ k. add_product sum k (bound_taken b j k))) v)

@@ -8,7 +8,7 @@ use lib.IntN.{ℤ}
 use lib.Signed.{lt_z}
 use Rattle.tetri_ip.specs.declared.programs.Row.{Row}
 use Rattle.tetri_ip.specs.Points.{MeetsRows, first_unmet_from, left_side}
-use Rattle.tetri_ip.proofs.PointLaws.{first_unmet_none, met_first_unmet}
+use Rattle.tetri_ip.proofs.PointLemmas.{first_unmet_none, met_first_unmet}
 
 pub unmet_step : (rows : List Row) (point : List ℤ) (i : ℕ) (r : Row) (side side' right' : ℤ) (t : Bool) → i < length rows → r ≡ get_or rows i r → side ≡ left_side r.terms.items point → side' ≡ side → right' ≡ r.right → lt_z right' side' ≡ t →
     first_unmet_from i (drop i rows) point ≡ cond t (Some i) (first_unmet_from (i + 1) (drop (i + 1) rows) point)

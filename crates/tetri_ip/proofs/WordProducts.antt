@@ -7,8 +7,8 @@ use lib.IntN.{ℤ, ◌*ℤ◌}
 use mir.Val.{to_z, of_z}
 use mir.Syntax.{w128}
 use Rattle.tetri_ip.specs.Forming.{within}
-use Rattle.tetri_ip.specs.Points.{IsWithin}
-use Rattle.tetri_ip.proofs.MergeLemmas.{within_itself}
+use Rattle.tetri_algebra.specs.Range.{IsWithin}
+use Rattle.tetri_ip.proofs.Steps.{within_itself}
 
 natural_product : (m n : ℕ) → m ≤ 2 ^ 63 → n ≤ 2 ^ 63 → m * n < 2 ^ 127
 natural_product m n h k = let p = mul-le-mul_left m k in omega (arith, p)

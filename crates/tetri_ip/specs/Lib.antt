@@ -1,4 +1,3 @@
-pub mod ColumnIndex
 pub mod Points
 pub mod Weighed
 pub mod Forming

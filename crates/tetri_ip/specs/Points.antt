@@ -4,6 +4,7 @@ use Prim.Native.Nat.{zero, suc}
 use lib.IntN.{ℤ}
 use lib.Signed.{lt_z}
 use Rattle.tetri_algebra.specs.IntegerRing.{ℤ_ring}
+use Rattle.tetri_algebra.specs.Range.{IsWithin}
 use Rattle.tetri_algebra.specs.Sums.{sum_over, dot, unit_at}
 use Rattle.tetri_ip.specs.declared.programs.Program.{Program}
 use Rattle.tetri_ip.specs.declared.programs.Row.{Row}
@@ -93,13 +94,9 @@ pub record IsInBox (p : Program) (b : Bounds) : Type 0 where
   pub ordered : IsBelow (length p.costs.items) b.lower b.upper
   pub below : IsBelow (length p.costs.items) b.upper p.upper.items
 
--- from -(2^127-1) to 2^127-1
-abbrev pub IsWithin : ℤ → Type 0
-IsWithin z = unsigned_abs z < 2 ^ 127
-
--- each number of a list in that range
-abbrev pub AreWithin : List ℤ → Type 0
-AreWithin xs = (k : ℕ) → k < length xs → IsWithin (number_at xs k)
+-- each number of a list in the range
+abbrev pub NumbersWithin : List ℤ → Type 0
+NumbersWithin xs = (k : ℕ) → k < length xs → IsWithin (number_at xs k)
 
 -- the greatest size of a column's number in the box
 abbrev pub size_at : Program → ℕ → ℕ
@@ -128,9 +125,9 @@ pub record IsFit (p : Program) : Type 0 where
   pub lower_count : length p.lower.items ≡ length p.costs.items
   pub upper_count : length p.upper.items ≡ length p.costs.items
   pub ordered : IsBelow (length p.costs.items) p.lower.items p.upper.items
-  pub costs_within : AreWithin p.costs.items
-  pub lower_within : AreWithin p.lower.items
-  pub upper_within : AreWithin p.upper.items
+  pub costs_within : NumbersWithin p.costs.items
+  pub lower_within : NumbersWithin p.lower.items
+  pub upper_within : NumbersWithin p.upper.items
   pub widths : (k : ℕ) → k < length p.costs.items → IsWithin (number_at p.upper.items k -ℤ number_at p.lower.items k)
   pub rows : (k : ℕ) → k < length p.rows.items → IsFitRow p (terms_of p.rows.items k) (right_of p.rows.items k)
   pub costs : cost_reach p 0 p.costs.items < 2 ^ 127

@@ -1,5 +1,5 @@
 -- The weighed number of a program over a region: the right side of weak duality with bounds.
-use Rattle.std.specs.Prelude.{ℕ, ◌+◌, ◌<◌, List, [], ◌∷◌, length, cond, ◌+ℤ◌, ◌-ℤ◌, ◌*ℤ◌, ◌≤ℤ◌, pos}
+use Rattle.std.specs.Prelude.{ℕ, ◌+◌, ◌<◌, List, [], ◌∷◌, length, slice_index_or, cond, ◌+ℤ◌, ◌-ℤ◌, ◌*ℤ◌, ◌≤ℤ◌, pos}
 use Rattle.std.specs.List.{All}
 use lib.IntN.{ℤ}
 use lib.Signed.{lt_z}
@@ -9,6 +9,14 @@ use Rattle.tetri_ip.specs.declared.programs.Program.{Program}
 use Rattle.tetri_ip.specs.declared.programs.Row.{Row}
 use Rattle.tetri_ip.specs.declared.programs.Weight.{Weight}
 use Rattle.tetri_ip.specs.Points.{Bounds, number_at, terms_of, right_of, coefficient}
+
+-- the weight at a place, and row 0 with 0 past the end
+abbrev pub weight_at : List Weight → ℕ → Weight
+weight_at ws k = slice_index_or ws k (record { row = 0; by = pos 0 })
+
+-- weights that ascend by row
+abbrev pub WeightsAscend : List Weight → Type 0
+WeightsAscend ws = (k m : ℕ) → k < m → m < length ws → (weight_at ws k).row < (weight_at ws m).row
 
 -- no weight is below 0
 abbrev pub AreNotNegative : List Weight → Type 0

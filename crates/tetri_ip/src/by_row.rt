@@ -1,13 +1,13 @@
 //! The weighed number, formed row by row in a list of the columns' factors.
 
 ghost use Rattle.std.specs.Prelude.{◌≡◌, ◌<◌, ◌*ℤ◌, ℕ, Ok, Some, length, IfOk, IfSome, IsTrue};
-ghost use Rattle.tetri_ip.specs.Points.{AreWithin, IsFit, IsInBox, bounds_of, coefficient, column_at, number_at};
-ghost use Rattle.tetri_ip.specs.Weighed.{AreNotNegative, AreOfRows, bound_taken, weighed};
-ghost use Rattle.tetri_ip.specs.Forming.{AreFactors, add_product, form_bounds, form_factor, subtract_product, weigh_answer, within};
+ghost use Rattle.tetri_ip.specs.Points.{NumbersWithin, IsFit, IsInBox, bounds_of, coefficient, column_at, number_at};
+ghost use Rattle.tetri_ip.specs.Weighed.{AreNotNegative, AreOfRows, weighed};
+ghost use Rattle.tetri_ip.specs.Forming.{AreFactors, form_bounds, form_factor, subtract_product, weigh_answer, within};
 
 use crate::programs::{Program, Region, Row, WeighFault, Weight};
-use crate::range::{add_product, product, subtract_product};
-use crate::weighing::{find_negative, right_sum, weigh};
+use crate::range::{product, subtract_product};
+use crate::weighing::{add_bound, find_negative, right_sum, weigh};
 
 // Writes q times each column's cost. False where one is out of range.
 fn start_factors(p: &Program, q: i128, factors: &mut [i128]) -> bool
@@ -30,8 +30,8 @@ fn subtract_row(row: &Row, by: i128, factors: &mut [i128]) -> bool
     requires ascending { (k m : ℕ) → k < m → m < length row.now.terms.items →
         column_at row.now.terms.items k < column_at row.now.terms.items m }
     requires columns { (k : ℕ) → k < length row.now.terms.items → column_at row.now.terms.items k < length factors.old }
-    requires in_range { AreWithin factors.old }
-    ensures in_range { IsTrue result → AreWithin factors.new }
+    requires in_range { NumbersWithin factors.old }
+    ensures in_range { IsTrue result → NumbersWithin factors.new }
     ensures taken { IsTrue result → (j : ℕ) → j < length factors.old →
         subtract_product (number_at factors.old j) by (coefficient row.now.terms.items j) ≡ Some (number_at factors.new j) }
 {
@@ -50,7 +50,7 @@ fn subtract_rows(p: &Program, weights: &[Weight], factors: &mut [i128]) -> bool
     requires fit { IsFit p.now }
     requires rows { AreOfRows p.now weights.now }
     requires length { length factors.old ≡ length p.now.costs.items }
-    requires in_range { AreWithin factors.old }
+    requires in_range { NumbersWithin factors.old }
     ensures { IsTrue result → (j : ℕ) → j < length factors.old →
         form_factor p.now.rows.items weights.now j (number_at factors.old j) ≡ Some (number_at factors.new j) }
 {
@@ -73,16 +73,6 @@ fn form_factors(p: &Program, q: i128, weights: &[Weight], factors: &mut [i128]) 
         return false;
     }
     subtract_rows(p, weights, factors)
-}
-
-// The sum with a factor times the bound that it takes, if that and the product are in range.
-fn add_bound(r: &Region, j: usize, by: i128, sum: i128) -> Option<i128>
-    requires lower { j < length r.now.lower.items }
-    requires upper { j < length r.now.upper.items }
-    ensures { result ≡ add_product sum by (bound_taken (bounds_of r.now) j by) }
-{
-    let bound = if by > 0 { r.upper[j] } else { r.lower[j] };
-    add_product(sum, by, bound)
 }
 
 fn bounds_total(r: &Region, factors: &[i128], right: i128) -> Option<i128>

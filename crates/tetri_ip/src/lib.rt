@@ -3,20 +3,16 @@
 //! weak duality.
 #![tactic(auto, using(crate::proofs::Signed::signed))]
 
-mod by_column;
 mod by_row;
 mod columns;
-mod index;
 mod laws;
 mod points;
 mod programs;
 mod range;
 mod weighing;
 
-pub use by_column::weigh_by;
 pub use by_row::weigh_over;
 pub use columns::coefficient_of;
-pub use index::ColumnIndex;
 pub use laws::weighed_bounds_points;
 pub use points::{first_unmet, holds_point, left_side};
 pub use programs::{Program, Region, Row, Term, WeighFault, Weight};

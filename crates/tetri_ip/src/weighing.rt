@@ -4,8 +4,8 @@
 
 ghost use Rattle.std.specs.Prelude.{◌≡◌, ◌<◌, length, pos, IfOk};
 ghost use Rattle.tetri_ip.specs.Points.{IsFit, IsInBox, bounds_of, number_at};
-ghost use Rattle.tetri_ip.specs.Weighed.{AreNotNegative, AreOfRows, weighed};
-ghost use Rattle.tetri_ip.specs.Forming.{first_negative, form_right, form_factor, form_column, form_columns, weigh_answer};
+ghost use Rattle.tetri_ip.specs.Weighed.{AreNotNegative, AreOfRows, bound_taken, weighed};
+ghost use Rattle.tetri_ip.specs.Forming.{add_product, first_negative, form_right, form_factor, form_column, form_columns, weigh_answer};
 
 use crate::columns::coefficient_of;
 use crate::programs::{Program, Region, WeighFault, Weight};
@@ -54,6 +54,16 @@ pub(crate) fn factor(p: &Program, weights: &[Weight], column: u32, cost: i128) -
     Some(rest)
 }
 
+// The sum with a factor times the bound that it takes, if that and the product are in range.
+pub(crate) fn add_bound(r: &Region, j: usize, by: i128, sum: i128) -> Option<i128>
+    requires lower { j < length r.now.lower.items }
+    requires upper { j < length r.now.upper.items }
+    ensures { result ≡ add_product sum by (bound_taken (bounds_of r.now) j by) }
+{
+    let bound = if by > 0 { r.upper[j] } else { r.lower[j] };
+    add_product(sum, by, bound)
+}
+
 fn column_total(
     p: &Program,
     r: &Region,
@@ -75,8 +85,7 @@ fn column_total(
     let Some(by) = factor(p, weights, j as u32, cost) else {
         return None;
     };
-    let bound = if by > 0 { r.upper[j] } else { r.lower[j] };
-    add_product(sum, by, bound)
+    add_bound(r, j, by, sum)
 }
 
 fn columns_total(

@@ -14,9 +14,10 @@ use Rattle.tetri_ip.specs.declared.programs.Program.{Program}
 use Rattle.tetri_ip.specs.declared.programs.Row.{Row}
 use Rattle.tetri_ip.specs.declared.programs.Term.{Term}
 use Rattle.tetri_ip.specs.declared.programs.Weight.{Weight}
-use Rattle.tetri_ip.specs.Points.{IsFit, IsFitRow, IsWithin, column_at, cost_reach, number_at, reach, right_of, size_at, terms_of}
-use Rattle.tetri_ip.specs.ColumnIndex.{weight_at}
-use Rattle.tetri_ip.proofs.Steps.{right_of_at, terms_of_at}
+use Rattle.tetri_ip.specs.Points.{IsFit, IsFitRow, column_at, cost_reach, number_at, reach, right_of, size_at, terms_of}
+use Rattle.tetri_algebra.specs.Range.{IsWithin}
+use Rattle.tetri_ip.specs.Weighed.{weight_at}
+use Rattle.tetri_ip.proofs.IntegerProgramLaws.{right_of_at, terms_of_at}
 use Rattle.tetri_ip_bench.specs.Even.{HasOffset, IsEvenRow}
 
 -- one step further by a gap

@@ -1,7 +1,6 @@
 //! Programs and weights to weigh.
 
 ghost use Rattle.std.specs.Prelude.{◌≡◌, ◌*◌, ◌<◌, ◌≤◌, All, IfOk, length, replicate};
-ghost use Rattle.tetri_ip.specs.ColumnIndex.{WeightsAscend};
 ghost use Rattle.tetri_ip.specs.Points.{IsFit};
 ghost use Rattle.tetri_ip_bench.specs.Even.{HasOffset, IsEvenRow};
 
@@ -71,7 +70,6 @@ pub fn even_weights(alloc: Global, rows: u32, count: u32) -> Result<Vec<Weight>,
     requires some { 1 ≤ count }
     requires few { count ≤ rows }
     requires small { rows ≤ 4096 }
-    ensures ascending { IfOk result (λ v. WeightsAscend v.items) }
     ensures rows { IfOk result (λ v. All (λ w. w.row < rows) v.items) }
 {
     let gap = rows / count;

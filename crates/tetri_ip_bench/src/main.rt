@@ -1,8 +1,8 @@
-//! Times weighing, without and with an index of the columns, and over a list of their factors.
+//! Times weighing column by column, and row by row over a list of the columns' factors.
 //!
 //! `tetri_ip_bench COLUMNS TERMS WEIGHTS ROUNDS` weighs a program of as many columns and rows, with
-//! as many terms in each row, by as many weights. It writes the sums of what the three calls answer to
-//! standard output, and the nanoseconds of the index and of a call of each to standard error.
+//! as many terms in each row, by as many weights. It writes the sums of what the two calls answer to
+//! standard output, and the nanoseconds of a call of each to standard error.
 //! Without arguments it weighs a small program, and no times are written.
 #![tactic(auto)]
 
@@ -15,8 +15,8 @@ use made::{even_program, even_weights};
 use std::alloc::Global;
 use std::time::CpuClock;
 use std::{env, io};
-use tetri_ip::{ColumnIndex, Region};
-use work::{Sizes, are_sizes, sum, sum_by, sum_over};
+use tetri_ip::Region;
+use work::{Sizes, are_sizes, sum, sum_over};
 
 fn main(rt: HostRuntime) -> io::Result<()> {
     let mut sizes: [u32; 4] = [12, 3, 4, 1];
@@ -52,26 +52,20 @@ fn measure(
     let p = even_program(alloc, sizes.columns, sizes.terms)?;
     let whole = Region::whole(alloc, &p)?;
     let weights = even_weights(alloc, sizes.columns, sizes.weights)?;
+    let mut factors = vec![in alloc; 0i128; p.costs.len()]?;
     let start = rt.thread_cpu_time()?;
-    let index = ColumnIndex::new(alloc, &p)?;
-    let made = rt.thread_cpu_time()?;
     let plain = sum(&p, &whole, &weights, sizes.rounds);
     let between = rt.thread_cpu_time()?;
-    let indexed = sum_by(&index, &p, &whole, &weights, sizes.rounds);
-    let mut factors = vec![in alloc; 0i128; p.costs.len()]?;
-    let listed = rt.thread_cpu_time()?;
     let over = sum_over(&p, &whole, &weights, &mut factors, sizes.rounds);
     let end = rt.thread_cpu_time()?;
-    println!(rt; "{plain} {indexed} {over}")?;
+    println!(rt; "{plain} {over}")?;
     if !timed {
         return Ok(());
     }
     let rounds = u128::from(sizes.rounds);
     eprintln!(rt;
-        "{} {} {} {}",
-        made.saturating_sub(start).as_nanos(),
-        between.saturating_sub(made).as_nanos() / rounds,
-        listed.saturating_sub(between).as_nanos() / rounds,
-        end.saturating_sub(listed).as_nanos() / rounds
+        "{} {}",
+        between.saturating_sub(start).as_nanos() / rounds,
+        end.saturating_sub(between).as_nanos() / rounds
     )
 }

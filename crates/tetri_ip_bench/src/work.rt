@@ -1,12 +1,11 @@
 //! The work that is timed.
 
 ghost use Rattle.std.specs.Prelude.{◌≡◌, IsTrue, length};
-ghost use Rattle.tetri_ip.specs.ColumnIndex.{IsIndexOf, WeightsAscend};
 ghost use Rattle.tetri_ip.specs.Points.{IsFit, IsInBox, bounds_of};
 ghost use Rattle.tetri_ip.specs.Weighed.{AreOfRows};
 ghost use Rattle.tetri_ip_bench.specs.Sizes.{AreSizes};
 
-use tetri_ip::{ColumnIndex, Program, Region, WeighFault, Weight, weigh, weigh_by, weigh_over};
+use tetri_ip::{Program, Region, WeighFault, Weight, weigh, weigh_over};
 
 /// What is weighed: columns, terms of a row, weights, and how often.
 #[derive(Clone, Copy, Debug)]
@@ -43,22 +42,6 @@ pub fn sum(p: &Program, r: &Region, weights: &[Weight], rounds: u32) -> i128
     let mut sum = 0;
     for q in 0..rounds {
         sum = added(sum, weigh(p, r, i128::from(q) + 1, weights));
-    }
-    sum
-}
-
-/// The same, with an index.
-#[inline(never)]
-pub fn sum_by(index: &ColumnIndex, p: &Program, r: &Region, weights: &[Weight], rounds: u32) -> i128
-    requires fit { IsFit p.now }
-    requires in_box { IsInBox p.now (bounds_of r.now) }
-    requires rows { AreOfRows p.now weights.now }
-    requires ascending { WeightsAscend weights.now }
-    requires index { IsIndexOf p.now index.now }
-{
-    let mut sum = 0;
-    for q in 0..rounds {
-        sum = added(sum, weigh_by(index, p, r, i128::from(q) + 1, weights));
     }
     sum
 }

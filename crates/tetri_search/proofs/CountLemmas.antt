@@ -11,7 +11,7 @@ use Rattle.tetri_ip.specs.Points.{Bounds, IsFit, IsInBox, box_of, number_at}
 use Rattle.tetri_cert.specs.declared.marks.Mark.{Mark}
 use Rattle.tetri_cert.specs.declared.marks.Mark.TheVariants.{Split, Close, Whole, Rest}
 use Rattle.tetri_cert.specs.NodeBounds.{HasSides}
-use Rattle.tetri_cert.proofs.ProperTreeLaws.{IsSound}
+use Rattle.tetri_cert.proofs.TreeBoundLaws.{IsSound}
 use Rattle.tetri_search.specs.declared.duals.Dual.{Dual}
 use Rattle.tetri_search.specs.Table.{Node}
 use Rattle.tetri_search.specs.Follow.{Follows, best_after, dual_below, open_behind, used_after}

@@ -21,9 +21,9 @@ use Rattle.tetri_cert.specs.NodeBounds.{sides_before}
 use Rattle.tetri_cert.specs.NodeText.{HasShortLists, IsPlain}
 use Rattle.tetri_cert.specs.Trees.{nodes_in}
 use Rattle.tetri_cert.specs.Turns.{pending}
-use Rattle.tetri_cert.proofs.ProperTreeLaws.{IsSound}
+use Rattle.tetri_cert.proofs.TreeBoundLaws.{IsSound}
 use Rattle.tetri_compile.specs.Gain.{most_gain}
-use Rattle.tetri_compile.proofs.GainLaws.{region_gain}
+use Rattle.tetri_compile.proofs.ProgramLaws.{region_gain}
 use Rattle.tetri_search.specs.declared.duals.Dual.{Dual}
 use Rattle.tetri_search.specs.Table.{Node, table}
 use Rattle.tetri_search.specs.Follow.{Follows, IsEarned, IsNext, State, after, best_after, best_behind, dual_below, first_state, open_behind, used_after}

@@ -7,18 +7,16 @@ use Rattle.tetri_ip.specs.declared.programs.Program.{Program}
 use Rattle.tetri_ip.specs.declared.programs.WeighFault.{WeighFault}
 use Rattle.tetri_ip.specs.Forming.{weigh_answer}
 use Rattle.tetri_ip.specs.Points.{Bounds, IsFit, IsInBox, box_of}
-use Rattle.tetri_ip.proofs.WeighingLaws.{answer_is_weighed}
+use Rattle.tetri_ip.proofs.IntegerProgramLaws.{answer_is_weighed}
 use Rattle.tetri_simplex.specs.Certificates.{Certifies}
 use Rattle.tetri_simplex.specs.Ends.{End, best, cut, empty, past, long}
 use Rattle.tetri_simplex.specs.Machine.{machine}
-use Rattle.tetri_simplex.proofs.EndFacts.{machine_certified}
+use Rattle.tetri_simplex.proofs.DualRunLaws.{machine_certified}
 use Rattle.tetri_cert.specs.declared.marks.Mark.{Mark}
 use Rattle.tetri_cert.specs.declared.marks.Mark.TheVariants.{Split, Close, Whole, Rest}
 use Rattle.tetri_cert.specs.Cells.{point_of}
 use Rattle.tetri_cert.specs.NodeBounds.{HasSides}
-use Rattle.tetri_cert.proofs.ProperTreeLaws.{IsSound}
-use Rattle.tetri_cert.proofs.RegionLaws.{high_in_box, low_in_box}
-use Rattle.tetri_cert.proofs.PointLemmas.{in_program_box}
+use Rattle.tetri_cert.proofs.TreeBoundLaws.{high_in_box, in_program_box, IsSound, low_in_box}
 use Rattle.tetri_search.specs.declared.branches.Branch.{Branch}
 use Rattle.tetri_search.specs.declared.duals.Dual.{Dual}
 use Rattle.tetri_search.specs.Table.{Node, rest_by, rest_mark, table, unfixed_from}

@@ -12,30 +12,27 @@ use Rattle.tetri_algebra.specs.Rational.{ℚ}
 use Rattle.tetri_algebra.specs.Sums.{dot}
 use Rattle.tetri_num.specs.declared.fractions.Frac.{Frac}
 use Rattle.tetri_num.specs.Frac.{value}
-use Rattle.tetri_num.specs.Range.{IsWithin}
+use Rattle.tetri_algebra.specs.Range.{IsWithin}
 use Rattle.tetri_ip.specs.declared.programs.Program.{Program}
 use Rattle.tetri_ip.specs.declared.programs.Weight.{Weight}
 use Rattle.tetri_ip.specs.declared.programs.WeighFault.{WeighFault}
-use Rattle.tetri_ip.specs.ColumnIndex.{WeightsAscend, weight_at}
 use Rattle.tetri_ip.specs.Forming.{weigh_answer}
 use Rattle.tetri_ip.specs.Points.{Bounds, IsBetween, IsFit, IsInBox, cost_reach, first_unmet_from, number_at, objective, size_at}
-use Rattle.tetri_ip.specs.Weighed.{AreOfRows}
-use Rattle.tetri_ip.proofs.PointLaws.{first_unmet_some}
+use Rattle.tetri_ip.specs.Weighed.{AreOfRows, WeightsAscend, weight_at}
+use Rattle.tetri_ip.proofs.IntegerProgramLaws.{first_unmet_some}
 use Rattle.tetri_simplex.specs.Certificates.{AreWeights, Certifies, CertifiesBest}
 use Rattle.tetri_simplex.specs.Ends.{End, best, cut, empty, past, long}
 use Rattle.tetri_simplex.specs.Machine.{machine}
 use Rattle.tetri_simplex.specs.Relaxation.{numerators}
-use Rattle.tetri_simplex.proofs.EndFacts.{machine_certified}
-use Rattle.tetri_simplex.proofs.RelaxedPoints.{whole_point}
+use Rattle.tetri_simplex.proofs.DualRunLaws.{machine_certified, whole_point}
 use Rattle.tetri_cert.specs.declared.marks.Mark.{Mark}
 use Rattle.tetri_cert.specs.declared.marks.Mark.TheVariants.{Close, Whole}
 use Rattle.tetri_cert.specs.Cells.{cells_of}
 use Rattle.tetri_cert.specs.Lists.{Ascend}
 use Rattle.tetri_cert.specs.NodeText.{ArePlainWeights, HasShortLists, IsPlain, IsPlainPoint}
 use Rattle.tetri_cert.specs.Pairs.{IsPlainWeight, weight_key}
-use Rattle.tetri_cert.proofs.CellLaws.{cells_of-length, cells_of-plain, frac_cells_of-length, frac_cells_of-plain}
-use Rattle.tetri_cert.proofs.PointLemmas.{in_program_box}
-use Rattle.tetri_cert.proofs.ProperTreeLaws.{IsSound}
+use Rattle.tetri_cert.proofs.MarkLaws.{cells_of-length, cells_of-plain, frac_cells_of-length, frac_cells_of-plain}
+use Rattle.tetri_cert.proofs.TreeBoundLaws.{in_program_box, IsSound}
 use Rattle.tetri_search.specs.declared.branches.Branch.{Branch}
 use Rattle.tetri_search.specs.declared.duals.Dual.{Dual}
 use Rattle.tetri_search.specs.Table.{Node, best_by, fractional_from, end_mark, rest_by, rest_mark, single_by, table, unfixed_from, worked_by, worked_mark}

@@ -13,7 +13,7 @@ use Rattle.tetri_cert.specs.Cells.{AreOfColumns, point_of}
 use Rattle.tetri_cert.specs.NodeBounds.{sides_before}
 use Rattle.tetri_cert.specs.ProperTrees.{end_bound}
 use Rattle.tetri_cert.specs.Trees.{fills, if_fills, places_behind, tree_bound, tree_from}
-use Rattle.tetri_cert.proofs.ProperTreeLaws.{IsSound, node_told}
+use Rattle.tetri_cert.proofs.TreeBoundLaws.{IsSound, node_told}
 use Rattle.tetri_search.specs.declared.duals.Dual.{Dual}
 use Rattle.tetri_search.specs.Table.{Node, table}
 use Rattle.tetri_search.specs.Follow.{Follows, IsEarned, after, best_after, best_behind, dual_below, last_or, last_whole, open_behind, used_after}

@@ -9,7 +9,7 @@ use Rattle.tetri_ip.specs.Points.{IsFit, IsInBox, box_of}
 use Rattle.tetri_cert.specs.declared.marks.Cell.{Cell}
 use Rattle.tetri_cert.specs.declared.marks.Mark.{Mark}
 use Rattle.tetri_cert.specs.declared.marks.Mark.TheVariants.{Split, Close, Whole, Rest}
-use Rattle.tetri_cert.proofs.ProperTreeLaws.{IsSound}
+use Rattle.tetri_cert.proofs.TreeBoundLaws.{IsSound}
 use Rattle.tetri_search.specs.Table.{Node, table}
 use Rattle.tetri_search.specs.Follow.{Follows, best_after, best_behind, dual_below, last_or, last_whole, natural, open_behind, used_after}
 use Rattle.tetri_search.specs.Laws.{IsBestPoint, WholesRise, is_rest}

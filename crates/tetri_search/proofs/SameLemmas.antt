@@ -8,14 +8,12 @@ use lib.Signed.{le_z, lt_z}
 use Rattle.tetri_algebra.specs.IntegerRing.{ℤ_ring}
 use Rattle.tetri_algebra.specs.Sums.{dot}
 use Rattle.tetri_algebra.specs.Rational.{ℚ, whole_ℚ}
-use Rattle.tetri_num.specs.declared.places.Place.{Place}
 use Rattle.tetri_ip.specs.declared.programs.Program.{Program}
 use Rattle.tetri_ip.specs.declared.programs.Row.{Row}
 use Rattle.tetri_ip.specs.declared.programs.Term.{Term}
 use Rattle.tetri_ip.specs.declared.programs.WeighFault.{WeighFault}
 use Rattle.tetri_ip.specs.declared.programs.Weight.{Weight}
-use Rattle.tetri_ip.specs.Forming.{weigh_answer}
-use Rattle.tetri_ip.specs.Points.{Bounds, box_of, first_unmet_from, left_side, objective}
+use Rattle.tetri_ip.specs.Points.{Bounds, first_unmet_from, left_side, objective}
 use Rattle.tetri_ip.specs.SamePrograms.{SameRows, SaysSame}
 use Rattle.tetri_simplex.specs.Choices.{has_positive, leaving}
 use Rattle.tetri_simplex.specs.Ends.{End, best, best_end, common_denominator, cut, cut_end, empty, empty_end, is_cut, long, objective_weights, past, point_from, row_weights, then_end, weighted_end, weights_of, when_weighed, whole_weights}
@@ -26,10 +24,10 @@ use Rattle.tetri_simplex.specs.Tables.{Table, coefficients_of, objective_of, row
 use Rattle.tetri_cert.specs.declared.marks.Mark.{Mark}
 use Rattle.tetri_cert.specs.declared.marks.Mark.TheVariants.{Close, Whole}
 use Rattle.tetri_cert.specs.Cells.{cells_of}
-use Rattle.tetri_cert.proofs.SameLemmas.{box_same, weigh_same}
+use Rattle.tetri_cert.proofs.TreeBoundLaws.{box_same, weigh_same}
 use Rattle.tetri_search.specs.declared.branches.Branch.{Branch}
 use Rattle.tetri_search.specs.declared.duals.Dual.{Dual}
-use Rattle.tetri_search.specs.Follow.{Follows, IsEarned, IsNext, State, after, best_after, dual_below, dual_by, dual_of, dual_or, first_state, open_after, open_behind, own_dual, used_after}
+use Rattle.tetri_search.specs.Follow.{Follows, IsEarned, IsNext, State, after, best_after, dual_by, dual_of, dual_or, first_state, open_after, open_behind, own_dual, used_after}
 use Rattle.tetri_search.specs.Laws.{EarnedTreesAreOne}
 use Rattle.tetri_search.specs.Table.{Node, best_by, end_mark, fractional_from, rest_by, rest_mark, single_by, single_mark, table, unfixed_from, worked_by, worked_mark}
 

@@ -9,7 +9,7 @@ use lib.Signed.{lt_z}
 use Rattle.tetri_algebra.specs.RationalOrder.{floor_ℚ}
 use Rattle.tetri_num.specs.declared.fractions.Frac.{Frac}
 use Rattle.tetri_num.specs.Frac.{value}
-use Rattle.tetri_num.proofs.Values.{num-value}
+use Rattle.tetri_num.proofs.FractionLaws.{num-value}
 use Rattle.tetri_simplex.specs.Relaxation.{numerators}
 use Rattle.tetri_search.specs.Table.{fractional_from, unfixed_from}
 

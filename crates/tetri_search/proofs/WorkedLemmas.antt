@@ -17,22 +17,20 @@ use Rattle.tetri_ip.specs.declared.programs.Weight.{Weight}
 use Rattle.tetri_ip.specs.Forming.{weigh_answer}
 use Rattle.tetri_ip.specs.Points.{Bounds, IsFit, IsInBox, IsPoint, first_unmet_from, left_side, number_at, objective, right_of, terms_of}
 use Rattle.tetri_ip.specs.Weighed.{AreNotNegative, AreOfRows, once, weighed}
-use Rattle.tetri_ip.proofs.PointLaws.{first_unmet_none, first_unmet_some}
-use Rattle.tetri_ip.proofs.WeighingLaws.{weigh_of_none, weigh_of_row, weighed_row_single, weighed_single}
+use Rattle.tetri_ip.proofs.IntegerProgramLaws.{first_unmet_none, first_unmet_some, weigh_of_none, weigh_of_row, weighed_row_single, weighed_single}
 use Rattle.tetri_simplex.specs.Certificates.{Certifies, CertifiesBest}
 use Rattle.tetri_simplex.specs.Ends.{End, best, cut, empty, past, long}
 use Rattle.tetri_simplex.specs.Machine.{machine}
 use Rattle.tetri_simplex.specs.Relaxation.{IsWhole, numerators, objective_value}
-use Rattle.tetri_simplex.proofs.EndFacts.{machine_certified}
-use Rattle.tetri_simplex.proofs.RelaxedPoints.{floor_between, whole_point, worth_same}
+use Rattle.tetri_simplex.proofs.DualRunLaws.{floor_between, machine_certified, whole_point, worth_same}
 use Rattle.tetri_cert.specs.declared.marks.Cell.{Cell}
 use Rattle.tetri_cert.specs.declared.marks.Mark.{Mark}
 use Rattle.tetri_cert.specs.declared.marks.Mark.TheVariants.{Split, Close, Whole, Rest}
 use Rattle.tetri_cert.specs.Cells.{cells_of, point_of}
 use Rattle.tetri_cert.specs.NodeBounds.{capped}
 use Rattle.tetri_cert.specs.ProperTrees.{AreProper, IsWorth, end_bound, floor_of}
-use Rattle.tetri_cert.proofs.CellLaws.{cells_of-columns, point_of-cells_of}
-use Rattle.tetri_cert.proofs.ProperTreeLaws.{IsSound}
+use Rattle.tetri_cert.proofs.MarkLaws.{cells_of-columns, point_of-cells_of}
+use Rattle.tetri_cert.proofs.TreeBoundLaws.{IsSound}
 use Rattle.tetri_search.specs.declared.branches.Branch.{Branch}
 use Rattle.tetri_search.specs.Table.{best_by, fractional_from, end_mark, single_by, unfixed_from, worked_by, worked_mark}
 use Rattle.tetri_search.specs.Follow.{best_after, natural}

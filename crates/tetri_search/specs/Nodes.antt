@@ -1,11 +1,10 @@
 -- What the search keeps of its open nodes and of the marks that it wrote.
 use Rattle.std.specs.Prelude.{◌≡◌, ◌≢◌, ◌<◌, ◌^◌, List, [], ◌∷◌, length, Option, Some, None, ◌<ℤ◌, pos}
 use Rattle.std.specs.List.{All}
-use Rattle.tetri_num.specs.Range.{IsWithin}
+use Rattle.tetri_algebra.specs.Range.{IsWithin}
 use Rattle.tetri_ip.specs.declared.programs.Program.{Program}
-use Rattle.tetri_ip.specs.ColumnIndex.{WeightsAscend}
 use Rattle.tetri_ip.specs.Points.{IsInBox, IsPoint, box_of, objective}
-use Rattle.tetri_ip.specs.Weighed.{AreNotNegative, AreOfRows}
+use Rattle.tetri_ip.specs.Weighed.{AreNotNegative, AreOfRows, WeightsAscend}
 use Rattle.tetri_cert.specs.declared.marks.Mark.{Mark}
 use Rattle.tetri_cert.specs.declared.marks.Mark.TheVariants.{Split, Close, Whole, Rest}
 use Rattle.tetri_cert.specs.declared.marks.Licence.TheVariants as licences

@@ -3,7 +3,8 @@
 ghost use Rattle.std.specs.Prelude.{◌≡◌, ◌==◌, ◌≤◌, ◌^◌, ◌+ℤ◌, ◌-ℤ◌, ◌≤ℤ◌, length, map, pos};
 ghost use Rattle.std.specs.Int.{int_div_euclid};
 ghost use Rattle.tetri_num.specs.Frac.{value};
-ghost use Rattle.tetri_ip.specs.Points.{IsFit, IsInBox, IsWithin, bounds_of};
+ghost use Rattle.tetri_ip.specs.Points.{IsFit, IsInBox, bounds_of};
+ghost use Rattle.tetri_algebra.specs.Range.{IsWithin};
 ghost use Rattle.tetri_search.specs.Table.{fractional_from, unfixed_from};
 
 use tetri_ip::{Program, Region};

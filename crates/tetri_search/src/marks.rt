@@ -2,7 +2,6 @@
 
 ghost use Rattle.std.specs.Prelude.{◌≡◌, ◌≤◌, ◌^◌, ℕ, [], IfOk, length, map, pos};
 ghost use Rattle.tetri_num.specs.Frac.{value};
-ghost use Rattle.tetri_ip.specs.ColumnIndex.{IsIndexOf};
 ghost use Rattle.tetri_ip.specs.Points.{IsBetween, IsFit, IsInBox, bounds_of};
 ghost use Rattle.tetri_ip.specs.Weighed.{once};
 ghost use Rattle.tetri_simplex.specs.Certificates.{Certifies};
@@ -20,9 +19,9 @@ use std::alloc::{AllocError, Global};
 use std::rc::Rc;
 use tetri_base::Items;
 use tetri_cert::{Licence, Mark, cells_of, frac_cells_of, objective_at};
-use tetri_ip::{ColumnIndex, Program, Region, Weight, first_unmet, weigh_by};
+use tetri_ip::{Program, Region, Weight, first_unmet, weigh_over};
 use tetri_num::Frac;
-use tetri_simplex::{Outcome, dual_run_by};
+use tetri_simplex::{Outcome, dual_run_over};
 
 // A node's mark, and for a split the weights of its run where it ended at a best point.
 #[derive(Drop)]
@@ -183,14 +182,14 @@ fn end_mark(
 #[tactic(auto, using(crate::proofs::Signed::signed), unfolding(crate::specs::Table::worked_mark, crate::specs::Follow::own_dual))]
 fn work(
     alloc: Global,
-    index: &ColumnIndex,
     p: &Program,
     r: &Region,
+    factors: &mut [i128],
     best: u64,
 ) -> Result<Written, AllocError>
     requires fit { IsFit p.now }
     requires in_box { IsInBox p.now (bounds_of r.now) }
-    requires index { IsIndexOf p.now index.now }
+    requires length { length factors.old ≡ length p.now.costs.items }
     ensures mark { IfOk result (λ w. w.mark ≡ worked_mark p.now (bounds_of r.now) best) }
     ensures own { IfOk result (λ w. IfSplit w.mark (w.own ≡ own_dual p.now (bounds_of r.now) best)) }
     ensures narrow { IfOk result (λ w. IsNarrow w.mark) }
@@ -199,7 +198,7 @@ fn work(
         let mark = single_mark(alloc, p, r, best)?;
         return Ok(ended(mark));
     };
-    let outcome = dual_run_by(alloc, index, p, r, best)?;
+    let outcome = dual_run_over(alloc, p, r, factors, best)?;
     end_mark(alloc, p, r, best, branch, outcome)
 }
 
@@ -222,21 +221,21 @@ fn plain_rest(alloc: Global) -> Mark
 #[tactic(auto, using(crate::proofs::Signed::signed), unfolding(crate::specs::Table::rest_mark))]
 fn rest_mark(
     alloc: Global,
-    index: &ColumnIndex,
     p: &Program,
     r: &Region,
+    factors: &mut [i128],
     above: &Option<Rc<Dual>>,
 ) -> Result<Mark, AllocError>
     requires fit { IsFit p.now }
     requires in_box { IsInBox p.now (bounds_of r.now) }
-    requires index { IsIndexOf p.now index.now }
+    requires length { length factors.old ≡ length p.now.costs.items }
     requires dual { IfDual p.now (dual_of_rc above.now) }
     ensures { IfOk result (λ m. m ≡ rest_mark p.now (bounds_of r.now) (dual_of_rc above.now)) }
 {
     let Some(dual) = above else {
         return Ok(plain_rest(alloc));
     };
-    match weigh_by(index, p, r, dual.q, dual.weights.as_slice()) {
+    match weigh_over(p, r, dual.q, dual.weights.as_slice(), factors) {
         Ok(_) => {
             let weights = copy_weights(alloc, dual.weights.as_slice())?;
             Ok(Mark::Rest { q: dual.q, weights })
@@ -249,24 +248,24 @@ fn rest_mark(
 #[tactic(auto, using(crate::proofs::Signed::signed), unfolding(crate::specs::Table::table))]
 pub(crate) fn write_mark(
     alloc: Global,
-    index: &ColumnIndex,
     p: &Program,
     r: &Region,
+    factors: &mut [i128],
     above: &Option<Rc<Dual>>,
     best: u64,
     left: bool,
 ) -> Result<Written, AllocError>
     requires fit { IsFit p.now }
     requires in_box { IsInBox p.now (bounds_of r.now) }
-    requires index { IsIndexOf p.now index.now }
+    requires length { length factors.old ≡ length p.now.costs.items }
     requires dual { IfDual p.now (dual_of_rc above.now) }
     ensures mark { IfOk result (λ w. w.mark ≡ table p.now (record { region = bounds_of r.now; dual = dual_of_rc above.now }) best left) }
     ensures own { IfOk result (λ w. IfSplit w.mark (w.own ≡ own_dual p.now (bounds_of r.now) best)) }
     ensures narrow { IfOk result (λ w. IsNarrow w.mark) }
 {
     if left {
-        return work(alloc, index, p, r, best);
+        return work(alloc, p, r, factors, best);
     }
-    let mark = rest_mark(alloc, index, p, r, above)?;
+    let mark = rest_mark(alloc, p, r, factors, above)?;
     Ok(ended(mark))
 }

@@ -1,7 +1,6 @@
 //! The search.
 
 ghost use Rattle.std.specs.Prelude.{◌≡◌, ◌<◌, ◌≤◌, ◌+◌, ◌-◌, ◌^◌, ℕ, List, [], ◌∷◌, All, Bool, true, false, IfOk, IfSome, MatchOption, OnOk, cond, length, option_map, pos, reverse, vec_len, ◌≤ℤ◌, ◌<ℤ◌};
-ghost use Rattle.tetri_ip.specs.ColumnIndex.{IsIndexOf};
 ghost use Rattle.tetri_ip.specs.Points.{IsFit, IsInBox, IsPoint, bounds_of, box_of, objective};
 ghost use Rattle.tetri_cert.specs.declared.marks.Cell.{Cell};
 ghost use Rattle.tetri_cert.specs.Cells.{AreOfColumns, point_of};
@@ -22,7 +21,7 @@ use std::rc::Rc;
 use tetri_base::Items;
 use tetri_cert::{Mark, TreeFault, Turn, bound, point_of, turn_on};
 use tetri_compile::Compiled;
-use tetri_ip::{ColumnIndex, Program, Region};
+use tetri_ip::{Program, Region};
 
 /// A tree of a search, and what it comes to.
 #[derive(Drop)]
@@ -59,15 +58,15 @@ struct Grown {
 // Writes the mark of the next open node, whose weights were taken off, and goes on to the one behind it.
 fn visit(
     alloc: Global,
-    index: &ColumnIndex,
     p: &Program,
+    factors: &mut [i128],
     best: u64,
     left: bool,
     above: Option<Rc<Dual>>,
     front: &mut Front,
 ) -> Result<Mark, AllocError>
     requires fit { IsFit p.now }
-    requires index { IsIndexOf p.now index.now }
+    requires length { length factors.old ≡ length p.now.costs.items }
     requires at { IsOnRegion p.now front.old.region front.old.trail.items }
     requires dual { IfDual p.now (dual_of_rc above) }
     ensures mark { IfOk result (λ m. m ≡ table p.now (record { region = bounds_of front.old.region; dual = dual_of_rc above }) best left) }
@@ -82,7 +81,7 @@ fn visit(
     ensures room { OnOk result (vec_len front.new.duals ≤ vec_len front.old.duals + 2) }
     ensures still { left ≡ false → OnOk result (vec_len front.new.duals ≡ vec_len front.old.duals) }
 {
-    let Written { mark, own } = write_mark(alloc, index, p, &front.region, &above, best, left)?;
+    let Written { mark, own } = write_mark(alloc, p, &front.region, factors, &above, best, left)?;
     push_duals(alloc, &mut front.duals, own, above, &mark)?;
     turn_on(&mut front.region, &mut front.trail, &mark)?;
     Ok(mark)
@@ -107,8 +106,15 @@ fn count(used: u32, left: bool) -> u32
 }
 
 // Grows the tree, mark by mark.
-fn grow(alloc: Global, p: &Program, low: u64, budget: u32) -> Result<Grown, AllocError>
+fn grow(
+    alloc: Global,
+    p: &Program,
+    factors: &mut [i128],
+    low: u64,
+    budget: u32,
+) -> Result<Grown, AllocError>
     requires fit { IsFit p.now }
+    requires length { length factors.old ≡ length p.now.costs.items }
     requires lower { All (λ z. z ≡ pos 0) p.now.lower.items }
     requires bounded { most_gain p.now < 2 ^ 64 }
     ensures earned { IfOk result (λ g. IsEarned p.now low budget g.marks) }
@@ -117,7 +123,6 @@ fn grow(alloc: Global, p: &Program, low: u64, budget: u32) -> Result<Grown, Allo
     ensures plain { IfOk result (λ g. All IsPlain g.marks) }
     ensures short { (most : ℕ) → length p.now.costs.items ≤ most → length p.now.rows.items ≤ most → IfOk result (λ g. All (HasShortLists most) g.marks) }
 {
-    let index = ColumnIndex::new(alloc, p)?;
     let mut front = Front {
         region: Region::whole(alloc, p)?,
         trail: Vec::new(alloc),
@@ -129,7 +134,7 @@ fn grow(alloc: Global, p: &Program, low: u64, budget: u32) -> Result<Grown, Allo
     let mut used = 0;
     while let Some(above) = front.duals.pop() {
         let left = used < budget;
-        let mark = visit(alloc, &index, p, best, left, above, &mut front)?;
+        let mark = visit(alloc, p, factors, best, left, above, &mut front)?;
         best = better(best, &mark);
         used = count(used, left);
         marks.push(mark)?;
@@ -199,9 +204,11 @@ pub fn search(alloc: Global, c: &Compiled, low: u64, budget: u32) -> Result<Foun
         IfOk result (λ f. All (HasShortLists 2000) f.marks) }
 {
     let p = &c.program;
-    let Grown { marks, best, used } = grow(alloc, p, low, budget)?;
+    let columns = p.costs.len();
+    let mut factors = vec![in alloc; 0i128; columns]?;
+    let Grown { marks, best, used } = grow(alloc, p, &mut factors, low, budget)?;
     let bound = bound_of(alloc, p, low, budget, marks.as_slice())?;
-    let last = last_point(alloc, p.costs.len(), marks.as_slice())?;
+    let last = last_point(alloc, columns, marks.as_slice())?;
     Ok(Found {
         marks,
         last,

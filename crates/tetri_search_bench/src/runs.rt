@@ -2,15 +2,14 @@
 
 ghost use Rattle.std.specs.Prelude.{◌≡◌, ◌≤◌, ◌<◌, All, length, true};
 ghost use Rattle.tetri_cert.specs.NodeBounds.{HasSides};
-ghost use Rattle.tetri_ip.specs.ColumnIndex.{IsIndexOf};
 ghost use Rattle.tetri_ip.specs.Points.{IsBelow, IsFit, IsInBox, bounds_of};
 
 use std::alloc::Global;
 use std::io;
 use std::time::{CpuClock, Duration};
 use tetri_cert::{Mark, Turn, turn_on};
-use tetri_ip::{ColumnIndex, Program, Region};
-use tetri_simplex::dual_run_by;
+use tetri_ip::{Program, Region};
+use tetri_simplex::dual_run_over;
 
 // How long dual runs took, and how many they were.
 #[derive(Clone, Copy)]
@@ -79,7 +78,6 @@ fn better(best: u64, mark: &Mark) -> u64 {
 fn run_again(
     rt: &impl CpuClock,
     alloc: Global,
-    index: &ColumnIndex,
     p: &Program,
     r: &Region,
     best: u64,
@@ -87,10 +85,10 @@ fn run_again(
 ) -> io::Result<Runs>
     requires fit { IsFit p.now }
     requires in_box { IsInBox p.now (bounds_of r.now) }
-    requires index { IsIndexOf p.now index.now }
 {
+    let mut factors = vec![in alloc; 0i128; p.costs.len()]?;
     let start = rt.thread_cpu_time()?;
-    let _outcome = dual_run_by(alloc, index, p, r, best)?;
+    let _outcome = dual_run_over(alloc, p, r, &mut factors, best)?;
     let end = rt.thread_cpu_time()?;
     Ok(Runs {
         time: runs.time.saturating_add(end.saturating_sub(start)),
@@ -109,7 +107,6 @@ pub(crate) fn all_runs(
 ) -> io::Result<Runs>
     requires { IsFit p.now }
 {
-    let index = ColumnIndex::new(alloc, p)?;
     let mut region = Region::whole(alloc, p)?;
     let mut trail: Vec<Turn> = Vec::new(alloc);
     let mut best = low;
@@ -119,7 +116,7 @@ pub(crate) fn all_runs(
     };
     for mark in marks {
         if !is_rest(mark) && is_wide(&region) && is_in_box(p, &region) {
-            runs = run_again(rt, alloc, &index, p, &region, best, runs)?;
+            runs = run_again(rt, alloc, p, &region, best, runs)?;
         }
         best = better(best, mark);
         if !has_sides(&region, mark) {

@@ -28,7 +28,8 @@ use Rattle.tetri_simplex.specs.Choices.{leaving, leaving_from}
 use Rattle.tetri_simplex.specs.Ends.{value_at, point_from}
 use Rattle.tetri_simplex.specs.Relaxation.{IsRelaxedPoint, left_value, objective_value}
 use Rattle.tetri_simplex.specs.Start.{corner, slack_row, bound_rows, objective_row, first_rows, first_table}
-use Rattle.tetri_simplex.specs.Steps.{or_place, then_ok}
+use Rattle.tetri_simplex.specs.Steps.{or_place}
+use Rattle.tetri_base.specs.ResultSteps.{then_ok}
 use Rattle.tetri_simplex.specs.Tables.{Table, constant_of, objective_of, is_negative}
 use Rattle.std.proofs.lemmas.List.{length-map, map-append}
 use Rattle.std.proofs.lemmas.List.FromFn.{length-range_with_len}

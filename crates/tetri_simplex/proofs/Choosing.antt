@@ -13,10 +13,11 @@ use Rattle.tetri_num.specs.declared.places.Kind.TheVariants as Kind
 use Rattle.tetri_num.specs.declared.places.Place.{Place}
 use Rattle.tetri_num.specs.Checked.{checked_quotient}
 use Rattle.tetri_num.specs.Frac.{value}
-use Rattle.tetri_num.proofs.Values.{num-value}
+use Rattle.tetri_num.proofs.FractionLaws.{num-value}
 use Rattle.tetri_simplex.specs.declared.choices.Candidate.{Candidate}
 use Rattle.tetri_simplex.specs.Fractions.{values, rows_of}
-use Rattle.tetri_simplex.specs.Steps.{place_at, or_place, then_ok}
+use Rattle.tetri_simplex.specs.Steps.{place_at, or_place}
+use Rattle.tetri_base.specs.ResultSteps.{then_ok}
 use Rattle.tetri_simplex.specs.Tables.{coefficients_of, constant_of, is_negative, is_positive}
 use Rattle.tetri_simplex.specs.Choices.{lesser_place, leaving_from, lesser_ratio, entering_from, has_positive}
 use Rattle.tetri_simplex.specs.Candidates.{IsCandidate}

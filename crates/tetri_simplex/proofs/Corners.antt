@@ -10,7 +10,7 @@ use Rattle.tetri_algebra.specs.RingSolver.{var, minus, ring, ◌⊕◌, ◌⊗�
 use Rattle.tetri_algebra.specs.Sums.{dot, dot_from}
 use Rattle.tetri_ip.specs.Points.{Bounds, number_at, objective}
 use Rattle.tetri_ip.specs.Weighed.{bound_taken, columns_from, right_sum, column_sum, weighed}
-use Rattle.tetri_ip.proofs.Duality.{left_sum, dot_from-column_sum}
+use Rattle.tetri_ip.proofs.IntegerProgramLaws.{left_sum, dot_from-column_sum}
 use Rattle.tetri_simplex.proofs.Starting.{drop_more}
 use Rattle.tetri_ip.specs.declared.programs.Program.{Program}
 use Rattle.tetri_ip.specs.declared.programs.Row.{Row}

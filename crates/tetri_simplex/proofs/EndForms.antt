@@ -20,7 +20,8 @@ use Rattle.tetri_ip.specs.Points.{Bounds, number_at}
 use Rattle.tetri_ip.specs.Forming.{weigh_answer}
 use Rattle.tetri_simplex.specs.Ends.{End, past, then_end, common_denominator, whole_weights, when_weighed, weighted_end, weights_of, objective_weights, row_weights, value_at, point_from}
 use Rattle.tetri_simplex.specs.Fractions.{values}
-use Rattle.tetri_simplex.specs.Steps.{place_at, or_place, then_ok}
+use Rattle.tetri_simplex.specs.Steps.{place_at, or_place}
+use Rattle.tetri_base.specs.ResultSteps.{then_ok}
 use Rattle.tetri_simplex.specs.Tables.{Table, coefficients_of, constant_of, objective_of, row_at}
 use Rattle.tetri_simplex.proofs.Forming.{onto, onto_nil, onto_more, drop_past}
 use Rattle.tetri_simplex.proofs.Entries.{map_push}

@@ -10,10 +10,10 @@ use Rattle.tetri_num.specs.declared.places.Kind.TheVariants as Kind
 use Rattle.tetri_num.specs.declared.places.Place.{Place}
 use Rattle.tetri_num.specs.Checked.{checked_sum, checked_quotient}
 use Rattle.tetri_num.specs.Frac.{value}
-use Rattle.tetri_num.proofs.Fracs.{value_representable}
-use Rattle.tetri_num.proofs.Zeros.{checked_sum-zero_right, checked_product-zero_right, checked_product-zero_left}
+use Rattle.tetri_num.proofs.FractionLaws.{checked_product-zero_left, checked_product-zero_right, checked_sum-zero_right, value_representable}
 use Rattle.tetri_simplex.specs.Fractions.{values}
-use Rattle.tetri_simplex.specs.Steps.{place_at, or_place, then_ok, each, each_pair}
+use Rattle.tetri_simplex.specs.Steps.{place_at, or_place, each, each_pair}
+use Rattle.tetri_base.specs.ResultSteps.{then_ok}
 use Rattle.tetri_simplex.specs.Pivots.{column_of, solved_entry, solved_row, replaced_entry, replaced_row}
 use Rattle.tetri_simplex.proofs.Forming.{onto, onto_nil, each_next, each_stop, each_done, each_pair_set, each_pair_stop, each_pair_done, take_all}
 

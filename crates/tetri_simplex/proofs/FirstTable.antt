@@ -12,7 +12,7 @@ use Rattle.tetri_ip.specs.declared.programs.Program.{Program}
 use Rattle.tetri_ip.specs.declared.programs.Row.{Row}
 use Rattle.tetri_ip.specs.declared.programs.Term.{Term}
 use Rattle.tetri_ip.specs.Points.{Bounds, IsFit, IsFitRow, IsInBox, number_at, terms_of}
-use Rattle.tetri_ip.proofs.Steps.{terms_of_at, right_of_at}
+use Rattle.tetri_ip.proofs.IntegerProgramLaws.{terms_of_at, right_of_at}
 use Rattle.tetri_simplex.specs.declared.full.Full.{Full}
 use Rattle.tetri_simplex.specs.Fractions.{values, rows_of, AreWide}
 use Rattle.tetri_simplex.specs.Full.{IsShaped, table_of}

@@ -9,7 +9,7 @@ use lib.Signed.{lt_z}
 use Rattle.tetri_algebra.specs.IntegerRing.{ℤ_ring}
 use Rattle.tetri_algebra.specs.Rational.{whole_ℚ}
 use Rattle.tetri_algebra.specs.Sums.{dot, dot_from}
-use Rattle.tetri_ip.proofs.Duality.{dot_from-coefficient}
+use Rattle.tetri_ip.proofs.IntegerProgramLaws.{dot_from-coefficient}
 use Rattle.tetri_algebra.specs.RationalRing.{ℚ_ring, ◌+ℚ◌, ◌*ℚ◌, whole_ℚ-+ℤ, whole_ℚ-*ℤ}
 use Rattle.tetri_algebra.specs.RingSolver.{var, num, minus, ring, ◌⊕◌, ◌⊗◌}
 use Rattle.tetri_ip.specs.Points.{number_at, coefficient, left_side}

@@ -5,7 +5,8 @@ use Rattle.std.proofs.lemmas.List.{take_more_set, drop-set-lt}
 use Rattle.tetri_algebra.specs.Rational.{ℚ}
 use Rattle.tetri_algebra.specs.RationalRing.{zero_ℚ}
 use Rattle.tetri_num.specs.declared.places.Place.{Place}
-use Rattle.tetri_simplex.specs.Steps.{then_ok, each, each_pair}
+use Rattle.tetri_simplex.specs.Steps.{each, each_pair}
+use Rattle.tetri_base.specs.ResultSteps.{then_ok}
 
 -- what is left, behind what was formed
 abbrev pub onto : {A : Type 0} → List A → Result (List A) Place → Result (List A) Place

@@ -21,7 +21,7 @@ use Rattle.tetri_simplex.specs.Fractions.{values, rows_of}
 use Rattle.tetri_simplex.specs.Full.{table_of}
 use Rattle.tetri_simplex.specs.Machine.{next, by_entering}
 use Rattle.tetri_simplex.specs.Pivots.{pivoted, pivoted_rows}
-use Rattle.tetri_simplex.specs.Steps.{then_ok}
+use Rattle.tetri_base.specs.ResultSteps.{then_ok}
 use Rattle.tetri_simplex.specs.Tables.{Table, coefficients_of, row_at}
 use Rattle.tetri_simplex.proofs.TableRows.{row_of_table, take_front}
 

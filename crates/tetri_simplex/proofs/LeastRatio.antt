@@ -16,7 +16,8 @@ use Rattle.tetri_simplex.proofs.PivotKeeps.{then_ok_pair}
 use Rattle.tetri_simplex.proofs.PivotKeeps.{or_place_is, checked_product_is, recip_mul, above_within}
 use Rattle.tetri_simplex.proofs.Signs.{NotBelow, AtMost, not_less, less_at_most, at_most_trans, add_not_below, mul_not_below, recip_not_below, zero_not_below, not_above, above_sign}
 use Rattle.tetri_simplex.specs.Choices.{lesser_ratio, entering_from}
-use Rattle.tetri_simplex.specs.Steps.{then_ok, or_place}
+use Rattle.tetri_simplex.specs.Steps.{or_place}
+use Rattle.tetri_base.specs.ResultSteps.{then_ok}
 use Rattle.tetri_simplex.specs.Tables.{is_positive, is_less}
 
 pub at_most_refl : (p : ℚ) → AtMost p p

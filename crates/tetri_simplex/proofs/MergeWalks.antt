@@ -8,12 +8,12 @@ use Rattle.tetri_num.specs.declared.places.Kind.TheVariants as Kind
 use Rattle.tetri_num.specs.declared.places.Place.{Place}
 use Rattle.tetri_num.specs.Checked.{checked_product, checked_sum}
 use Rattle.tetri_num.specs.Frac.{value}
-use Rattle.tetri_num.proofs.Fracs.{value_representable}
-use Rattle.tetri_num.proofs.Zeros.{checked_sum-zero_left}
+use Rattle.tetri_num.proofs.FractionLaws.{checked_sum-zero_left, value_representable}
 use Rattle.tetri_simplex.specs.declared.lines.Entry.{Entry}
 use Rattle.tetri_simplex.specs.Pivots.{column_of, replaced_entry}
 use Rattle.tetri_simplex.specs.Sparse.{AreAscending, AreEntries, number_of, numbers_from, place_at}
-use Rattle.tetri_simplex.specs.Steps.{each_pair, or_place, place_at as the_place, then_ok}
+use Rattle.tetri_simplex.specs.Steps.{each_pair, or_place, place_at as the_place}
+use Rattle.tetri_base.specs.ResultSteps.{then_ok}
 use Rattle.tetri_simplex.proofs.SparsePivots.{column_is, merged_at, merged_stop, merged_zero, number_representable, plus_nothing}
 use Rattle.tetri_simplex.proofs.SparseRows.{above_from, entry_read, number_between, number_found}
 use Rattle.tetri_simplex.proofs.SparseWalks.{Formed, IsMerged, IsTaken, formed_push, formed_skip, merge_on, merge_to}

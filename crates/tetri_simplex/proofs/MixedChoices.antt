@@ -12,7 +12,8 @@ use Rattle.tetri_simplex.specs.declared.mixed.MixedRow.{MixedRow}
 use Rattle.tetri_simplex.specs.Candidates.{IsCandidate}
 use Rattle.tetri_simplex.specs.Choices.{lesser_place, leaving_from, lesser_ratio, entering_from, has_positive}
 use Rattle.tetri_simplex.specs.Mixed.{mixed_row, mixed_rows}
-use Rattle.tetri_simplex.specs.Steps.{place_at, or_place, then_ok}
+use Rattle.tetri_simplex.specs.Steps.{place_at, or_place}
+use Rattle.tetri_base.specs.ResultSteps.{then_ok}
 use Rattle.tetri_simplex.specs.Tables.{coefficients_of, constant_of, is_negative, is_positive}
 use Rattle.tetri_simplex.proofs.Choosing.{leaving_more, entering_more, coefficient_at}
 use Rattle.tetri_simplex.proofs.Forming.{drop_past}

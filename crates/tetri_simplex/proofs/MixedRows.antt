@@ -13,21 +13,19 @@ use Rattle.tetri_algebra.specs.Rational.{ℚ, fraction}
 use Rattle.tetri_algebra.specs.RationalRing.{zero_ℚ}
 use Rattle.tetri_num.specs.Checked.{IsRepresentable, checked_sum}
 use Rattle.tetri_num.specs.declared.places.Kind.TheVariants as Kind
-use Rattle.tetri_num.proofs.Zeros.{checked_sum-zero_right, checked_product-zero_left}
+use Rattle.tetri_num.proofs.FractionLaws.{checked_product-zero_left, checked_sum-zero_right, value_representable}
 use Rattle.tetri_num.specs.declared.fractions.Frac.{Frac}
 use Rattle.tetri_num.specs.Frac.{value}
-use Rattle.tetri_num.proofs.Fracs.{value_representable}
 use Rattle.tetri_rows.specs.Rows.{meaning, put_in, solved_for}
 use Rattle.tetri_rows.specs.Small.{IsSmall, IsShort, IsDenominator}
-use Rattle.tetri_rows.proofs.RowLaws.{small_numbers}
-use Rattle.tetri_rows.proofs.RowSigns.{negative_number, positive_number, zero_number, not_zero_number}
-use Rattle.tetri_rows.proofs.Words.{short_word}
+use Rattle.tetri_rows.proofs.RowLaws.{negative_number, not_zero_number, positive_number, short_word, small_numbers, zero_number}
 use Rattle.tetri_simplex.specs.declared.mixed.MixedRow.{MixedRow}
 use Rattle.tetri_simplex.specs.declared.mixed.MixedRow.TheVariants.{Whole, Fractions}
 use Rattle.tetri_simplex.specs.Fractions.{values}
 use Rattle.tetri_simplex.specs.Mixed.{mixed_row, AreWholeNumbers, IsMixedRow}
 use Rattle.tetri_simplex.specs.Pivots.{column_of, replaced_entry, replaced_row, solved_row}
-use Rattle.tetri_simplex.specs.Steps.{or_place, then_ok, each_pair}
+use Rattle.tetri_simplex.specs.Steps.{or_place, each_pair}
+use Rattle.tetri_base.specs.ResultSteps.{then_ok}
 use Rattle.tetri_simplex.specs.Tables.{is_negative, is_positive}
 use Rattle.tetri_simplex.proofs.Entries.{value_at_place}
 use Rattle.tetri_simplex.proofs.FullTables.{items_are}

@@ -8,9 +8,8 @@ use Rattle.tetri_algebra.specs.Rational.{ℚ}
 use Rattle.tetri_algebra.specs.RationalRing.{zero_ℚ, num-whole_ℚ, den-whole_ℚ}
 use Rattle.tetri_num.specs.declared.fractions.Frac.{Frac}
 use Rattle.tetri_num.specs.Frac.{value}
-use Rattle.tetri_num.specs.Range.{IsWithin}
-use Rattle.tetri_num.proofs.Short.{zero_den}
-use Rattle.tetri_num.proofs.Values.{num-value, value_is}
+use Rattle.tetri_algebra.specs.Range.{IsWithin}
+use Rattle.tetri_num.proofs.FractionLaws.{num-value, value_is, zero_den}
 
 pub number_read : (z : ℤ) → IsWithin z → to_z w128 (of_z w128 z) ≡ z
 number_read z h = to_z-of_z w128 z (fits_signed_from_abs w128 z h)

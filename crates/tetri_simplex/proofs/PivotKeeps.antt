@@ -15,7 +15,8 @@ use Rattle.tetri_num.specs.declared.places.Kind.{Kind}
 use Rattle.tetri_num.specs.declared.places.Place.{Place}
 use Rattle.tetri_simplex.proofs.Dots.{plus_scaled, negated, dot-solved, dot-replaced}
 use Rattle.tetri_simplex.specs.Pivots.{solved_row, replaced_row, pivoted, pivoted_rows, column_of}
-use Rattle.tetri_simplex.specs.Steps.{or_place, then_ok, each, each_pair}
+use Rattle.tetri_simplex.specs.Steps.{or_place, each, each_pair}
+use Rattle.tetri_base.specs.ResultSteps.{then_ok}
 use Rattle.tetri_simplex.specs.Tables.{Table, is_positive}
 use Rattle.std.proofs.lemmas.List.{length-map}
 

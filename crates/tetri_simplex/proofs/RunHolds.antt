@@ -11,7 +11,7 @@ use Rattle.tetri_algebra.specs.Integers.{mul_lt_cancel}
 use Rattle.tetri_algebra.specs.IntegerRing.{ℤ_ring}
 use Rattle.tetri_algebra.specs.Quotients.{div_below}
 use Rattle.tetri_algebra.specs.RingSolver.{var, ring, ◌⊗◌}
-use Rattle.tetri_num.specs.Range.{IsWithin}
+use Rattle.tetri_algebra.specs.Range.{IsWithin}
 use Rattle.tetri_ip.specs.Forming.{first_negative, weigh_answer}
 use Rattle.tetri_ip.specs.declared.programs.WeighFault.{WeighFault}
 use Rattle.tetri_ip.specs.declared.programs.WeighFault.TheVariants.{Negative, Past}
@@ -39,7 +39,7 @@ use Rattle.tetri_simplex.specs.Ends.{End, best, cut, empty, past, long, cut_end,
 use Rattle.tetri_simplex.proofs.WholeWeights.{AreNotBelow, common_denominator_is}
 use Rattle.tetri_simplex.specs.Machine.{Turn, ends, leaves, run, turn, by_leaving, next, by_entering, at_step, machine}
 use Rattle.tetri_simplex.specs.Start.{first_table}
-use Rattle.tetri_simplex.specs.Steps.{then_ok}
+use Rattle.tetri_base.specs.ResultSteps.{then_ok}
 use Rattle.tetri_simplex.specs.Tables.{Table, coefficients_of, is_negative, objective_of, constant_of}
 
 -- ---- the leaving place

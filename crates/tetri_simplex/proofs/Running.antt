@@ -13,7 +13,7 @@ use Rattle.tetri_simplex.specs.Ends.{End, past, long, is_cut, cut_end, best_end,
 use Rattle.tetri_simplex.specs.Machine.{Turn, ends, leaves, turn, by_leaving, next, by_entering, at_step, run, machine}
 use Rattle.tetri_simplex.specs.Pivots.{pivoted, pivoted_rows}
 use Rattle.tetri_simplex.specs.Start.{first_table}
-use Rattle.tetri_simplex.specs.Steps.{then_ok}
+use Rattle.tetri_base.specs.ResultSteps.{then_ok}
 use Rattle.tetri_simplex.proofs.Forming.{then_ok_is}
 use Rattle.tetri_simplex.specs.Turns.{GoesOn, HasPlaces}
 

@@ -14,11 +14,8 @@ use Rattle.tetri_num.specs.declared.fractions.Frac.{Frac}
 use Rattle.tetri_num.specs.Checked.{IsRepresentable, checked_product, checked_sum}
 use Rattle.tetri_num.specs.Forms.{common, product_den, product_num, product_numbers, sum_den, sum_numbers, sum_total}
 use Rattle.tetri_num.specs.Frac.{value}
-use Rattle.tetri_num.specs.Range.{AreWithin, IsWithin}
-use Rattle.tetri_num.proofs.Checks.{value_within_some}
-use Rattle.tetri_num.proofs.Common.{common-one, quotient_within, within_along}
-use Rattle.tetri_num.proofs.Short.{at_side}
-use Rattle.tetri_num.proofs.Values.{value_is, within_negated}
+use Rattle.tetri_algebra.specs.Range.{AreWithin, IsWithin}
+use Rattle.tetri_num.proofs.FractionLaws.{at_side, common-one, quotient_within, value_is, value_within_some, within_along, within_negated}
 
 -- ---- 1 and -1
 pub one_is : (x : Frac) → x.num ≡ pos 1 → x.den ≡ pos 1 → value x ≡ one_ℚ

@@ -14,7 +14,8 @@ use Rattle.tetri_rows.specs.Small.{IsSmall}
 use Rattle.tetri_rows.specs.Rows.{plus_multiple, put_in, minus_quotients, solved_for}
 use Rattle.tetri_rows.proofs.RowLaws.{product_of_small, sum_of_small, quotient_of_small, negative_of_small, small_whole}
 use Rattle.tetri_simplex.specs.Pivots.{column_of, solved_entry, solved_row, replaced_entry, replaced_row}
-use Rattle.tetri_simplex.specs.Steps.{or_place, then_ok, each, each_pair}
+use Rattle.tetri_simplex.specs.Steps.{or_place, each, each_pair}
+use Rattle.tetri_base.specs.ResultSteps.{then_ok}
 
 small_zero : IsSmall zero_ℚ
 small_zero = small_whole (pos 0) (omega arith)

@@ -17,7 +17,8 @@ use Rattle.tetri_simplex.specs.declared.lines.Entry.{Entry}
 use Rattle.tetri_simplex.specs.declared.lines.Line.{Line}
 use Rattle.tetri_simplex.specs.Choices.{entering_from, has_positive, leaving_from, lesser_place, lesser_ratio}
 use Rattle.tetri_simplex.specs.Sparse.{AreAscending, AreEntries, lines_of, line_of, number_at, number_of, numbers_from, place_at}
-use Rattle.tetri_simplex.specs.Steps.{place_at as the_place, or_place, then_ok}
+use Rattle.tetri_simplex.specs.Steps.{place_at as the_place, or_place}
+use Rattle.tetri_base.specs.ResultSteps.{then_ok}
 use Rattle.tetri_simplex.specs.Tables.{constant_of, is_negative, is_positive}
 use Rattle.tetri_simplex.proofs.Choosing.{entering_more, leaving_more}
 use Rattle.tetri_simplex.proofs.Forming.{drop_past}

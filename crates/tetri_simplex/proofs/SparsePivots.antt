@@ -12,9 +12,8 @@ use Rattle.tetri_num.specs.declared.places.Place.{Place}
 use Rattle.tetri_num.specs.declared.fractions.Frac.{Frac}
 use Rattle.tetri_num.specs.Checked.{IsRepresentable, checked_sum, checked_quotient}
 use Rattle.tetri_num.specs.Frac.{value}
-use Rattle.tetri_num.specs.Range.{IsWithin}
-use Rattle.tetri_num.proofs.Fracs.{value_representable}
-use Rattle.tetri_num.proofs.Zeros.{checked_sum-zero_right, checked_product-zero_right, checked_product-zero_left, checked_quotient-zero}
+use Rattle.tetri_algebra.specs.Range.{IsWithin}
+use Rattle.tetri_num.proofs.FractionLaws.{checked_product-zero_left, checked_product-zero_right, checked_quotient-zero, checked_sum-zero_right, value_representable}
 use Rattle.tetri_simplex.specs.declared.fault.PivotFault.{PivotFault}
 use Rattle.tetri_simplex.specs.declared.fault.PivotFault.TheVariants.{Past, NoMemory}
 use Rattle.tetri_simplex.specs.declared.lines.Entry.{Entry}
@@ -22,7 +21,8 @@ use Rattle.tetri_simplex.specs.declared.lines.Line.{Line}
 use Rattle.tetri_simplex.specs.Faults.{IsFault}
 use Rattle.tetri_simplex.specs.Pivots.{column_of, solved_entry, solved_row, replaced_entry, replaced_row, next_row, pivoted_rows}
 use Rattle.tetri_simplex.specs.Sparse.{AreAscending, AreEntries, AreLines, line_of, lines_of, number_of, numbers_from, place_at}
-use Rattle.tetri_simplex.specs.Steps.{place_at as the_place, or_place, then_ok, each, each_pair}
+use Rattle.tetri_simplex.specs.Steps.{place_at as the_place, or_place, each, each_pair}
+use Rattle.tetri_base.specs.ResultSteps.{then_ok}
 use Rattle.tetri_simplex.proofs.SparseRows.{coefficient_get, coefficients_err, coefficients_ok, entry_read, number_absent, number_found, numbers_cleared, numbers_length, pairs_err, pairs_ok}
 use Rattle.tetri_simplex.proofs.SparseWalks.{ArePlaces, Formed, IsZeroElsewhere}
 use Rattle.tetri_simplex.proofs.TableRows.{rest_of, rest_next, rest_own, rest_stop, rest_done, other_row, own_row, pivoted_is, pivoted_stop}

@@ -9,7 +9,8 @@ use Rattle.tetri_num.specs.declared.places.Place.{Place}
 use Rattle.tetri_num.specs.Frac.{value}
 use Rattle.tetri_simplex.specs.declared.lines.Entry.{Entry}
 use Rattle.tetri_simplex.specs.Sparse.{AreAscending, AreEntries, number_at, number_of, numbers_from, place_at}
-use Rattle.tetri_simplex.specs.Steps.{then_ok, each, each_pair}
+use Rattle.tetri_simplex.specs.Steps.{each, each_pair}
+use Rattle.tetri_base.specs.ResultSteps.{then_ok}
 use Rattle.tetri_simplex.proofs.PivotKeeps.{other}
 
 -- ---- one entry

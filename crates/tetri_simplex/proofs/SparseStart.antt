@@ -13,7 +13,7 @@ use Rattle.tetri_num.specs.Frac.{value}
 use Rattle.tetri_ip.specs.declared.programs.Program.{Program}
 use Rattle.tetri_ip.specs.declared.programs.Term.{Term}
 use Rattle.tetri_ip.specs.Points.{Bounds, IsFit, IsFitRow, IsInBox, coefficient, column_at, number_at, term_at}
-use Rattle.tetri_ip.proofs.Coefficients.{coefficient_absent, coefficient_at}
+use Rattle.tetri_ip.proofs.IntegerProgramLaws.{coefficient_absent, coefficient_at}
 use Rattle.tetri_simplex.specs.declared.lines.Entry.{Entry}
 use Rattle.tetri_simplex.specs.declared.lines.Line.{Line}
 use Rattle.tetri_simplex.specs.declared.sparse.Sparse.{Sparse}

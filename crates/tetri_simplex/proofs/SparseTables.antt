@@ -18,7 +18,7 @@ use Rattle.tetri_simplex.specs.Choices.{entering, entering_from, has_positive, l
 use Rattle.tetri_simplex.specs.Faults.{IsFault}
 use Rattle.tetri_simplex.specs.Pivots.{pivoted, pivoted_rows}
 use Rattle.tetri_simplex.specs.Sparse.{AreEntries, AreLines, IsSparse, line_of, lines_of, number_of, numbers_from, table_of}
-use Rattle.tetri_simplex.specs.Steps.{then_ok}
+use Rattle.tetri_base.specs.ResultSteps.{then_ok}
 use Rattle.tetri_simplex.specs.Tables.{Table, coefficients_of, constant_of, is_positive, row_at}
 use Rattle.tetri_simplex.proofs.Choosing.{coefficient_at}
 use Rattle.tetri_simplex.proofs.FullTables.{items_are}

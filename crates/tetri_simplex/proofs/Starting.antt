@@ -16,12 +16,11 @@ use Rattle.tetri_algebra.specs.Sums.{dot}
 use Rattle.tetri_algebra.specs.Rational.{whole_ℚ}
 use Rattle.tetri_num.specs.declared.fractions.Frac.{Frac}
 use Rattle.tetri_num.specs.Frac.{value}
-use Rattle.tetri_num.specs.Range.{IsWithin}
+use Rattle.tetri_algebra.specs.Range.{IsWithin}
 use Rattle.tetri_ip.specs.declared.programs.Program.{Program}
 use Rattle.tetri_ip.specs.declared.programs.Term.{Term}
 use Rattle.tetri_ip.specs.Points.{Bounds, IsFitRow, IsInBox, coefficient, column_at, cost_reach, left_side, number_at, size_at, sizes}
-use Rattle.tetri_ip.proofs.Coefficients.{coefficient_absent, coefficient_at}
-use Rattle.tetri_ip.proofs.Sides.{AddsTerm, sizes-reach}
+use Rattle.tetri_ip.proofs.IntegerProgramLaws.{AddsTerm, coefficient_absent, coefficient_at, sizes-reach}
 use Rattle.tetri_simplex.specs.Fractions.{values}
 use Rattle.tetri_simplex.specs.Start.{IsStart, corner, direction, start_at, slack_from, minus_one_at}
 use Rattle.tetri_simplex.proofs.Entries.{map_push}

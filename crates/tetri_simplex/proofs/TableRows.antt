@@ -12,7 +12,8 @@ use Rattle.tetri_algebra.specs.Rational.{ℚ}
 use Rattle.tetri_num.specs.declared.fractions.Frac.{Frac}
 use Rattle.tetri_num.specs.declared.places.Place.{Place}
 use Rattle.tetri_simplex.specs.Fractions.{values, rows_of, AreWide}
-use Rattle.tetri_simplex.specs.Steps.{then_ok, each}
+use Rattle.tetri_simplex.specs.Steps.{each}
+use Rattle.tetri_base.specs.ResultSteps.{then_ok}
 use Rattle.tetri_simplex.specs.Pivots.{solved_row, replaced_row, next_row, pivoted_rows}
 use Rattle.tetri_simplex.proofs.Forming.{onto, onto_nil, each_next, each_stop, each_done, take_all}
 

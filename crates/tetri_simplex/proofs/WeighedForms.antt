@@ -13,7 +13,7 @@ use Rattle.tetri_ip.specs.declared.programs.WeighFault.TheVariants.{Negative}
 use Rattle.tetri_ip.specs.Forming.{first_negative, form_column, form_columns, form_right, or_past, unless_negative, weigh_answer}
 use Rattle.tetri_ip.specs.Points.{Bounds}
 use Rattle.tetri_ip.specs.Weighed.{weighed}
-use Rattle.tetri_ip.proofs.Formed.{weighed_where_formed}
+use Rattle.tetri_ip.proofs.IntegerProgramLaws.{weighed_where_formed}
 use Rattle.tetri_simplex.proofs.WeightSigns.{AreRowWeights}
 
 pub none_negative : (n : ℕ) (ws : List Weight) → AreRowWeights n ws → first_negative ws ≡ None

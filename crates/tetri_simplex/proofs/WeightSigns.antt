@@ -7,18 +7,18 @@ use Prim.Native.Nat.{zero, suc}
 use lib.IntN.{ℤ, pos, ◌*ℤ◌}
 use Rattle.tetri_algebra.specs.Gcd.{lcm_of}
 use Rattle.tetri_algebra.specs.Rational.{ℚ}
-use Rattle.tetri_num.specs.Range.{IsWithin, is_within}
+use Rattle.tetri_algebra.specs.Range.{IsWithin, is_within}
 use Rattle.tetri_num.specs.declared.places.Kind.TheVariants as Kind
 use Rattle.tetri_num.specs.declared.places.Place.{Place}
-use Rattle.tetri_ip.specs.ColumnIndex.{WeightsAscend}
-use Rattle.tetri_ip.specs.Weighed.{AreNotNegative, AreOfRows}
+use Rattle.tetri_ip.specs.Weighed.{AreNotNegative, AreOfRows, WeightsAscend}
 use Rattle.tetri_ip.specs.declared.programs.Program.{Program}
 use Rattle.tetri_ip.specs.declared.programs.Weight.{Weight}
 use Rattle.tetri_simplex.proofs.PivotKeeps.{then_ok_pair}
 use Rattle.tetri_simplex.proofs.Signs.{times_not_below}
 use Rattle.tetri_simplex.proofs.WholeWeights.{AreNotBelow}
 use Rattle.tetri_simplex.specs.Ends.{common_denominator, weights_of, whole_weights, with_weight}
-use Rattle.tetri_simplex.specs.Steps.{place_at, then_ok}
+use Rattle.tetri_simplex.specs.Steps.{place_at}
+use Rattle.tetri_base.specs.ResultSteps.{then_ok}
 
 -- not below 0, and of one of n rows
 abbrev pub IsRowWeight : ℕ → Weight → Type 0

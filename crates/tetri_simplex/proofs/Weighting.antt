@@ -16,10 +16,9 @@ use Rattle.tetri_algebra.specs.RationalRing.{zero_ℚ, neg_ℚ, positive_product
 use Rattle.tetri_num.specs.declared.fractions.Frac.{Frac}
 use Rattle.tetri_num.specs.declared.places.Kind.TheVariants as Kind
 use Rattle.tetri_num.specs.declared.places.Place.{Place}
-use Rattle.tetri_num.specs.Range.{IsWithin, is_within}
+use Rattle.tetri_algebra.specs.Range.{IsWithin, is_within}
 use Rattle.tetri_num.specs.Frac.{value}
-use Rattle.tetri_num.proofs.Values.{num-value, den-value}
-use Rattle.tetri_num.proofs.Common.{quotient_within}
+use Rattle.tetri_num.proofs.FractionLaws.{den-value, num-value, quotient_within}
 use borrow.Author.Tests.{ltb-true}
 use mir.Val.{to_z, of_z}
 use mir.Syntax.{w128}
@@ -27,7 +26,8 @@ use Rattle.tetri_simplex.proofs.Numbers.{number_read}
 use Rattle.tetri_ip.specs.declared.programs.Weight.{Weight}
 use Rattle.tetri_ip.specs.Forming.{within}
 use Rattle.tetri_simplex.specs.Fractions.{values}
-use Rattle.tetri_simplex.specs.Steps.{place_at, then_ok}
+use Rattle.tetri_simplex.specs.Steps.{place_at}
+use Rattle.tetri_base.specs.ResultSteps.{then_ok}
 use Rattle.tetri_simplex.specs.Ends.{coefficient_of, weights_of, common_denominator, with_weight, whole_weights}
 use Rattle.tetri_simplex.proofs.Forming.{onto, drop_past}
 use Rattle.tetri_simplex.proofs.Entries.{value_at_place, map_push}

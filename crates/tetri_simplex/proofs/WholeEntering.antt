@@ -10,8 +10,7 @@ use Rattle.tetri_algebra.specs.RationalRing.{zero_ℚ, neg_ℚ}
 use Rattle.tetri_algebra.specs.RationalReciprocal.{◌/ℚ◌}
 use Rattle.tetri_rows.specs.Rows.{meaning}
 use Rattle.tetri_rows.specs.Small.{IsSmall, IsShort, IsDenominator}
-use Rattle.tetri_rows.proofs.RowLaws.{small_numbers, quotient_of_small, negative_of_small}
-use Rattle.tetri_rows.proofs.RowSigns.{positive_number, test_of}
+use Rattle.tetri_rows.proofs.RowLaws.{negative_of_small, positive_number, quotient_of_small, small_numbers, test_of}
 use Rattle.tetri_simplex.specs.declared.choices.Candidate.{Candidate}
 use Rattle.tetri_simplex.specs.Candidates.{IsCandidate}
 use Rattle.tetri_simplex.specs.Choices.{lesser_place, lesser_ratio}

@@ -12,7 +12,7 @@ use Rattle.tetri_algebra.specs.RationalRing.{zero_ℚ}
 use Rattle.tetri_num.specs.Frac.{value}
 use Rattle.tetri_rows.specs.Small.{IsShort, IsDenominator}
 use Rattle.tetri_rows.specs.Rows.{meaning}
-use Rattle.tetri_rows.proofs.Meanings.{zero_fraction}
+use Rattle.tetri_rows.proofs.RowLaws.{zero_fraction}
 use Rattle.tetri_simplex.specs.declared.lines.Entry.{Entry}
 use Rattle.tetri_simplex.specs.declared.lines.Line.{Line}
 use Rattle.tetri_simplex.specs.declared.mixed.MixedRow.{MixedRow}

@@ -17,7 +17,7 @@ use Rattle.tetri_simplex.specs.Holders.{AreHolders}
 use Rattle.tetri_simplex.specs.Faults.{IsFault}
 use Rattle.tetri_simplex.specs.Mixed.{mixed_row, mixed_rows, IsMixedRow, AreMixedRows}
 use Rattle.tetri_simplex.specs.Pivots.{pivoted, pivoted_rows}
-use Rattle.tetri_simplex.specs.Steps.{then_ok}
+use Rattle.tetri_base.specs.ResultSteps.{then_ok}
 use Rattle.tetri_simplex.specs.Tables.{Table, coefficients_of, constant_of, row_at}
 use Rattle.tetri_simplex.specs.Whole.{IsWhole, table_of}
 use Rattle.tetri_simplex.proofs.Choosing.{coefficient_at}

@@ -1,7 +1,7 @@
 -- Weights brought to whole numbers.
 use Rattle.std.proofs.Common.{◌≡◌, ℕ, ◌+◌, ◌*◌, ◌/◌, ◌^◌, ◌<◌, refl, sym, ap, ◌∙◌, subst, arith, List, [], ◌∷◌, Ok, Err, Bool, true, false, cond, eqb}
 use Rattle.std.specs.Prelude.{nat_lt, unsigned_abs}
-use Rattle.tetri_num.specs.Range.{is_within}
+use Rattle.tetri_algebra.specs.Range.{is_within}
 use Prim.Native.Nat.{zero, suc, ◌∣◌}
 use Rattle.std.proofs.Math.Nat.{dvd_trans, dvd-mul_left, dvd-mul_right, div-mul_cancel, mul-div_cancel', mul_assoc, dvd_refl}
 use Rattle.std.proofs.lemmas.Bool.{eqb-true}
@@ -14,7 +14,7 @@ use Rattle.tetri_algebra.specs.Rational.{fraction-one, ℚ, whole_ℚ, fraction,
 use Rattle.tetri_algebra.specs.RationalRing.{ℚ_ring, zero_ℚ, mul-fraction, positive_product, ◌+ℚ◌, ◌*ℚ◌, whole_ℚ-+ℤ, whole_ℚ-*ℤ}
 use Rattle.tetri_algebra.specs.RingSolver.{var, num, nil, minus, ring, ◌⊕◌, ◌⊗◌}
 use Rattle.tetri_ip.specs.Points.{left_side, terms_of, right_of}
-use Rattle.tetri_ip.proofs.Duality.{left_sum}
+use Rattle.tetri_ip.proofs.IntegerProgramLaws.{left_sum}
 use Rattle.tetri_ip.specs.Weighed.{right_sum}
 use Rattle.tetri_ip.specs.declared.programs.Row.{Row}
 use Rattle.tetri_ip.specs.declared.programs.Weight.{Weight}
@@ -23,7 +23,7 @@ use Rattle.tetri_simplex.proofs.Corners.{slack_sum}
 use Rattle.tetri_simplex.proofs.PivotKeeps.{then_ok_pair}
 use Rattle.tetri_simplex.proofs.Signs.{NotBelow}
 use Rattle.tetri_simplex.specs.Ends.{common_denominator, whole_weights, with_weight}
-use Rattle.tetri_simplex.specs.Steps.{then_ok}
+use Rattle.tetri_base.specs.ResultSteps.{then_ok}
 
 -- ---- the least common multiple
 lcm_right : (a b : ℕ) → b ∣ lcm_of a b

@@ -5,13 +5,12 @@ use lib.IntN.{ℤ}
 use Rattle.tetri_algebra.specs.Rational.{ℚ, whole_ℚ}
 use Rattle.tetri_algebra.specs.RationalRing.{◌*ℚ◌}
 use Rattle.tetri_algebra.specs.RationalOrder.{floor_ℚ}
-use Rattle.tetri_num.specs.Range.{IsWithin}
+use Rattle.tetri_algebra.specs.Range.{IsWithin}
 use Rattle.tetri_ip.specs.declared.programs.Program.{Program}
 use Rattle.tetri_ip.specs.declared.programs.Weight.{Weight}
-use Rattle.tetri_ip.specs.ColumnIndex.{WeightsAscend}
 use Rattle.tetri_ip.specs.Forming.{weigh_answer}
 use Rattle.tetri_ip.specs.Points.{Bounds}
-use Rattle.tetri_ip.specs.Weighed.{AreNotNegative, AreOfRows, weighed}
+use Rattle.tetri_ip.specs.Weighed.{AreNotNegative, AreOfRows, WeightsAscend, weighed}
 use Rattle.tetri_simplex.specs.Ends.{End, best, cut, empty, past, long}
 use Rattle.tetri_simplex.specs.Relaxation.{IsRelaxedPoint, objective_value}
 

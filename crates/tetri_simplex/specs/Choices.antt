@@ -6,7 +6,8 @@ use Rattle.tetri_num.specs.Checked.{checked_quotient}
 use Rattle.tetri_num.specs.declared.places.Kind.TheVariants as Kind
 use Rattle.tetri_num.specs.declared.places.Place.{Place}
 use Rattle.tetri_simplex.specs.Tables.{Table, row_at, objective_of, constant_of, coefficients_of, is_negative, is_positive, is_less}
-use Rattle.tetri_simplex.specs.Steps.{or_place, then_ok}
+use Rattle.tetri_simplex.specs.Steps.{or_place}
+use Rattle.tetri_base.specs.ResultSteps.{then_ok}
 
 -- ---- the leaving place
 -- the place of the lesser variable: the best so far, or place k

@@ -6,7 +6,7 @@ use Rattle.tetri_algebra.specs.Gcd.{lcm_of}
 use Rattle.tetri_algebra.specs.Rational.{ℚ, whole_ℚ}
 use Rattle.tetri_algebra.specs.RationalRing.{zero_ℚ, neg_ℚ}
 use Rattle.tetri_algebra.specs.RationalOrder.{floor_ℚ}
-use Rattle.tetri_num.specs.Range.{is_within}
+use Rattle.tetri_algebra.specs.Range.{is_within}
 use Rattle.tetri_num.specs.Checked.{checked_sum, checked_difference}
 use Rattle.tetri_num.specs.declared.places.Kind.TheVariants as Kind
 use Rattle.tetri_num.specs.declared.places.Place.{Place}
@@ -17,7 +17,8 @@ use Rattle.tetri_ip.specs.declared.programs.WeighFault.TheVariants.{Negative, Pa
 use Rattle.tetri_ip.specs.Points.{Bounds}
 use Rattle.tetri_ip.specs.Forming.{weigh_answer}
 use Rattle.tetri_simplex.specs.Tables.{Table, row_at, objective_of, constant_of, coefficients_of}
-use Rattle.tetri_simplex.specs.Steps.{place_at, or_place, then_ok}
+use Rattle.tetri_simplex.specs.Steps.{place_at, or_place}
+use Rattle.tetri_base.specs.ResultSteps.{then_ok}
 
 pub data End : Type 0 where
   best : List ℚ → ℤ → List Weight → End

@@ -6,7 +6,7 @@ use Rattle.tetri_num.specs.declared.places.Place.{Place}
 use Rattle.tetri_ip.specs.declared.programs.Program.{Program}
 use Rattle.tetri_ip.specs.Points.{Bounds}
 use Rattle.tetri_simplex.specs.Tables.{Table, row_at, coefficients_of}
-use Rattle.tetri_simplex.specs.Steps.{then_ok}
+use Rattle.tetri_base.specs.ResultSteps.{then_ok}
 use Rattle.tetri_simplex.specs.Start.{first_table}
 use Rattle.tetri_simplex.specs.Pivots.{pivoted}
 use Rattle.tetri_simplex.specs.Choices.{leaving, entering, has_positive}

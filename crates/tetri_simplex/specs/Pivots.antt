@@ -8,7 +8,8 @@ use Rattle.tetri_num.specs.Checked.{checked_sum, checked_product, checked_quotie
 use Rattle.tetri_num.specs.declared.places.Kind.TheVariants as Kind
 use Rattle.tetri_num.specs.declared.places.Place.{Place}
 use Rattle.tetri_simplex.specs.Tables.{Table}
-use Rattle.tetri_simplex.specs.Steps.{or_place, then_ok, each, each_pair}
+use Rattle.tetri_simplex.specs.Steps.{or_place, each, each_pair}
+use Rattle.tetri_base.specs.ResultSteps.{then_ok}
 
 -- the column that a place names for a row's entry, with n nonbasic places: n for the constant, which stands first
 abbrev pub column_of : ℕ → ℕ → ℕ

@@ -1,6 +1,7 @@
 -- What is formed one by one, up to the first number that leaves the range.
 use Rattle.std.specs.Prelude.{ℕ, ◌+◌, List, [], ◌∷◌, Option, Some, None, Result, Ok, Err}
 use Rattle.tetri_algebra.specs.Rational.{ℚ}
+use Rattle.tetri_base.specs.ResultSteps.{then_ok}
 use Rattle.tetri_algebra.specs.RationalRing.{zero_ℚ}
 use Rattle.tetri_num.specs.declared.places.Kind.{Kind}
 use Rattle.tetri_num.specs.declared.places.Place.{Place}
@@ -13,10 +14,6 @@ place_at k i j = record { kind = k; step = 0; row = i; column = j }
 abbrev pub or_place : {A : Type 0} → Option A → Kind → ℕ → ℕ → Result A Place
 or_place None k i j = Err (place_at k i j)
 or_place (Some x) k i j = Ok x
-
-abbrev pub then_ok : {A B : Type 0} → Result A Place → (A → Result B Place) → Result B Place
-then_ok (Err e) f = Err e
-then_ok (Ok x) f = f x
 
 -- each of a list in turn, counted from k
 abbrev pub each : {A B : Type 0} → (ℕ → A → Result B Place) → ℕ → List A → Result (List B) Place

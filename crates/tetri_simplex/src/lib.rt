@@ -32,6 +32,6 @@ pub use fault::PivotFault;
 pub use full::Full;
 pub use laws::{ends_certify, relaxed_points};
 pub use outcome::Outcome;
-pub use run::{dual_run, dual_run_by, run_on};
+pub use run::{dual_run, dual_run_over, run_on};
 pub use sparse::Sparse;
 pub use whole::Whole;

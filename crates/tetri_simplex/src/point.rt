@@ -5,7 +5,7 @@ ghost use lib.Signed.{lt_z};
 ghost use Rattle.tetri_algebra.specs.Rational.{whole_ℚ};
 ghost use Rattle.tetri_num.specs.Checked.{checked_sum, checked_difference};
 ghost use Rattle.tetri_num.specs.Frac.{value};
-ghost use Rattle.tetri_num.specs.Range.{IsWithin};
+ghost use Rattle.tetri_algebra.specs.Range.{IsWithin};
 ghost use Rattle.tetri_ip.specs.Points.{IsFit, IsInBox, bounds_of};
 ghost use Rattle.tetri_simplex.specs.Ends.{value_at, point_from};
 ghost use Rattle.tetri_simplex.specs.Faults.{IsFault};

@@ -2,7 +2,6 @@
 //! dictionaries of exact fractions (Chvátal, Linear Programming, 1983).
 
 ghost use Rattle.std.specs.Prelude.{◌≡◌, ◌+◌, ◌-◌, ◌<◌, length, Ok, MatchResult, IfOk, IfSome, IfNone};
-ghost use Rattle.tetri_ip.specs.ColumnIndex.{IsIndexOf};
 ghost use Rattle.tetri_ip.specs.Points.{IsFit, IsInBox, bounds_of};
 ghost use Rattle.tetri_simplex.specs.Certificates.{Certifies};
 ghost use Rattle.tetri_simplex.specs.Ends.{End, is_cut};
@@ -17,7 +16,7 @@ use crate::fault::PivotFault;
 use crate::outcome::Outcome;
 use crate::whole::Whole;
 use std::alloc::{AllocError, Global};
-use tetri_ip::{ColumnIndex, Program, Region};
+use tetri_ip::{Program, Region};
 use tetri_num::Place;
 
 // The most pivots of a run.
@@ -58,30 +57,30 @@ fn is_cut<D: Dictionary>(p: &Program, known: u64, d: &D) -> bool
 
 fn turn<D: Dictionary>(
     alloc: Global,
-    index: &ColumnIndex,
     p: &Program,
     r: &Region,
+    factors: &mut [i128],
     known: u64,
     d: &D,
 ) -> Result<Decision, AllocError>
     requires fit { IsFit p.now }
     requires in_box { IsInBox p.now (bounds_of r.now) }
-    requires index { IsIndexOf p.now index.now }
+    requires length { length factors.old ≡ length p.now.costs.items }
     requires sound { D.is_sound d.now }
     requires places { HasPlaces p.now (D.table d.now) }
     ensures formed { IfOk result (λ u. turn_of u ≡ turn p.now (bounds_of r.now) known (D.table d.now)) }
     ensures leaves { IfOk result (λ u. LeavesWithin (length (D.table d.now).basic) u) }
 {
     if is_cut(p, known, d) {
-        return ended(cut_end(alloc, index, p, r, d));
+        return ended(cut_end(alloc, p, r, factors, d));
     }
     let Some(i) = d.leaving() else {
-        return ended(best_end(alloc, index, p, r, d));
+        return ended(best_end(alloc, p, r, factors, d));
     };
     if d.rises(i) {
         Ok(Decision::Leaves(i))
     } else {
-        ended(empty_end(alloc, index, p, r, d, i))
+        ended(empty_end(alloc, p, r, factors, d, i))
     }
 }
 
@@ -118,16 +117,16 @@ fn at_step(outcome: Outcome, step: u32) -> Outcome
 // One step of a run: how it ends, or the next table.
 fn advance<D: Dictionary>(
     alloc: Global,
-    index: &ColumnIndex,
     p: &Program,
     r: &Region,
+    factors: &mut [i128],
     known: u64,
     step: u32,
     d: &mut D,
 ) -> Result<Option<Outcome>, AllocError>
     requires fit { IsFit p.now }
     requires in_box { IsInBox p.now (bounds_of r.now) }
-    requires index { IsIndexOf p.now index.now }
+    requires length { length factors.old ≡ length p.now.costs.items }
     requires sound { D.is_sound d.old }
     requires places { HasPlaces p.now (D.table d.old) }
     requires step { step < 10001 }
@@ -135,7 +134,7 @@ fn advance<D: Dictionary>(
     ensures goes_on { IfOk result (λ o. IfNone o (GoesOn p.now (bounds_of r.now) known step (D.table d.old) (D.table d.new))) }
     ensures sound { IfOk result (λ o. IfNone o (D.is_sound d.new)) }
 {
-    let i = match turn(alloc, index, p, r, known, d) {
+    let i = match turn(alloc, p, r, factors, known, d) {
         Ok(Decision::Ends(outcome)) => return Ok(Some(at_step(outcome, step))),
         Ok(Decision::Leaves(i)) => i,
         Err(_) => return Err(AllocError),
@@ -150,24 +149,24 @@ fn advance<D: Dictionary>(
     }
 }
 
-// The run over dictionaries of one kind, with the program's index.
-fn run_by<D: Dictionary>(
+// The run over dictionaries of one kind, and a list with a number for each column.
+fn run_over<D: Dictionary>(
     alloc: Global,
-    index: &ColumnIndex,
     p: &Program,
     r: &Region,
+    factors: &mut [i128],
     best: u64,
 ) -> Result<Outcome, AllocError>
     requires fit { IsFit p.now }
     requires in_box { IsInBox p.now (bounds_of r.now) }
-    requires index { IsIndexOf p.now index.now }
+    requires length { length factors.old ≡ length p.now.costs.items }
     ensures ends { IfOk result (λ o. end_of o ≡ machine p.now (bounds_of r.now) best) }
     ensures certified { IfOk result (λ o. Certifies p.now (bounds_of r.now) best (end_of o)) }
 {
     let mut dictionary = D::start(alloc, p, r)?;
     let mut step = 0;
     loop {
-        match advance(alloc, index, p, r, best, step, &mut dictionary) {
+        match advance(alloc, p, r, factors, best, step, &mut dictionary) {
             Ok(Some(outcome)) => return Ok(outcome),
             Ok(None) => step += 1,
             Err(_) => return Err(AllocError),
@@ -187,25 +186,26 @@ pub fn run_on<D: Dictionary>(
     ensures ends { IfOk result (λ o. end_of o ≡ machine p.now (bounds_of r.now) best) }
     ensures certified { IfOk result (λ o. Certifies p.now (bounds_of r.now) best (end_of o)) }
 {
-    let index = ColumnIndex::new(alloc, p)?;
-    run_by::<D>(alloc, &index, p, r, best)
+    let mut factors = vec![in alloc; 0i128; p.costs.len()]?;
+    run_over::<D>(alloc, p, r, &mut factors, best)
 }
 
-/// [`dual_run`] with the program's index, which a caller of many runs makes once.
-pub fn dual_run_by(
+/// [`dual_run`] over a list with a number for each column, which a caller of many runs makes once.
+/// What the list holds before and after does not matter.
+pub fn dual_run_over(
     alloc: Global,
-    index: &ColumnIndex,
     p: &Program,
     r: &Region,
+    factors: &mut [i128],
     best: u64,
 ) -> Result<Outcome, AllocError>
     requires fit { IsFit p.now }
     requires in_box { IsInBox p.now (bounds_of r.now) }
-    requires index { IsIndexOf p.now index.now }
+    requires length { length factors.old ≡ length p.now.costs.items }
     ensures ends { IfOk result (λ o. end_of o ≡ machine p.now (bounds_of r.now) best) }
     ensures certified { IfOk result (λ o. Certifies p.now (bounds_of r.now) best (end_of o)) }
 {
-    run_by::<Whole>(alloc, index, p, r, best)
+    run_over::<Whole>(alloc, p, r, factors, best)
 }
 
 /// Runs the dual simplex method over the program's region, with the best objective known, and

@@ -7,7 +7,7 @@ ghost use Rattle.tetri_algebra.specs.IntegerRing.{ℤ_ring};
 ghost use Rattle.tetri_algebra.specs.Sums.{dot};
 ghost use Rattle.tetri_algebra.specs.Rational.{whole_ℚ};
 ghost use Rattle.tetri_num.specs.Frac.{value};
-ghost use Rattle.tetri_num.specs.Range.{IsWithin};
+ghost use Rattle.tetri_algebra.specs.Range.{IsWithin};
 ghost use Rattle.tetri_ip.specs.Points.{IsFit, IsFitRow, IsInBox, bounds_of, coefficient, left_side, number_at};
 ghost use Rattle.tetri_simplex.specs.Fractions.{values, rows_of};
 ghost use Rattle.tetri_simplex.specs.Full.{IsShaped, table_of};

@@ -3,7 +3,7 @@
 ghost use Rattle.std.specs.Prelude.{◌≡◌, ◌+◌, ◌<◌, ◌∷◌, ◌++◌, length, map, pos, ◌*ℤ◌, ◌-ℤ◌, IfOk};
 ghost use lib.IntN.{neg_ℤ};
 ghost use Rattle.tetri_algebra.specs.Rational.{whole_ℚ};
-ghost use Rattle.tetri_num.specs.Range.{IsWithin};
+ghost use Rattle.tetri_algebra.specs.Range.{IsWithin};
 ghost use Rattle.tetri_ip.specs.Points.{IsFit, IsFitRow, IsInBox, bounds_of, number_at};
 ghost use Rattle.tetri_simplex.specs.Sparse.{AreEntries, AreLines, IsSparse, line_of, lines_of, numbers_from, table_of};
 ghost use Rattle.tetri_simplex.specs.Start.{IsStart, bound_rows, direction, first_table, minus_one_at, objective_row, slack_from, slack_row};

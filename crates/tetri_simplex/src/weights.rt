@@ -4,8 +4,7 @@ ghost use Rattle.std.specs.Prelude.{◌≡◌, ℕ, ◌+◌, ◌<◌, ◌≤◌,
 ghost use Rattle.tetri_algebra.specs.Rational.{whole_ℚ};
 ghost use Rattle.tetri_algebra.specs.RationalRing.{neg_ℚ};
 ghost use Rattle.tetri_num.specs.Frac.{value};
-ghost use Rattle.tetri_num.specs.Range.{IsWithin};
-ghost use Rattle.tetri_ip.specs.ColumnIndex.{WeightsAscend};
+ghost use Rattle.tetri_algebra.specs.Range.{IsWithin};
 ghost use Rattle.tetri_ip.specs.Forming.{within};
 ghost use Rattle.tetri_simplex.specs.FirstPlaces.{IsFirstPlace};
 ghost use Rattle.tetri_simplex.specs.Fractions.{values};
@@ -135,7 +134,6 @@ pub(crate) fn whole_weights(
     ensures formed { let whole = whole_weights 0 (unsigned_abs q) (values weights.now) in
         MatchResult result (λ v. whole ≡ Ok v.items) (λ e. IsFault e whole) }
     ensures rows { IfOk result (λ v. All (λ w. w.row < length weights.now) v.items) }
-    ensures ascending { IfOk result (λ v. WeightsAscend v.items) }
 {
     let mut whole = Vec::new(alloc);
     for i in 0..weights.len() {

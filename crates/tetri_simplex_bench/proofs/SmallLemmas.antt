@@ -12,8 +12,9 @@ use lib.IntN.{ℤ, pos}
 use Rattle.tetri_ip.specs.declared.programs.Program.{Program}
 use Rattle.tetri_ip.specs.declared.programs.Row.{Row}
 use Rattle.tetri_ip.specs.declared.programs.Term.{Term}
-use Rattle.tetri_ip.specs.Points.{IsFit, IsFitRow, IsWithin, cost_reach, number_at, reach, right_of, size_at, terms_of}
-use Rattle.tetri_ip.proofs.Steps.{right_of_at, terms_of_at}
+use Rattle.tetri_ip.specs.Points.{IsFit, IsFitRow, cost_reach, number_at, reach, right_of, size_at, terms_of}
+use Rattle.tetri_algebra.specs.Range.{IsWithin}
+use Rattle.tetri_ip.proofs.IntegerProgramLaws.{right_of_at, terms_of_at}
 use Rattle.tetri_simplex_bench.specs.Small.{AreSmall, AreUpper, IsSmallRow}
 
 -- one step further by a gap

@@ -1,6 +1,6 @@
-use Rattle.std.proofs.Common.{◌≡◌, ap, subst, ◌∙◌, sym, Some}
+use Rattle.std.proofs.Common.{◌≡◌, ap, ◌∙◌, sym}
 use Rattle.std.proofs.lemmas.Int.{to_z-of_z}
-use Rattle.tetri_algebra.specs.Rational.{ℚ, whole_ℚ}
+use Rattle.tetri_algebra.specs.Rational.{whole_ℚ}
 use Rattle.tetri_num.specs.Checked.{checked_product}
 use Rattle.tetri_num.specs.Frac.{value}
 use Rattle.tetri_cuts.proofs.BreakLemmas.{term_added}

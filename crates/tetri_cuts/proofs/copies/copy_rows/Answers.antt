@@ -1,4 +1,4 @@
-use Rattle.std.proofs.Common.{◌<◌, arith, length, rules}
+use Rattle.std.proofs.Common.{◌<◌, arith, length}
 use Rattle.tetri_cuts.proofs.CopyLemmas.{rows_push}
 use Rattle.tetri_cuts.proofs.copies.copy_rows.Goals as goal
 

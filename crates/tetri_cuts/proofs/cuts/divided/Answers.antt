@@ -1,12 +1,12 @@
-use Rattle.std.proofs.Common.{◌≡◌, ◌+◌, ◌<◌, ◌≤◌, sym, ap, ◌∙◌, ◌++◌, arith, drop, get_or, List, length, rules}
+use Rattle.std.proofs.Common.{◌≡◌, ◌+◌, ◌<◌, ◌≤◌, sym, ap, ◌∙◌, ◌++◌, arith, drop, get_or, length, rules}
 use Rattle.std.specs.Int.{int_div_euclid}
 use Rattle.std.specs.Global.{Vec}
 use Rattle.std.proofs.lemmas.Int.{to_z-of_z}
-use lib.IntN.{ℤ, pos}
+use lib.IntN.{pos}
 use mir.Val.{SFits, of_z, to_z}
 use mir.Syntax.{w128}
 use Rattle.tetri_ip.specs.declared.programs.Term.{Term}
-use Rattle.tetri_ip.proofs.Steps.{item_is}
+use Rattle.tetri_ip.proofs.IntegerProgramLaws.{item_is}
 use Rattle.tetri_cuts.specs.Cuts.{quotients}
 use Rattle.tetri_cuts.proofs.CutSteps.{quotient_push, quotient_skip, quotients_done, read_zero}
 use Rattle.tetri_cuts.proofs.cuts.divided.Goals as goal

@@ -1,10 +1,10 @@
-use Rattle.std.proofs.Common.{◌≡◌, ◌<◌, arith, length, sym, ap, subst, ◌∙◌, ◌++◌, ◌∷◌, [], All, List}
+use Rattle.std.proofs.Common.{◌<◌, arith, length, sym, subst, ◌∙◌, All, List}
 use Rattle.std.proofs.lemmas.Int.{to_z-of_z}
 use Rattle.std.proofs.lemmas.List.Elements.{All-push}
-use lib.IntN.{ℤ, pos}
+use lib.IntN.{ℤ}
 use mir.Val.{of_z, to_z}
 use mir.Syntax.{w128}
-use Rattle.tetri_ip.specs.Points.{IsWithin}
+use Rattle.tetri_algebra.specs.Range.{IsWithin}
 use Rattle.tetri_cuts.proofs.CutSteps.{column_formed, past_here, past_more, sums_more}
 use Rattle.tetri_cuts.proofs.sums.column_sums.Goals as goal
 

@@ -1,5 +1,5 @@
 use Rattle.std.proofs.Common.{◌≡◌, ◌++◌, All, drop}
-use Rattle.tetri_ip.specs.Points.{IsWithin}
+use Rattle.tetri_algebra.specs.Range.{IsWithin}
 use Rattle.tetri_cuts.specs.Cuts.{past_from, sums_from}
 use Rattle.tetri_cuts.proofs.sums.column_sums.Given as goal
 

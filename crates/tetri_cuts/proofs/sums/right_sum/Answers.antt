@@ -5,7 +5,7 @@ use mir.Syntax.{w128}
 use lib.IntN.{pos}
 use Rattle.tetri_ip.specs.declared.programs.Weight.{Weight}
 use Rattle.tetri_ip.specs.Points.{right_of}
-use Rattle.tetri_ip.proofs.Steps.{right_of_at}
+use Rattle.tetri_ip.proofs.IntegerProgramLaws.{right_of_at}
 use Rattle.tetri_cuts.proofs.SumLemmas.{sum_next, sum_none}
 use Rattle.tetri_cuts.proofs.sums.right_sum.Goals as goal
 

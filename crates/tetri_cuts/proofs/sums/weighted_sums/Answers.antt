@@ -1,8 +1,8 @@
-use Rattle.std.proofs.Common.{◌≡◌, sym, ap, ◌∙◌, Some, None, Option, cond}
-use Rattle.std.specs.Prelude.{is_none, ℕ}
+use Rattle.std.proofs.Common.{sym, ap, ◌∙◌, Some, Option, cond}
+use Rattle.std.specs.Prelude.{is_none}
 use Rattle.std.proofs.lemmas.Int.{to_z-of_z}
-use lib.IntN.{ℤ, pos}
-use Rattle.tetri_cuts.specs.Cuts.{past_column, past_from}
+use lib.IntN.{ℤ}
+use Rattle.tetri_cuts.specs.Cuts.{past_from}
 use Rattle.tetri_cuts.proofs.CutSteps.{right_formed}
 use Rattle.tetri_cuts.proofs.sums.weighted_sums.Goals as goal
 

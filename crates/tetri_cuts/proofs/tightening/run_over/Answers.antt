@@ -1,4 +1,4 @@
-use Rattle.std.proofs.Common.{◌≡◌, refl, sym, ap, ◌∙◌, length, rules}
+use Rattle.std.proofs.Common.{refl, sym, ap, ◌∙◌, rules}
 use Rattle.std.proofs.lemmas.Int.{to_z-of_z}
 use Rattle.std.proofs.lemmas.List.{length-map}
 use mir.Val.{SFits}
@@ -8,8 +8,8 @@ use Rattle.tetri_simplex.specs.Outcomes.{end_of}
 use Rattle.tetri_cuts.proofs.OutcomeLemmas.{best_root, best_says, cut_root, cut_says, cut_stops, no_root_of, stops_of}
 use Rattle.tetri_cuts.proofs.tightening.run_over.Goals as goal
 
-pub dual_run_by-requires-clause-in_box : goal.dual_run_by-requires-clause-in_box
-dual_run_by-requires-clause-in_box c = c.in_ok-region.ensures.in_box c.requires.fit
+pub dual_run_over-requires-clause-in_box : goal.dual_run_over-requires-clause-in_box
+dual_run_over-requires-clause-in_box c = c.in_ok-region.ensures.in_box c.requires.fit
 
 pub next_cut-requires-clause-count : goal.next_cut-requires-clause-count
 next_cut-requires-clause-count c =

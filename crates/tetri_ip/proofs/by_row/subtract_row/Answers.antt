@@ -3,10 +3,10 @@ use Rattle.std.proofs.lemmas.Int.{fits_signed_from_abs, to_z-of_z}
 use Rattle.std.proofs.lemmas.List.{length-set}
 use mir.Val.{SFits, of_z, to_z}
 use mir.Syntax.{w128}
-use Rattle.tetri_ip.specs.Points.{IsWithin, number_at, term_at}
+use Rattle.tetri_ip.specs.Points.{number_at, term_at}
+use Rattle.tetri_algebra.specs.Range.{IsWithin}
 use Rattle.tetri_ip.proofs.FactorLemmas.{row_step, set_within}
-use Rattle.tetri_ip.proofs.MergeLemmas.{subtract_within}
-use Rattle.tetri_ip.proofs.Steps.{subtract_fits}
+use Rattle.tetri_ip.proofs.Steps.{subtract_fits, subtract_within}
 use Rattle.tetri_ip.proofs.by_row.subtract_row.Goals as goal
 
 pub loop-term-preserved : goal.loop-term-preserved

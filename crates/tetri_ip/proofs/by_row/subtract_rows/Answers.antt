@@ -1,20 +1,18 @@
-use Rattle.std.proofs.Common.{ℕ, ◌<◌, List, Some, length, ap, ◌∙◌, arith, refl, rules, sym, subst}
+use Rattle.std.proofs.Common.{ℕ, ◌<◌, List, Some, length, ◌∙◌, arith, refl, rules, sym, subst}
 use Rattle.std.proofs.lemmas.Int.{to_z-of_z}
 use mir.Val.{SFits}
 use mir.Syntax.{w128}
 use Rattle.tetri_ip.specs.declared.programs.Term.{Term}
-use Rattle.tetri_ip.specs.ColumnIndex.{weight_at}
-use Rattle.tetri_ip.specs.Points.{coefficient, column_at, number_at}
-use Rattle.tetri_ip.proofs.IndexLemmas.{TermsAscend}
-use Rattle.tetri_ip.proofs.MergeLemmas.{take_step}
-use Rattle.tetri_ip.proofs.Steps.{terms_of_at}
+use Rattle.tetri_ip.specs.Points.{column_at, number_at}
+use Rattle.tetri_ip.specs.Weighed.{weight_at}
+use Rattle.tetri_ip.proofs.Steps.{factor_step, row_ascends, terms_of_at}
 use Rattle.tetri_ip.proofs.by_row.subtract_rows.Goals as goal
 
 pub subtract_row-requires-clause-ascending : goal.subtract_row-requires-clause-ascending
 subtract_row-requires-clause-ascending c =
     let w = weight_at c.args.weights.now c.loop-w.w-index in
     let k : w.row < length c.args.p.now.rows.items = c.requires.rows c.loop-w.w-index _ c.loop-w-test.true in
-    subst TermsAscend (terms_of_at c.args.p.now.rows.items w.row c.index.result.now k c.index.ensures) (c.requires.fit.rows w.row k).ascending
+    row_ascends c.args.p.now w.row c.index.result.now c.requires.fit k c.index.ensures
 
 pub subtract_row-requires-clause-columns : goal.subtract_row-requires-clause-columns
 subtract_row-requires-clause-columns c =
@@ -27,14 +25,13 @@ pub loop-w-preserved : goal.loop-w-preserved
 loop-w-preserved c =
     let w = weight_at c.args.weights.now c.loop-w.w-index in
     let k : w.row < length c.args.p.now.rows.items = c.requires.rows c.loop-w.w-index _ c.loop-w-test.true in
-    let e = terms_of_at c.args.p.now.rows.items w.row c.index.result.now k c.index.ensures in
     let by : SFits w128 w.by = search rules in
     record {
       count = c.subtract_row.auto.factors ∙ c.loop-w.invariant.count;
       in_range = c.if-not-subtract_row.ensures.in_range refl;
       taken = λ j lt.
           let inside : j < length c.loop-w.factors = omega (arith, lt, c.loop-w.invariant.count) in
-          sym (take_step c.args.p.now.rows.items c.args.weights.now j c.loop-w.w-index (number_at c.loop-w.factors j) _ (coefficient c.index.result.now.terms.items j) (Some (number_at c.subtract_row.new.factors j))
-          c.loop-w-test.true (to_z-of_z _ _ by) (ap (λ (ts : List Term). coefficient ts j) (sym e)) (sym (c.if-not-subtract_row.ensures.taken refl j inside)))
+          sym (factor_step c.args.p.now.rows.items c.args.weights.now c.loop-w.w-index j _ c.index.result.now (number_at c.loop-w.factors j) _ _ (Some (number_at c.subtract_row.new.factors j))
+          c.loop-w-test.true k c.index.ensures (to_z-of_z _ _ by) refl (sym (c.if-not-subtract_row.ensures.taken refl j inside)))
           ∙ c.loop-w.invariant.taken j lt;
     }

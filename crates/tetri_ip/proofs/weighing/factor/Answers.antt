@@ -1,13 +1,11 @@
-use Rattle.std.proofs.Common.{ℕ, ◌<◌, sym, ap, subst, ◌∙◌, arith, length, get_or, rules, List}
+use Rattle.std.proofs.Common.{◌<◌, sym, ap, ◌∙◌, arith, length, get_or, rules}
 use Rattle.std.proofs.lemmas.Int.{to_z-of_z}
 use mir.Val.{SFits}
 use mir.Syntax.{w128}
 use lib.IntN.{ℤ, pos}
-use Rattle.tetri_ip.specs.declared.programs.Term.{Term}
 use Rattle.tetri_ip.specs.declared.programs.Weight.{Weight}
-use Rattle.tetri_ip.specs.Points.{column_at}
 use Rattle.tetri_ip.specs.Forming.{form_factor}
-use Rattle.tetri_ip.proofs.Steps.{factor_next, factor_none, terms_of_at}
+use Rattle.tetri_ip.proofs.Steps.{factor_next, factor_none, row_ascends}
 use Rattle.tetri_ip.proofs.weighing.factor.Goals as goal
 
 pub coefficient_of-by-requires : goal.coefficient_of-by-requires
@@ -15,8 +13,7 @@ coefficient_of-by-requires c =
     let d : Weight = record { row = 0; by = pos 0 } in
     let l : c.loop-w.w-index < length c.args.weights.now = omega arith in
     let k : (get_or c.args.weights.now c.loop-w.w-index d).row < length c.args.p.now.rows.items = c.requires.rows c.loop-w.w-index d l in
-    let e = terms_of_at c.args.p.now.rows.items (get_or c.args.weights.now c.loop-w.w-index d).row c.index.result.now k c.index.ensures in
-    subst (λ (ts : List Term). (k m : ℕ) → k < m → m < length ts → column_at ts k < column_at ts m) e (c.requires.fit.rows (get_or c.args.weights.now c.loop-w.w-index d).row k).ascending
+    row_ascends c.args.p.now (get_or c.args.weights.now c.loop-w.w-index d).row c.index.result.now c.requires.fit k c.index.ensures
 
 pub loop-w-preserved : goal.loop-w-preserved
 loop-w-preserved c =

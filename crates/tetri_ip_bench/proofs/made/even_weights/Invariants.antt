@@ -1,5 +1,5 @@
 use Rattle.std.proofs.Common.{◌≡◌, ℕ, ◌*◌, ◌<◌, length}
-use Rattle.tetri_ip.specs.ColumnIndex.{weight_at}
+use Rattle.tetri_ip.specs.Weighed.{weight_at}
 use Rattle.tetri_ip_bench.proofs.made.even_weights.Given as goal
 
 abbrev pub invariant-loop-k : goal.invariant-loop-k

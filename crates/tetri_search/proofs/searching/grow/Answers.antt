@@ -1,4 +1,4 @@
-use Rattle.std.proofs.Common.{◌≡◌, ◌++◌, ◌∷◌, [], sym, subst, refl, arith, rules, None}
+use Rattle.std.proofs.Common.{◌≡◌, ◌++◌, ◌∷◌, [], ◌∙◌, sym, subst, refl, arith, rules, None}
 use Rattle.std.specs.Prelude.{nat_lt}
 use Rattle.std.proofs.lemmas.Grind.{common_steps}
 use Rattle.tetri_ip.specs.Points.{bounds_of}
@@ -10,9 +10,10 @@ use Rattle.tetri_search.proofs.searching.grow.Goals as goal
 
 pub loop-above-init : goal.loop-above-init
 loop-above-init c =
-    let e : c.push.new.self.items ≡ None ∷ [] = (let h = c.in_ok-push.ensures.items in let k = c.new-3.ensures.items in grind (arith, common_steps)) in
+    let e : c.push.new.self.items ≡ None ∷ [] = (let h = c.in_ok-push.ensures.items in let k = c.new-2.ensures.items in grind (arith, common_steps)) in
     record {
-      stands = stands_start c.args.p.now c.args.low c.args.budget c.new-marks.result c.in_ok-whole.field-0 c.new-2.result.items c.push.new.self.items c.requires.fit c.in_ok-whole.ensures.bounds c.new-marks.ensures c.new-2.ensures.items e;
+      factors = c.requires.length;
+      stands = stands_start c.args.p.now c.args.low c.args.budget c.new-marks.result c.in_ok-whole.field-0 c.new.result.items c.push.new.self.items c.requires.fit c.in_ok-whole.ensures.bounds c.new-marks.ensures c.new.ensures.items e;
       within = omega arith;
     }
 
@@ -39,6 +40,7 @@ loop-above-preserved c =
     let s = stands_push p c.args.low c.args.budget c.loop-above.marks c.push-in-Some.new.self m c.loop-above.front.region c.visit.new.front.region c.loop-above.front.trail.items c.visit.new.front.trail.items c.in-Some.above c.pop.new.self.items c.loop-above.front.duals.items c.visit.new.front.duals.items c.loop-above.best c.loop-above.used
     c.requires.fit k n c.loop-above.invariant.stands c.in_ok-mark.ensures.mark c.in_ok-mark.ensures.regions c.in_ok-mark.ensures.duals c.in_ok-mark.ensures.lower c.in_ok-mark.ensures.upper c.in_ok-mark.ensures.columns c.in_ok-mark.ensures.narrow in
     record {
+      factors = c.visit.auto.factors ∙ c.loop-above.invariant.factors;
       stands = subst (λ x. Stands p c.args.low c.args.budget c.push-in-Some.new.self c.visit.new.front.region c.visit.new.front.trail.items c.visit.new.front.duals.items c.better-best.result x) (sym u)
           (subst (λ x. Stands p c.args.low c.args.budget c.push-in-Some.new.self c.visit.new.front.region c.visit.new.front.trail.items c.visit.new.front.duals.items x (used_after c.loop-above.used m)) (sym b) s);
       within = used_within c.loop-above.used c.args.budget c.count-used.result c.loop-above.invariant.within c.count-used.ensures;

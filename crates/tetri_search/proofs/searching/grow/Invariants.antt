@@ -1,9 +1,10 @@
-use Rattle.std.proofs.Common.{◌+◌, ◌-◌, ◌*◌, ◌≤◌, vec_len}
+use Rattle.std.proofs.Common.{◌≡◌, ◌+◌, ◌-◌, ◌*◌, ◌≤◌, length, vec_len}
 use Rattle.tetri_search.proofs.LoopLemmas.{Stands}
 use Rattle.tetri_search.proofs.searching.grow.Given as goal
 
 abbrev pub invariant-loop-above : goal.invariant-loop-above
 invariant-loop-above l = record {
+  factors : length l.factors ≡ length l.p.costs.items;
   stands : Stands l.p l.low l.budget l.marks l.front.region l.front.trail.items l.front.duals.items l.best l.used;
   within : l.used ≤ l.budget;
 }

@@ -1,6 +1,6 @@
 use Rattle.std.proofs.Common.{sym, subst}
 use Rattle.tetri_ip.specs.Points.{bounds_of}
-use Rattle.tetri_cert.proofs.ProperTreeLaws.{IsSound}
+use Rattle.tetri_cert.proofs.TreeBoundLaws.{IsSound}
 use Rattle.tetri_search.specs.Table.{Node}
 use Rattle.tetri_search.specs.Views.{dual_of_rc}
 use Rattle.tetri_search.proofs.MarkLemmas.{rest_is_rest}

@@ -1,5 +1,5 @@
 use Rattle.std.proofs.Common.{arith}
-use Rattle.tetri_num.proofs.Values.{value-negated}
+use Rattle.tetri_num.proofs.FractionLaws.{value-negated}
 use Rattle.tetri_simplex.proofs.Signed.{signed}
 use Rattle.tetri_simplex.proofs.Numbers.{number_read}
 use Rattle.tetri_simplex.proofs.fractions.negated.Goals as goal

@@ -3,7 +3,7 @@ use Rattle.std.proofs.lemmas.List.{length-map}
 use Rattle.tetri_algebra.specs.Rational.{ℚ}
 use Rattle.tetri_num.specs.declared.places.Kind.TheVariants as Kind
 use Rattle.tetri_num.specs.Frac.{value}
-use Rattle.tetri_num.proofs.Values.{num-value}
+use Rattle.tetri_num.proofs.FractionLaws.{num-value}
 use Rattle.tetri_simplex.specs.declared.lines.Entry.{Entry}
 use Rattle.tetri_simplex.specs.Steps.{place_at as the_place}
 use Rattle.tetri_simplex.proofs.SparsePivots.{places_of, solved_at, solved_done, solved_formed, solved_number, solved_places, solved_stop}

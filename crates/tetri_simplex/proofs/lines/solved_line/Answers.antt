@@ -1,7 +1,7 @@
 use Rattle.std.proofs.Common.{List, sym, ap, ◌∙◌}
 use Rattle.tetri_algebra.specs.Rational.{ℚ}
 use Rattle.tetri_num.specs.Frac.{value}
-use Rattle.tetri_num.proofs.Values.{num-value}
+use Rattle.tetri_num.proofs.FractionLaws.{num-value}
 use Rattle.tetri_simplex.specs.declared.lines.Entry.{Entry}
 use Rattle.tetri_simplex.specs.Sparse.{number_of}
 use Rattle.tetri_simplex.proofs.SparsePivots.{solved_line_constant, solved_line_fault, solved_line_ok, solved_through, solved_fault_through}

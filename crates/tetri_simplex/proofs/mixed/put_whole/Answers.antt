@@ -1,6 +1,6 @@
 use mir.Val.{to_z, of_z}
 use mir.Syntax.{w64}
-use Rattle.tetri_rows.proofs.Words.{short_word}
+use Rattle.tetri_rows.proofs.RowLaws.{short_word}
 use Rattle.tetri_simplex.proofs.MixedRows.{as_whole, put_in_whole}
 use Rattle.tetri_simplex.proofs.mixed.put_whole.Goals as goal
 

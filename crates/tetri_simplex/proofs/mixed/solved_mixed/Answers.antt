@@ -1,7 +1,7 @@
 use Rattle.std.proofs.Common.{◌∙◌}
 use mir.Val.{to_z, of_z}
 use mir.Syntax.{w64}
-use Rattle.tetri_rows.proofs.Words.{short_word}
+use Rattle.tetri_rows.proofs.RowLaws.{short_word}
 use Rattle.tetri_simplex.proofs.MixedRows.{as_whole, pivot_in_whole, solved_in_whole, solved_whole_numbers}
 use Rattle.tetri_simplex.proofs.mixed.solved_mixed.Goals as goal
 

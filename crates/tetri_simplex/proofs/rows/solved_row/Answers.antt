@@ -1,6 +1,6 @@
 use Rattle.std.proofs.Common.{length, sym, ap, ◌∙◌, arith}
 use Rattle.tetri_algebra.specs.Rational.{ℚ}
-use Rattle.tetri_num.proofs.Values.{num-value}
+use Rattle.tetri_num.proofs.FractionLaws.{num-value}
 use Rattle.tetri_simplex.proofs.Entries.{value_at_next, solved_next, solved_stop}
 use Rattle.tetri_simplex.proofs.rows.solved_row.Goals as goal
 

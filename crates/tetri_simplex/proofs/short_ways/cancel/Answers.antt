@@ -1,8 +1,7 @@
 use Rattle.std.proofs.Common.{◌≡◌, arith}
 use Rattle.std.proofs.lemmas.Bool.{eqb-true}
 use lib.IntN.{neg_ℤ}
-use Rattle.tetri_num.proofs.Short.{same_bits}
-use Rattle.tetri_num.proofs.Values.{value-negated}
+use Rattle.tetri_num.proofs.FractionLaws.{same_bits, value-negated}
 use Rattle.tetri_simplex.proofs.Signed.{signed}
 use Rattle.tetri_simplex.proofs.short_ways.cancel.Goals as goal
 

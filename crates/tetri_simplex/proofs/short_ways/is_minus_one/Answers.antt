@@ -1,5 +1,5 @@
 use Rattle.std.proofs.lemmas.Bool.{eqb-true}
-use Rattle.tetri_num.proofs.Short.{number_is}
+use Rattle.tetri_num.proofs.FractionLaws.{number_is}
 use Rattle.tetri_simplex.proofs.ShortWays.{minus_one_is}
 use Rattle.tetri_simplex.proofs.short_ways.is_minus_one.Goals as goal
 

@@ -1,8 +1,7 @@
 use Rattle.std.proofs.Common.{ap, sym, ◌∙◌, Some}
 use Rattle.tetri_num.specs.Checked.{checked_product}
 use Rattle.tetri_num.specs.Frac.{value}
-use Rattle.tetri_num.proofs.Fracs.{value_representable}
-use Rattle.tetri_num.proofs.Zeros.{checked_product-one_left, checked_product-one_right}
+use Rattle.tetri_num.proofs.FractionLaws.{checked_product-one_left, checked_product-one_right, value_representable}
 use Rattle.tetri_simplex.proofs.ShortWays.{checked_product-minus_left, checked_product-minus_right}
 use Rattle.tetri_simplex.proofs.short_ways.product.Goals as goal
 

@@ -1,7 +1,7 @@
 use Rattle.std.proofs.Common.{ap, sym, ◌∙◌, Some}
 use Rattle.tetri_num.specs.Checked.{checked_sum}
 use Rattle.tetri_num.specs.Frac.{value}
-use Rattle.tetri_num.proofs.Fracs.{value_representable}
+use Rattle.tetri_num.proofs.FractionLaws.{value_representable}
 use Rattle.tetri_simplex.proofs.ShortWays.{checked_sum-negative}
 use Rattle.tetri_simplex.proofs.short_ways.sum.Goals as goal
 

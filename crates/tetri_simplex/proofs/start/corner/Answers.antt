@@ -4,7 +4,7 @@ use lib.IntN.{pos}
 use mir.Val.{SFits}
 use mir.Syntax.{w128}
 use Rattle.tetri_ip.specs.Points.{bounds_of}
-use Rattle.tetri_ip.proofs.Steps.{item_is}
+use Rattle.tetri_ip.proofs.IntegerProgramLaws.{item_is}
 use Rattle.tetri_simplex.proofs.Starting.{corner_pushed, corner_done, corner_starts}
 use Rattle.tetri_simplex.proofs.start.corner.Goals as goal
 

@@ -3,7 +3,7 @@ use Rattle.std.proofs.lemmas.Int.{to_z-of_z}
 use lib.IntN.{pos, ◌*ℤ◌}
 use mir.Val.{SFits}
 use mir.Syntax.{w128}
-use Rattle.tetri_ip.proofs.Steps.{item_is}
+use Rattle.tetri_ip.proofs.IntegerProgramLaws.{item_is}
 use Rattle.tetri_simplex.specs.Start.{direction}
 use Rattle.tetri_simplex.proofs.Starting.{number_pushed, whole_read, objective_more}
 use Rattle.tetri_simplex.proofs.start.objective_row.Goals as goal

@@ -1,5 +1,5 @@
 use Rattle.std.proofs.Common.{sym, subst}
-use Rattle.tetri_num.specs.Range.{IsWithin}
+use Rattle.tetri_algebra.specs.Range.{IsWithin}
 use Rattle.tetri_simplex.proofs.Numbers.{number_read}
 use Rattle.tetri_simplex.proofs.Starting.{coefficient_within}
 use Rattle.tetri_simplex.proofs.start.slack_coefficient.Goals as goal

@@ -5,7 +5,7 @@ use lib.IntN.{pos, ◌*ℤ◌}
 use mir.Val.{SFits, to_z}
 use mir.Syntax.{w128}
 use Rattle.tetri_algebra.specs.Rational.{ℚ}
-use Rattle.tetri_ip.proofs.Steps.{item_is}
+use Rattle.tetri_ip.proofs.IntegerProgramLaws.{item_is}
 use Rattle.tetri_simplex.specs.declared.lines.Entry.{Entry}
 use Rattle.tetri_simplex.specs.Start.{direction}
 use Rattle.tetri_simplex.proofs.Starting.{whole_read}

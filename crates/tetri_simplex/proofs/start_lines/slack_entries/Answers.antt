@@ -6,7 +6,7 @@ use mir.Val.{SFits}
 use mir.Syntax.{w128}
 use Rattle.tetri_ip.specs.declared.programs.Term.{Term}
 use Rattle.tetri_ip.specs.Points.{column_at, term_at}
-use Rattle.tetri_ip.proofs.Steps.{item_is}
+use Rattle.tetri_ip.proofs.IntegerProgramLaws.{item_is}
 use Rattle.tetri_simplex.proofs.Starting.{whole_read}
 use Rattle.tetri_simplex.proofs.SparseStart.{column_get, slack_done, slack_is, slack_places, slack_value}
 use Rattle.tetri_simplex.proofs.SparseWalks.{walk_done, walk_push}

@@ -10,7 +10,6 @@ use Rattle.tetri_ip.specs.declared.programs.Weight.{Weight}
 use Rattle.tetri_simplex.specs.Ends.{whole_weights}
 use Rattle.tetri_simplex.specs.Fractions.{values}
 use Rattle.tetri_simplex.proofs.Forming.{onto}
-use Rattle.tetri_simplex.proofs.WeightSigns.{are_proper, ascend}
 use Rattle.tetri_simplex.proofs.Weighting.{code_product, product_read, whole_stop, whole_zero, whole_next, whole_done, zero_read, not_zero_read, read_some}
 use Rattle.tetri_simplex.proofs.weights.whole_weights.Goals as goal
 use Rattle.tetri_simplex.proofs.weights.whole_weights.Goals.{then-by-ne0+in_ok-push, else-by-ne0}
@@ -56,6 +55,3 @@ loop-i-preserved c =
         rows = subst (λ (v : Vec Weight). All (λ (w : Weight). w.row < length ws) v.items) (sym w.whole-is) c.loop-i.invariant.rows;
       }
     ]
-
-pub returns-clause-ascending : goal.returns-clause-ascending
-returns-clause-ascending c = ascend 0 _ (are_proper 0 _ (values c.args.weights.now) c.loop-i.whole.items (returns-clause-formed c))

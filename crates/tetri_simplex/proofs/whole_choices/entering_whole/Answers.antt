@@ -1,9 +1,9 @@
 use Rattle.std.proofs.Common.{◌≡◌, ◌+◌, get_or, Ok, sym, ap, ◌∙◌}
 use lib.IntN.{pos}
 use Rattle.tetri_num.specs.Frac.{value}
-use Rattle.tetri_num.proofs.Values.{at_four}
+use Rattle.tetri_num.proofs.FractionLaws.{at_four}
 use Rattle.tetri_rows.specs.Rows.{minus_ratio}
-use Rattle.tetri_rows.proofs.Words.{short_word}
+use Rattle.tetri_rows.proofs.RowLaws.{short_word}
 use Rattle.tetri_simplex.specs.WholeRatios.{ratio_at, ratio_candidate}
 use Rattle.tetri_simplex.proofs.WholeEntering.{above_in_other, chosen, whole_candidate}
 use Rattle.tetri_simplex.proofs.whole_choices.entering_whole.Goals as goal

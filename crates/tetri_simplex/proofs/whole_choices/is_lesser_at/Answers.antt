@@ -1,8 +1,8 @@
 use Rattle.std.proofs.Common.{◌+◌, get_or, ◌∙◌}
 use lib.IntN.{pos}
-use Rattle.tetri_num.proofs.Values.{at_four}
+use Rattle.tetri_num.proofs.FractionLaws.{at_four}
 use Rattle.tetri_rows.specs.Rows.{minus_ratio}
-use Rattle.tetri_rows.proofs.Words.{short_word}
+use Rattle.tetri_rows.proofs.RowLaws.{short_word}
 use Rattle.tetri_simplex.specs.Tables.{is_less}
 use Rattle.tetri_simplex.proofs.WholeEntering.{above_in_other}
 use Rattle.tetri_simplex.proofs.whole_choices.is_lesser_at.Goals as goal

@@ -3,7 +3,7 @@ use lib.IntN.{pos}
 use lib.Signed.{lt_z}
 use Rattle.tetri_algebra.specs.Rational.{ℚ}
 use Rattle.tetri_rows.specs.Rows.{meaning}
-use Rattle.tetri_rows.proofs.Words.{short_word, test_above}
+use Rattle.tetri_rows.proofs.RowLaws.{short_word, test_above}
 use Rattle.tetri_simplex.specs.WholeRatios.{ratio_candidate, IsAbove}
 use Rattle.tetri_simplex.proofs.MixedChoices.{rest_of}
 use Rattle.tetri_simplex.proofs.WholeEntering.{whole_taken, whole_skipped, whole_done}

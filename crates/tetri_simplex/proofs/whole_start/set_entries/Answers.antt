@@ -6,7 +6,7 @@ use mir.Val.{to_z, of_z}
 use mir.Syntax.{w64}
 use Rattle.tetri_algebra.specs.Rational.{fraction}
 use Rattle.tetri_rows.specs.Small.{IsShort}
-use Rattle.tetri_rows.proofs.Words.{short_word}
+use Rattle.tetri_rows.proofs.RowLaws.{short_word}
 use Rattle.tetri_simplex.proofs.SparseRows.{entry_read}
 use Rattle.tetri_simplex.proofs.WholeStart.{entries_next, entries_none, entries_all, not_first}
 use Rattle.tetri_simplex.proofs.whole_start.set_entries.Goals as goal

@@ -8,7 +8,7 @@ use mir.Syntax.{w64}
 use Rattle.tetri_algebra.specs.Rational.{fraction}
 use Rattle.tetri_rows.specs.Rows.{meaning}
 use Rattle.tetri_rows.specs.Small.{IsShort}
-use Rattle.tetri_rows.proofs.Words.{short_word}
+use Rattle.tetri_rows.proofs.RowLaws.{short_word}
 use Rattle.tetri_simplex.specs.declared.lines.Entry.{Entry}
 use Rattle.tetri_simplex.specs.Sparse.{number_of}
 use Rattle.tetri_simplex.proofs.WholeStart.{numbers_are, zeros_behind, zeros_short, written, one_is_denominator}

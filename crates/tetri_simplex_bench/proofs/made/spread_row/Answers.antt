@@ -1,7 +1,7 @@
 use Rattle.std.proofs.Common.{◌-◌, ◌*◌, ◌≤◌, sym, subst, arith}
 use Rattle.std.specs.Prelude.{unsigned_abs}
 use Rattle.std.proofs.Math.Nat.{mul-le-mul_right}
-use Rattle.tetri_simplex.proofs.Numbers.{number_read}
+use Rattle.tetri_simplex.proofs.DualRunLaws.{number_read}
 use Rattle.tetri_simplex_bench.proofs.SmallLemmas.{gap_between}
 use Rattle.tetri_simplex_bench.proofs.made.spread_row.Goals as goal
 

@@ -1,6 +1,6 @@
 use Rattle.std.proofs.Common.{length, ap, ◌∙◌, arith, subst, sym}
 use Rattle.std.specs.Prelude.{unsigned_abs, ◌≤◌}
-use Rattle.tetri_simplex.proofs.Numbers.{number_read}
+use Rattle.tetri_simplex.proofs.DualRunLaws.{number_read}
 use Rattle.tetri_simplex_bench.proofs.ReadLemmas.{small_pushed}
 use Rattle.tetri_simplex_bench.proofs.read.costs.Goals as goal
 

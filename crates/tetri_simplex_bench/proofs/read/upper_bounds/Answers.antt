@@ -2,7 +2,7 @@ use Rattle.std.proofs.Common.{length, ap, ◌∙◌, arith, subst, sym}
 use Rattle.std.specs.Prelude.{◌≤ℤ◌}
 use Rattle.std.proofs.lemmas.Int.{ints}
 use lib.IntN.{pos}
-use Rattle.tetri_simplex.proofs.Numbers.{number_read}
+use Rattle.tetri_simplex.proofs.DualRunLaws.{number_read}
 use Rattle.tetri_simplex_bench.proofs.ReadLemmas.{upper_pushed}
 use Rattle.tetri_simplex_bench.proofs.read.upper_bounds.Goals as goal
 

@@ -5,10 +5,11 @@ use Rattle.tetri_simplex.specs.Machine.{machine}
 use Rattle.tetri_simplex.specs.Outcomes.{end_of}
 use Rattle.tetri_simplex.proofs.EndFacts.{machine_certified}
 use Rattle.tetri_simplex.proofs.Running.{machine_is, start_places}
-use Rattle.tetri_simplex.proofs.run.run_by.Goals as goal
+use Rattle.tetri_simplex.proofs.run.run_over.Goals as goal
 
 pub loop-outcome-init : goal.loop-outcome-init
 loop-outcome-init g c = record {
+  factors = c.requires.length;
   few = omega arith;
   sound = c.in_ok-dictionary.ensures.sound;
   places = start_places c.args.p.now (bounds_of c.args.r.now) _ c.in_ok-dictionary.ensures.first;

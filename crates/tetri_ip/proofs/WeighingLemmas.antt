@@ -17,7 +17,8 @@ use Rattle.tetri_ip.specs.declared.programs.Row.{Row}
 use Rattle.tetri_ip.specs.declared.programs.Term.{Term}
 use Rattle.tetri_ip.specs.declared.programs.Weight.{Weight}
 use Rattle.tetri_ip.specs.declared.programs.WeighFault.{WeighFault}
-use Rattle.tetri_ip.specs.Points.{Bounds, IsFit, IsInBox, IsWithin, coefficient, column_at, cost_reach, left_side, number_at, objective, reach, right_of, size_at, term_at, terms_of}
+use Rattle.tetri_ip.specs.Points.{Bounds, IsFit, IsInBox, coefficient, column_at, cost_reach, left_side, number_at, objective, reach, right_of, size_at, term_at, terms_of}
+use Rattle.tetri_algebra.specs.Range.{IsWithin}
 use Rattle.tetri_ip.specs.Weighed.{bound_taken, column_sum, columns_from, once, right_sum, weighed}
 use Rattle.tetri_ip.specs.Forming.{add_product, first_negative, form_column, form_columns, form_factor, form_right, or_past, then_form, unless_negative, weigh_answer, within}
 use Rattle.tetri_ip.proofs.Coefficients.{coefficient_at, unit_other}

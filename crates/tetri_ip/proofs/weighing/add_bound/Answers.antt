@@ -6,8 +6,8 @@ use Rattle.tetri_ip.specs.Forming.{add_product}
 use Rattle.tetri_ip.specs.Points.{bounds_of}
 use Rattle.tetri_ip.specs.Weighed.{bound_taken}
 use Rattle.tetri_ip.proofs.Steps.{bound_lower, bound_upper}
-use Rattle.tetri_ip.proofs.by_row.add_bound.Goals as goal
-use Rattle.tetri_ip.proofs.by_row.add_bound.Goals.{then-by-gt0, else-by-gt0}
+use Rattle.tetri_ip.proofs.weighing.add_bound.Goals as goal
+use Rattle.tetri_ip.proofs.weighing.add_bound.Goals.{then-by-gt0, else-by-gt0}
 
 pub returns : goal.returns
 returns c =
