@@ -2,7 +2,7 @@
 use Rattle.std.proofs.Common.{ℕ, ◌+◌, ◌-◌, ◌<◌, sym, subst, ⊎_elim, arith, List}
 use Rattle.std.proofs.lemmas.Bool.{cases_eq}
 use Rattle.tetri_ip.specs.declared.programs.Weight.{Weight}
-use Rattle.tetri_ip.specs.ColumnIndex.{weight_at}
+use Rattle.tetri_ip.specs.Weighed.{weight_at}
 
 pub ascends_more : (ws : List Weight) (k : ℕ) → 0 < k → ((a b : ℕ) → a < b → b < k → (weight_at ws a).row < (weight_at ws b).row) → (weight_at ws (k - 1)).row < (weight_at ws k).row →
     (a b : ℕ) → a < b → b < k + 1 → (weight_at ws a).row < (weight_at ws b).row

@@ -7,7 +7,7 @@ use Rattle.tetri_num.specs.declared.fractions.Frac.{Frac}
 use Rattle.tetri_num.specs.Frac.{value}
 use Rattle.tetri_cert.specs.declared.marks.FracCell.{FracCell}
 use Rattle.tetri_cert.specs.Cells.{frac_cell_at, frac_cells_from}
-use Rattle.tetri_cert.proofs.CellLaws.{frac_cells_more}
+use Rattle.tetri_cert.proofs.CellFacts.{frac_cells_more}
 
 drop_more : {X : Type 0} → (xs : List X) (j : ℕ) (x : X) → j < length xs → x ≡ get_or xs j x → drop j xs ≡ x ∷ drop (j + 1) xs
 drop_more xs j x l e = let s : suc j ≡ j + 1 = omega arith in drop-cons xs j x l ∙ ap (λ y. y ∷ drop (suc j) xs) (sym e) ∙ ap (λ k. x ∷ drop k xs) s

@@ -8,7 +8,7 @@ use Rattle.std.proofs.lemmas.Bool.{false≢true}
 use Rattle.std.proofs.lemmas.Int.{ints, by_lt_z}
 use lib.IntN.{ℤ, pos, negsuc, ◌+ℤ◌, ◌*ℤ◌}
 use lib.Signed.{lt_z}
-use Rattle.tetri_num.proofs.Compares.{floor_above}
+use Rattle.tetri_num.proofs.FractionLaws.{floor_above}
 use Rattle.tetri_ip.specs.declared.programs.Program.{Program}
 use Rattle.tetri_ip.specs.declared.programs.Weight.{Weight}
 use Rattle.tetri_algebra.specs.Integers.{mul_le_of_nonnegative}
@@ -17,8 +17,7 @@ use Rattle.tetri_ip.specs.declared.programs.WeighFault.TheVariants as weighing
 use Rattle.tetri_ip.specs.Points.{Bounds, IsPoint, box_of, number_at, objective}
 use Rattle.tetri_ip.specs.Weighed.{AreNotNegative, weighed}
 use Rattle.tetri_ip.specs.Forming.{first_negative, form_columns, form_right, or_past, unless_negative, weigh_answer}
-use Rattle.tetri_ip.proofs.Duality.{weak_duality}
-use Rattle.tetri_ip.proofs.Formed.{weighed_where_formed}
+use Rattle.tetri_ip.proofs.IntegerProgramLaws.{weak_duality, weighed_where_formed}
 use Rattle.tetri_cert.specs.declared.marks.Mark.{Mark}
 use Rattle.tetri_cert.specs.declared.marks.Mark.TheVariants.{Split, Close, Whole, Rest}
 use Rattle.tetri_cert.specs.declared.faults.TreeFault.{TreeFault}
@@ -27,7 +26,7 @@ use Rattle.tetri_cert.specs.declared.faults.TreeWhy.TheVariants as why
 use Rattle.tetri_cert.specs.NodeBounds.{refuse, is_negative, capped, quotient_at, where_weighed, weights_bound, node_bound, high_side, low_side, sides_before}
 use Rattle.tetri_base.specs.ResultSteps.{◌>>=◌}
 use Rattle.tetri_cert.specs.Trees.{places_behind, fills, tree_from, if_fills, tree_bound}
-use Rattle.tetri_cert.proofs.RegionLaws.{set_keeps}
+use Rattle.tetri_cert.proofs.RegionLemmas.{set_keeps}
 use Rattle.tetri_cert.specs.TreeLaws.{TreeBoundHolds}
 
 -- ---- steps that may fail

@@ -8,7 +8,7 @@ use Rattle.tetri_algebra.specs.Rational.{ℚ, fraction, fraction_parts}
 use Rattle.tetri_num.specs.Frac.{value}
 use Rattle.tetri_num.specs.Lowest.{IsLowest}
 use Rattle.tetri_num.specs.declared.fractions.Frac.{Frac}
-use Rattle.tetri_num.proofs.Values.{num-value, den-value}
+use Rattle.tetri_num.proofs.FractionLaws.{num-value, den-value}
 use Rattle.tetri_cert.specs.NumbersLowest.{is_lowest, lowest_from}
 use Rattle.tetri_cert.specs.Numbers.{frac_by_test, frac_of}
 use Rattle.tetri_cert.proofs.NumbersBack.{frac_back}

@@ -17,7 +17,7 @@ use Rattle.tetri_algebra.specs.Sums.{dot}
 use Rattle.tetri_ip.specs.declared.programs.Program.{Program}
 use Rattle.tetri_ip.specs.declared.programs.Row.{Row}
 use Rattle.tetri_ip.specs.Points.{Bounds, IsBetween, IsInBox, IsPoint, MeetsRows, cost_reach, left_side, number_at, objective, size_at}
-use Rattle.tetri_ip.proofs.Sides.{AddsTerm}
+use Rattle.tetri_ip.proofs.IntegerProgramLaws.{AddsTerm}
 use Rattle.tetri_cert.specs.declared.marks.Cell.{Cell}
 use Rattle.tetri_cert.specs.Cells.{are_between, are_met, are_of_columns, is_point, is_same, is_whole_point, point_of, with_cells}
 

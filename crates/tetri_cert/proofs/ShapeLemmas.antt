@@ -23,7 +23,7 @@ use Rattle.tetri_cert.specs.NodeBounds.{capped, is_negative, is_unknown_row, nod
 use Rattle.tetri_base.specs.ResultSteps.{◌>>=◌}
 use Rattle.tetri_cert.specs.ProperTrees.{IsLeaf, IsShaped, ShapeIsOfTrees, Tree, ends, preorder, splits}
 use Rattle.tetri_cert.specs.Trees.{fills, if_fills, places_behind, tree_bound, tree_from}
-use Rattle.tetri_cert.proofs.ProperTreeLaws.{append_nil, preorders}
+use Rattle.tetri_cert.proofs.ProperTreeLemmas.{append_nil, preorders}
 
 -- ---- no node has the fault of shape
 passed_on : (t : Bool) (e f : TreeFault) (r : Result ℕ TreeFault) → refuse t e r ≡ Err f → (e ≡ f) ⊎ (r ≡ Err f)

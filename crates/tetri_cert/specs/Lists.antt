@@ -1,5 +1,6 @@
 -- Comma lists, in ascending order of a key.
 use Rattle.std.specs.Prelude.{ℕ, ◌+◌, ◌≤◌, List, [], ◌∷◌, ◌++◌, flat_map, nat_lt, Option, Some, None, if◌then◌else◌, bytes_eq, codes}
+use Rattle.tetri_io.specs.Codec.{Codec}
 use Rattle.tetri_io.specs.Words.{parts_at}
 use Rattle.tetri_base.specs.OptionSteps.{◌>>=◌}
 
@@ -26,6 +27,9 @@ entries_from read key least (p ∷ ps) = read p >>= λ e. if nat_lt (key e) leas
 -- the entries of a list
 unfoldable pub list_in : {E : Type 0} → (List ℕ → Option E) → (E → ℕ) → List ℕ → Option (List E)
 list_in read key word = if bytes_eq word (codes "-") then Some [] else entries_from read key 0 (parts_at 44 word)
+
+abbrev pub lists : {E : Type 0} → (E → ℕ) → Codec E → Codec (List E)
+lists key c = record { text = list_text c.text; read = list_in c.read key; IsSuch = Ascend key c.IsSuch 0 }
 
 -- entries behind those that were read
 abbrev pub onto : {E : Type 0} → List E → Option (List E) → Option (List E)

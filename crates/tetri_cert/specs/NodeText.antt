@@ -1,9 +1,12 @@
 -- The lines of marks.
-use Rattle.std.specs.Prelude.{◌≡◌, ℕ, ◌<◌, ◌≤◌, ◌^◌, ◌++◌, List, [], ◌∷◌, length, Option, Some, None, if◌then◌else◌, bytes_eq, codes, decimal}
+use Rattle.std.specs.Prelude.{◌≡◌, ℕ, ◌<◌, ◌≤◌, ◌^◌, ◌++◌, List, [], ◌∷◌, length, Option, Some, None, codes, decimal}
 use Rattle.std.specs.Fmt.{signed_decimal}
+use Rattle.std.specs.List.{join_with_byte}
+use Rattle.tetri_base.specs.OptionSteps.{◌>>=◌}
+use Rattle.tetri_io.specs.Codec.{Codec, among, by_tag, first_of_text, four_in, one_in, two_in}
 use Rattle.tetri_io.specs.Words.{words_of}
 use Rattle.tetri_ip.specs.declared.programs.Weight.{Weight}
-use Rattle.tetri_num.specs.Range.{IsWithin}
+use Rattle.tetri_algebra.specs.Range.{IsWithin}
 use Rattle.tetri_num.specs.declared.places.Kind.{Kind}
 use Rattle.tetri_num.specs.declared.places.Kind.TheVariants as kinds
 use Rattle.tetri_num.specs.declared.places.Place.{Place}
@@ -13,10 +16,9 @@ use Rattle.tetri_cert.specs.declared.marks.Mark.{Mark}
 use Rattle.tetri_cert.specs.declared.marks.Mark.TheVariants.{Split, Close, Whole, Rest}
 use Rattle.tetri_cert.specs.declared.marks.Licence.{Licence}
 use Rattle.tetri_cert.specs.declared.marks.Licence.TheVariants as licences
-use Rattle.tetri_cert.specs.Numbers.{small_number, whole_number}
-use Rattle.tetri_base.specs.OptionSteps.{◌>>=◌}
-use Rattle.tetri_cert.specs.Lists.{list_text, list_in, Ascend}
-use Rattle.tetri_cert.specs.Pairs.{weight_key, weight_text, weight_in, IsPlainWeight, cell_key, cell_text, cell_in, IsPlainCell, frac_cell_key, frac_cell_text, frac_cell_in, IsPlainFracCell}
+use Rattle.tetri_cert.specs.Numbers.{small_number, small_numbers, whole_number, whole_numbers}
+use Rattle.tetri_cert.specs.Lists.{lists, list_text, Ascend}
+use Rattle.tetri_cert.specs.Pairs.{weight_key, weight_text, weights, IsPlainWeight, cell_key, cell_text, cells, IsPlainCell, frac_cell_key, frac_cell_text, frac_cells, IsPlainFracCell}
 
 -- ---- text
 abbrev pub kind_text : Kind → List ℕ
@@ -27,22 +29,46 @@ kind_text kinds.Point = codes "point"
 kind_text kinds.Lcm = codes "lcm"
 kind_text kinds.Weigh = codes "weigh"
 
+abbrev pub all_kinds : List Kind
+all_kinds = kinds.Ratio ∷ kinds.Row ∷ kinds.Entry ∷ kinds.Point ∷ kinds.Lcm ∷ kinds.Weigh ∷ []
+
 -- what was formed, after how many pivots, and the row and the column of the table
+abbrev pub place_words : Place → List (List ℕ)
+place_words p = kind_text p.kind ∷ decimal p.step ∷ decimal p.row ∷ decimal p.column ∷ []
+
+abbrev pub licence_tag : Licence → List ℕ
+licence_tag (licences.Point cells) = codes "point"
+licence_tag (licences.Past p) = codes "past"
+licence_tag licences.Long = codes "long"
+
+-- the words behind the tag
+abbrev pub licence_words : Licence → List (List ℕ)
+licence_words (licences.Point cells) = list_text frac_cell_text cells ∷ []
+licence_words (licences.Past p) = place_words p
+licence_words licences.Long = []
+
+abbrev pub node_tag : Mark → List ℕ
+node_tag (Split column at licence) = codes "split"
+node_tag (Close q ws) = codes "close"
+node_tag (Whole q ws worth point) = codes "whole"
+node_tag (Rest q ws) = codes "rest"
+
+-- the words behind the tag
+abbrev pub node_words : Mark → List (List ℕ)
+node_words (Split column at licence) = decimal column ∷ signed_decimal at ∷ licence_tag licence ∷ licence_words licence
+node_words (Close q ws) = signed_decimal q ∷ list_text weight_text ws ∷ []
+node_words (Whole q ws worth point) = signed_decimal q ∷ list_text weight_text ws ∷ signed_decimal worth ∷ list_text cell_text point ∷ []
+node_words (Rest q ws) = signed_decimal q ∷ list_text weight_text ws ∷ []
+
 abbrev pub place_text : Place → List ℕ
-place_text p = kind_text p.kind ++ codes " " ++ decimal p.step ++ codes " " ++ decimal p.row ++ codes " " ++ decimal p.column
+place_text p = join_with_byte 32 (place_words p)
 
 unfoldable pub licence_text : Licence → List ℕ
-licence_text (licences.Point cells) = codes "point " ++ list_text frac_cell_text cells
-licence_text (licences.Past p) = codes "past " ++ place_text p
-licence_text licences.Long = codes "long"
+licence_text licence = join_with_byte 32 (licence_tag licence ∷ licence_words licence)
 
 -- the line of a node, without its line feed
 unfoldable pub node_text : Mark → List ℕ
-node_text (Split column at licence) = codes "split " ++ decimal column ++ codes " " ++ signed_decimal at ++ codes " " ++ licence_text licence
-node_text (Close q ws) = codes "close " ++ signed_decimal q ++ codes " " ++ list_text weight_text ws
-node_text (Whole q ws worth point) =
-    codes "whole " ++ signed_decimal q ++ codes " " ++ list_text weight_text ws ++ codes " " ++ signed_decimal worth ++ codes " " ++ list_text cell_text point
-node_text (Rest q ws) = codes "rest " ++ signed_decimal q ++ codes " " ++ list_text weight_text ws
+node_text m = join_with_byte 32 (node_tag m ∷ node_words m)
 
 -- the same with its line feed
 abbrev pub node_line : Mark → List ℕ
@@ -76,36 +102,38 @@ HasShortLists most (Whole q ws worth point) = (length ws ≤ most) × (length po
 HasShortLists most (Rest q ws) = length ws ≤ most
 
 -- ---- reading
+abbrev pub weight_lists : Codec (List Weight)
+weight_lists = lists weight_key weights
+
+abbrev pub cell_lists : Codec (List Cell)
+cell_lists = lists cell_key cells
+
+abbrev pub frac_cell_lists : Codec (List FracCell)
+frac_cell_lists = lists frac_cell_key frac_cells
+
 abbrev pub weights_in : List ℕ → Option (List Weight)
-weights_in word = list_in weight_in weight_key word
+weights_in word = weight_lists.read word
 
 abbrev pub cells_in : List ℕ → Option (List Cell)
-cells_in word = list_in cell_in cell_key word
+cells_in word = cell_lists.read word
 
 abbrev pub frac_cells_in : List ℕ → Option (List FracCell)
-frac_cells_in word = list_in frac_cell_in frac_cell_key word
+frac_cells_in word = frac_cell_lists.read word
 
 unfoldable pub kind_in : List ℕ → Option Kind
-kind_in word =
-    if bytes_eq word (codes "ratio") then Some kinds.Ratio
-    else (if bytes_eq word (codes "row") then Some kinds.Row
-    else (if bytes_eq word (codes "entry") then Some kinds.Entry
-    else (if bytes_eq word (codes "point") then Some kinds.Point
-    else (if bytes_eq word (codes "lcm") then Some kinds.Lcm
-    else (if bytes_eq word (codes "weigh") then Some kinds.Weigh else None)))))
+kind_in word = first_of_text kind_text all_kinds word
+
+abbrev pub kind_words : Codec Kind
+kind_words = record (among kind_text all_kinds) { read = kind_in }
+
+abbrev pub past_of : Kind → ℕ → ℕ → ℕ → Licence
+past_of kind step row column = licences.Past (record { kind = kind; step = step; row = row; column = column })
 
 abbrev pub point_in : List (List ℕ) → Option Licence
-point_in (cells ∷ []) = frac_cells_in cells >>= λ cells. Some (licences.Point cells)
-point_in words = None
+point_in words = one_in licences.Point frac_cell_lists words
 
 abbrev pub past_in : List (List ℕ) → Option Licence
-past_in (kind ∷ step ∷ row ∷ column ∷ []) = do
-  kind ← kind_in kind
-  step ← small_number step
-  row ← small_number row
-  column ← small_number column
-  Some (licences.Past (record { kind = kind; step = step; row = row; column = column }))
-past_in words = None
+past_in words = four_in past_of kind_words small_numbers small_numbers small_numbers words
 
 abbrev pub long_in : List (List ℕ) → Option Licence
 long_in [] = Some licences.Long
@@ -113,9 +141,7 @@ long_in (word ∷ words) = None
 
 -- why a region was split, by a tag and the words behind it
 unfoldable pub licence_by_tag : List ℕ → List (List ℕ) → Option Licence
-licence_by_tag tag words =
-    if bytes_eq tag (codes "point") then point_in words
-    else (if bytes_eq tag (codes "past") then past_in words else (if bytes_eq tag (codes "long") then long_in words else None))
+licence_by_tag tag words = by_tag ((codes "point", point_in) ∷ (codes "past", past_in) ∷ (codes "long", long_in) ∷ []) tag words
 
 abbrev pub split_in : List (List ℕ) → Option Mark
 split_in (column ∷ at ∷ tag ∷ words) = do
@@ -126,28 +152,17 @@ split_in (column ∷ at ∷ tag ∷ words) = do
 split_in words = None
 
 abbrev pub close_in : List (List ℕ) → Option Mark
-close_in (q ∷ ws ∷ []) = whole_number q >>= λ q. weights_in ws >>= λ ws. Some (Close q ws)
-close_in words = None
+close_in words = two_in Close whole_numbers weight_lists words
 
 abbrev pub whole_in : List (List ℕ) → Option Mark
-whole_in (q ∷ ws ∷ worth ∷ point ∷ []) = do
-  q ← whole_number q
-  ws ← weights_in ws
-  worth ← whole_number worth
-  point ← cells_in point
-  Some (Whole q ws worth point)
-whole_in words = None
+whole_in words = four_in Whole whole_numbers weight_lists whole_numbers cell_lists words
 
 abbrev pub rest_in : List (List ℕ) → Option Mark
-rest_in (q ∷ ws ∷ []) = whole_number q >>= λ q. weights_in ws >>= λ ws. Some (Rest q ws)
-rest_in words = None
+rest_in words = two_in Rest whole_numbers weight_lists words
 
 -- a node by its tag and the words behind it
 unfoldable pub node_by_tag : List ℕ → List (List ℕ) → Option Mark
-node_by_tag tag words =
-    if bytes_eq tag (codes "split") then split_in words
-    else (if bytes_eq tag (codes "close") then close_in words
-    else (if bytes_eq tag (codes "whole") then whole_in words else (if bytes_eq tag (codes "rest") then rest_in words else None)))
+node_by_tag tag words = by_tag ((codes "split", split_in) ∷ (codes "close", close_in) ∷ (codes "whole", whole_in) ∷ (codes "rest", rest_in) ∷ []) tag words
 
 abbrev pub node_of_words : List (List ℕ) → Option Mark
 node_of_words [] = None

@@ -1,10 +1,11 @@
 -- Numbers of certificates as text.
 use Rattle.std.proofs.Common.{◌≡◌, refl}
-use Rattle.std.specs.Prelude.{ℕ, ◌^◌, ◌==◌, ◌++◌, List, [], ◌∷◌, Bool, true, false, take, drop, Option, Some, None, if◌then◌else◌, option_map, bytes_eq, codes}
+use Rattle.std.specs.Prelude.{ℕ, ◌^◌, ◌==◌, List, Bool, true, false, take, drop, Option, Some, None, if◌then◌else◌, option_map, bytes_eq, codes}
 use Rattle.std.specs.Fmt.{signed_decimal}
 use lib.IntN.{ℤ, pos, neg_ℤ}
+use Rattle.tetri_io.specs.Codec.{Codec, both_in, image, numbers, pair}
 use Rattle.tetri_io.specs.Numbers.{number_below}
-use Rattle.tetri_io.specs.Words.{parts_at}
+use Rattle.tetri_algebra.specs.Range.{IsWithin}
 use Rattle.tetri_num.specs.declared.fractions.Frac.{Frac}
 use Rattle.tetri_cert.specs.NumbersLowest.{is_lowest, lowest_from}
 use Rattle.tetri_base.specs.OptionSteps.{◌>>=◌}
@@ -21,10 +22,13 @@ negative_number digits = number_below (2 ^ 127) digits >>= λ n. if n == 0 then 
 unfoldable pub whole_number : List ℕ → Option ℤ
 whole_number word = if bytes_eq (take 1 word) (codes "-") then negative_number (drop 1 word) else option_map pos (number_below (2 ^ 127) word)
 
--- ---- fractions
-abbrev pub frac_text : Frac → List ℕ
-frac_text x = signed_decimal x.num ++ (codes "/" ++ signed_decimal x.den)
+abbrev pub small_numbers : Codec ℕ
+small_numbers = numbers (2 ^ 32)
 
+abbrev pub whole_numbers : Codec ℤ
+whole_numbers = record { text = signed_decimal; read = whole_number; IsSuch = IsWithin }
+
+-- ---- fractions
 abbrev pub frac_by_test : (num den : ℤ) (t : Bool) → is_lowest num den ≡ t → Option Frac
 frac_by_test num den true e = Some (record { num = num; den = den; lowest = lowest_from num den e })
 frac_by_test num den false e = None
@@ -33,10 +37,16 @@ frac_by_test num den false e = None
 unfoldable pub frac_of : ℤ → ℤ → Option Frac
 frac_of num den = frac_by_test num den (is_lowest num den) refl
 
-abbrev pub frac_of_parts : List (List ℕ) → Option Frac
-frac_of_parts (num ∷ den ∷ []) = whole_number num >>= λ num. whole_number den >>= λ den. frac_of num den
-frac_of_parts parts = None
+abbrev pub frac_of_parts : ℤ × ℤ → Option Frac
+frac_of_parts p = frac_of p.0 p.1
 
--- the fraction whose parts stand around a slash
-unfoldable pub frac_in : List ℕ → Option Frac
-frac_in word = frac_of_parts (parts_at 47 word)
+-- fractions, whose parts stand around a slash
+abbrev pub fracs : Codec Frac
+fracs = image frac_of_parts (λ x. (x.num, x.den)) (λ x. Unit {0}) (pair 47 whole_numbers whole_numbers)
+
+-- the fraction that the texts of its parts give
+abbrev pub frac_of_halves : List ℕ × List ℕ → Option Frac
+frac_of_halves h = both_in whole_numbers whole_numbers h >>= frac_of_parts
+
+abbrev pub frac_in : List ℕ → Option Frac
+frac_in word = fracs.read word

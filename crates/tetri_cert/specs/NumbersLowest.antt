@@ -6,7 +6,7 @@ use Rattle.std.proofs.lemmas.Int.{ints}
 use lib.IntN.{ℤ, pos}
 use Rattle.tetri_algebra.specs.Gcd.{gcd_of}
 use Rattle.tetri_num.specs.Lowest.{IsLowest}
-use Rattle.tetri_num.specs.Range.{is_within}
+use Rattle.tetri_algebra.specs.Range.{is_within}
 
 -- whether a numerator and a denominator are in lowest terms and in range, the denominator above 0
 abbrev pub is_lowest : ℤ → ℤ → Bool

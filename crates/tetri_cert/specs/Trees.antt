@@ -48,8 +48,8 @@ unfoldable pub tree_bound : Program → List Mark → Result ℕ TreeFault
 tree_bound p ms = if_fills (fills 1 ms) (tree_from p (box_of p ∷ []) 0 0 ms)
 
 -- the bound or the first fault, unless memory ran out
-abbrev pub Gives : Result ℕ TreeFault → Result ℕ TreeFault → Type 0
-Gives (Ok n) told = told ≡ Ok n
-Gives (Err NoMemory) told = Unit {0}
-Gives (Err (Bad node w)) told = told ≡ Err (Bad node w)
-Gives (Err (Past node j)) told = told ≡ Err (Past node j)
+abbrev pub IsTreeAnswer : Result ℕ TreeFault → Result ℕ TreeFault → Type 0
+IsTreeAnswer (Ok n) told = told ≡ Ok n
+IsTreeAnswer (Err NoMemory) told = Unit {0}
+IsTreeAnswer (Err (Bad node w)) told = told ≡ Err (Bad node w)
+IsTreeAnswer (Err (Past node j)) told = told ≡ Err (Past node j)

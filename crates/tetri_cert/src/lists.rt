@@ -8,10 +8,10 @@ ghost use Rattle.tetri_cert.specs.Pairs.{
   cell_text,
   frac_cell_in,
   frac_cell_key,
-  frac_cell_of_parts,
+  frac_cell_of_halves,
   frac_cell_text,
   pair_in,
-  pair_of_parts,
+  pair_of_halves,
   weight_in,
   weight_key,
   weight_text,
@@ -98,7 +98,7 @@ pub(crate) fn add_frac_cells(out: &mut String, cells: &[FracCell]) -> Result<(),
 
 // ---- reading
 fn pair_of_halves(key: &[u8], by: &[u8]) -> Option<(u32, i128)>
-    ensures { result ≡ pair_of_parts (key.now ∷ by.now ∷ []) }
+    ensures { result ≡ pair_of_halves (key.now, by.now) }
 {
     let key = small_number(key)?;
     let by = whole_number(by)?;
@@ -116,7 +116,7 @@ fn pair_in(word: &[u8]) -> Option<(u32, i128)>
 }
 
 fn frac_cell_of_halves(column: &[u8], value: &[u8]) -> Option<FracCell>
-    ensures { result ≡ frac_cell_of_parts (column.now ∷ value.now ∷ []) }
+    ensures { result ≡ frac_cell_of_halves (column.now, value.now) }
 {
     let column = small_number(column)?;
     let value = frac_in(value)?;

@@ -5,7 +5,7 @@ ghost use Rattle.std.specs.List.{list_any};
 ghost use Rattle.tetri_ip.specs.Points.{IsFit, IsInBox, bounds_of};
 ghost use Rattle.tetri_cert.specs.Cells.{is_whole_point};
 ghost use Rattle.tetri_cert.specs.NodeBounds.{bound_by, capped, is_unknown_row, multiplied, node_bound, quotient_at, split_bound, weights_bound};
-ghost use Rattle.tetri_cert.specs.Trees.{Gives};
+ghost use Rattle.tetri_cert.specs.Trees.{IsTreeAnswer};
 
 use crate::faults::{TreeFault, TreeWhy};
 use crate::marks::Mark;
@@ -38,7 +38,7 @@ fn cap(z: i128) -> u64
 
 // The floor of a weighed number over q, or that q is no multiplier of it.
 fn quotient(node: u64, q: i128, weighed: i128) -> Result<u64, TreeFault>
-    ensures { Gives result (multiplied node q (quotient_at node q weighed)) }
+    ensures { IsTreeAnswer result (multiplied node q (quotient_at node q weighed)) }
 {
     if q > 0 {
         return Ok(cap(weighed.div_euclid(q)));
@@ -51,7 +51,7 @@ fn quotient(node: u64, q: i128, weighed: i128) -> Result<u64, TreeFault>
 
 // What a fault of weighing is at this node.
 fn weigh_fault(node: u64, q: i128, fault: WeighFault) -> Result<u64, TreeFault>
-    ensures { Gives result (bound_by node q (Err fault)) }
+    ensures { IsTreeAnswer result (bound_by node q (Err fault)) }
 {
     match fault {
         WeighFault::Negative(_) => bad(node, TreeWhy::Negative),
@@ -76,7 +76,7 @@ fn test_weights(
     requires fit { IsFit p.now }
     requires in_box { IsInBox p.now (bounds_of r.now) }
     requires length { length factors.old ≡ length p.now.costs.items }
-    ensures { Gives result (weights_bound p.now (bounds_of r.now) node q weights.now) }
+    ensures { IsTreeAnswer result (weights_bound p.now (bounds_of r.now) node q weights.now) }
 {
     if has_unknown_row(p.rows.len(), weights) {
         return bad(node, TreeWhy::Row);
@@ -96,7 +96,7 @@ fn bad(node: u64, why: TreeWhy) -> Result<u64, TreeFault>
 #[tactic(auto, using(crate::proofs::Signed::signed), unfolding(crate::specs::NodeBounds::split_bound))]
 fn test_split(p: &Program, r: &Region, node: u64, column: u32, at: i128) -> Result<u64, TreeFault>
     requires in_box { IsInBox p.now (bounds_of r.now) }
-    ensures { Gives result (split_bound p.now (bounds_of r.now) node column at) }
+    ensures { IsTreeAnswer result (split_bound p.now (bounds_of r.now) node column at) }
 {
     let place = column as usize;
     if place >= p.costs.len() {
@@ -124,7 +124,7 @@ pub(crate) fn test_node(
     requires fit { IsFit p.now }
     requires in_box { IsInBox p.now (bounds_of r.now) }
     requires length { length factors.old ≡ length p.now.costs.items }
-    ensures { Gives result (node_bound p.now (bounds_of r.now) node mark.now) }
+    ensures { IsTreeAnswer result (node_bound p.now (bounds_of r.now) node mark.now) }
 {
     match mark {
         Mark::Split { column, at, .. } => test_split(p, r, node, *column, *at),

@@ -73,7 +73,7 @@ fn add_licence(out: &mut String, licence: &Licence) -> Result<(), AllocError>
 }
 
 // The mark without a line feed.
-#[tactic(auto, unfolding(crate::specs::NodeText::node_text))]
+#[tactic(auto, unfolding(crate::specs::NodeText::node_text, crate::specs::NodeText::licence_text))]
 fn add_mark(out: &mut String, mark: &Mark) -> Result<(), AllocError>
     ensures { OnOk result (string_bytes out.new ≡ string_bytes out.old ++ node_text mark.now) }
 {

@@ -3,7 +3,7 @@
 ghost use Rattle.std.specs.Prelude.{◌≡◌, ℕ, ◌<◌, ◌≤◌, ◌+◌, ◌-◌, ◌^◌, List, [], ◌∷◌, OnOk, OnErr, IfOk, map, not};
 ghost use Rattle.tetri_ip.specs.Points.{IsFit, bounds_of};
 ghost use Rattle.tetri_cert.specs.declared.marks.Mark.{Mark};
-ghost use Rattle.tetri_cert.specs.Trees.{Gives, nodes_in, places_behind, tree_bound};
+ghost use Rattle.tetri_cert.specs.Trees.{IsTreeAnswer, nodes_in, places_behind, tree_bound};
 
 use crate::faults::{TreeFault, TreeWhy};
 use crate::marks::Mark;
@@ -183,7 +183,7 @@ pub fn count_nodes(marks: &[Mark]) -> u64
 /// preorder; else the first fault of the first node in preorder that has one.
 pub fn bound(alloc: Global, p: &Program, marks: &[Mark]) -> Result<u64, TreeFault>
     requires fit { IsFit p.now }
-    ensures { Gives result (tree_bound p.now (marks.now)) }
+    ensures { IsTreeAnswer result (tree_bound p.now (marks.now)) }
 {
     let Ok(mut walk) = Walk::new(alloc, p) else {
         return Err(TreeFault::NoMemory);

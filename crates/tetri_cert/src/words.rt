@@ -1,7 +1,7 @@
 // Numbers in words.
-ghost use Rattle.std.specs.Prelude.{◌≡◌, ◌∷◌, [], IfSome};
-ghost use Rattle.tetri_num.specs.Range.{IsWithin};
-ghost use Rattle.tetri_cert.specs.Numbers.{frac_in, frac_of, frac_of_parts, negative_number, small_number, whole_number};
+ghost use Rattle.std.specs.Prelude.{◌≡◌, IfSome};
+ghost use Rattle.tetri_algebra.specs.Range.{IsWithin};
+ghost use Rattle.tetri_cert.specs.Numbers.{frac_in, frac_of, frac_of_halves, negative_number, small_number, whole_number};
 
 use tetri_io::{halves_at, number_below};
 use tetri_num::Frac;
@@ -58,7 +58,7 @@ fn frac_of(num: i128, den: i128) -> Option<Frac>
 }
 
 fn frac_of_halves(num: &[u8], den: &[u8]) -> Option<Frac>
-    ensures { result ≡ frac_of_parts (num.now ∷ den.now ∷ []) }
+    ensures { result ≡ frac_of_halves (num.now, den.now) }
 {
     let num = whole_number(num)?;
     let den = whole_number(den)?;

@@ -1,11 +1,11 @@
 -- Whole numbers below a limit, and their texts.
-use Rattle.std.proofs.Common.{◌≡◌, ◌≢◌, ℕ, zero, suc, ◌+◌, ◌*◌, ◌/◌, ◌%◌, ◌^◌, ◌<◌, ◌≤◌, refl, sym, ap, ◌∙◌, subst, arith, List, [], ◌∷◌, ◌++◌, length, get_or, cond, Bool, true, false, eqb, Option, Some, None, decimal, bytes_eq, All, append_assoc, lit≤}
-use Rattle.std.specs.Prelude.{◌&&◌, nat_lt}
+use Rattle.std.proofs.Common.{◌≡◌, ◌≢◌, ℕ, zero, suc, ◌+◌, ◌*◌, ◌/◌, ◌%◌, ◌^◌, ◌<◌, ◌≤◌, refl, sym, ap, ◌∙◌, subst, arith, List, [], ◌∷◌, ◌++◌, length, get_or, cond, Bool, true, false, eqb, Option, Some, None, decimal, bytes_eq, All, append_assoc, lit<, lit≤}
+use Rattle.std.specs.Prelude.{◌&&◌, ◌⊎◌, nat_lt}
 use Rattle.std.specs.Char.{digit_value, is_ascii_digit}
 use Rattle.std.specs.List.{list_all}
 use Rattle.std.specs.Str.Parse.{AllDigits, IsNumeral, digits_value, digits_value_after}
 use Rattle.std.proofs.lemmas.Bool.{false≢true, eqb-true, eq-eqb, lt-ltb, ltb-true}
-use Rattle.std.proofs.lemmas.Fmt.{decimal_by_steps_wide, decimal_digit, decimal_is_IsNumeral_wide, decimal_step_wide}
+use Rattle.std.proofs.lemmas.Fmt.{decimal_by_steps_wide, decimal_digit, decimal_is_IsNumeral_wide, decimal_step_wide, length-decimal-le_wide}
 use Rattle.std.proofs.lemmas.List.{append-nil}
 use Rattle.std.proofs.lemmas.List.Elements.{All-cons}
 use Rattle.std.proofs.lemmas.Option.{cond_some}
@@ -24,14 +24,14 @@ both_true false b h = absurd (false≢true h)
 abbrev pub Avoids : ℕ → List ℕ → Type 0
 Avoids mark bytes = All (λ b. eqb b mark ≡ false) bytes
 
-other : (x c : ℕ) → x ≢ c → eqb x c ≡ false
+pub other : (x c : ℕ) → x ≢ c → eqb x c ≡ false
 other x c n = by_test (eqb x c) refl
   where
     by_test : (t : Bool) → eqb x c ≡ t → t ≡ false
     by_test true e = absurd (n (eqb-true x c e))
     by_test false e = refl
 
-digits_avoid : (mark : ℕ) (ds : List ℕ) → mark < 48 → AllDigits 10 ds → Avoids mark ds
+digits_avoid : (mark : ℕ) (ds : List ℕ) → (mark < 48) ⊎ (57 < mark) → AllDigits 10 ds → Avoids mark ds
 digits_avoid mark [] h d = λ k e l. absurd (omega arith)
 digits_avoid mark (x ∷ xs) h d = All-cons (λ y. eqb y mark ≡ false) x xs (other x mark (λ (e : x ≡ mark). let r = digit_from_value x d.0 in omega arith)) (digits_avoid mark xs h d.1)
 
@@ -41,8 +41,8 @@ wide n h = let k : 2 ^ 127 ≤ 10 ^ 64 = lit≤ tt in omega arith
 pub numeral : (n : ℕ) → n < 2 ^ 127 → IsNumeral 10 (decimal n) × (digits_value 10 (decimal n) ≡ n)
 numeral n h = decimal_is_IsNumeral_wide n (wide n h)
 
--- a mark that stands before the digits among the bytes is in no number
-pub decimal_avoids : (mark n : ℕ) → mark < 48 → n < 2 ^ 127 → Avoids mark (decimal n)
+-- a byte that is no digit is in no number
+pub decimal_avoids : (mark n : ℕ) → (mark < 48) ⊎ (57 < mark) → n < 2 ^ 127 → Avoids mark (decimal n)
 decimal_avoids mark n m h = digits_avoid mark (decimal n) m (numeral n h).0.1
 
 -- a printed number reads back
@@ -70,6 +70,10 @@ refused limit bytes h = by_result (number_below limit bytes) refl
     by_result : (o : Option ℕ) → number_below limit bytes ≡ o → None ≡ o
     by_result None e = refl
     by_result (Some n) e = let r = number_below-only limit bytes n e in absurd (h n r.0 r.1)
+
+-- no number has more than 39 digits
+pub decimal_short : (n : ℕ) → n < 2 ^ 127 → length (decimal n) ≤ 39
+decimal_short n h = let k : 2 ^ 127 ≤ 10 ^ 39 = lit≤ tt in length-decimal-le_wide 39 n (lit< tt) (omega arith) (wide n h)
 
 -- ---- texts that are no number
 first_digit : (n : ℕ) → n < 2 ^ 127 → (0 < length (decimal n)) × (0 < n → 48 < get_or (decimal n) 0 0)

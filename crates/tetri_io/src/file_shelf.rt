@@ -2,7 +2,7 @@
 ghost use Rattle.std.specs.Prelude.{◌≡◌, ◌+◌, ◌<◌, ◌≤◌, ◌^◌, List, ℕ, Some, length, IfOk, IfSome};
 ghost use Rattle.std.specs.Io.{ReadsAtMost};
 ghost use Rattle.tetri_io.specs.Causes.{HasCause, count_after};
-ghost use Rattle.tetri_io.specs.Shelf.{Gives};
+ghost use Rattle.tetri_io.specs.Shelf.{IsReadAt};
 
 use crate::{Failed, Shelf};
 use std::fs;
@@ -54,7 +54,7 @@ impl<R: Files> Shelf for FileShelf<'_, R> {
         ensures count { ReadsAtMost result buf.new }
         ensures within { IfOk result (λ n. offset + n < 2 ^ 63) }
         ensures bytes { (content : List ℕ) → told_content self.old name.now ≡ Some content
-            → IfOk result (λ n. Gives content offset n buf.new) }
+            → IfOk result (λ n. IsReadAt content offset n buf.new) }
         ensures same { told_content self.new ≡ told_content self.old }
         ensures cause { HasCause (fault_count self.old) (fault_count self.new) result }
         ensures later { (other : List ℕ) → fault_count self.old ≤ fault_count self.new }

@@ -1,6 +1,6 @@
 // The words of a line.
 ghost use Rattle.std.specs.Prelude.{◌≡◌, ◌≢◌, ◌==◌, All, IfOk, MatchOption, map};
-ghost use Rattle.tetri_io.specs.Words.{AreHalves, parts_at};
+ghost use Rattle.tetri_io.specs.Words.{AreHalves, is_blank, parts_at};
 
 use std::alloc::{AllocError, Global};
 
@@ -21,4 +21,11 @@ pub fn halves_at(mark: u8, bytes: &[u8]) -> Option<(&[u8], &[u8])>
         }
     }
     None
+}
+
+/// Whether the byte is a space, a tab or a carriage return.
+pub fn is_blank(b: u8) -> bool
+    ensures { result ≡ is_blank b }
+{
+    b == b' ' || b == b'\t' || b == b'\r'
 }

@@ -2,7 +2,7 @@ use Rattle.std.proofs.Common.{◌≡◌, ℕ, ◌+◌, ◌<◌, ◌∙◌, ap, l
 use Rattle.tetri_ip.specs.Points.{Bounds, bounds_of}
 use Rattle.tetri_cert.specs.Turns.{pending}
 use Rattle.tetri_cert.specs.Walks.{AreInBox, tells_nodes}
-use Rattle.tetri_cert.proofs.RegionLaws.{sides_in_box}
+use Rattle.tetri_cert.proofs.RegionLemmas.{sides_in_box}
 use Rattle.tetri_cert.proofs.Steps.{first_in_box, has_sides, length_kept, tells_dead}
 use Rattle.tetri_cert.proofs.walk.Walk.visit.Goals as goal
 

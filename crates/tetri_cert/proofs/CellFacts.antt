@@ -12,8 +12,8 @@ use lib.IntN.{ℤ, pos}
 use Rattle.tetri_algebra.specs.Rational.{ℚ}
 use Rattle.tetri_num.specs.declared.fractions.Frac.{Frac}
 use Rattle.tetri_num.specs.Frac.{value}
-use Rattle.tetri_num.specs.Range.{IsWithin}
-use Rattle.tetri_num.proofs.Values.{num-value, den-value}
+use Rattle.tetri_algebra.specs.Range.{IsWithin}
+use Rattle.tetri_num.proofs.FractionLaws.{num-value, den-value}
 use Rattle.tetri_ip.specs.Points.{number_at}
 use Rattle.tetri_cert.specs.declared.marks.Cell.{Cell}
 use Rattle.tetri_cert.specs.declared.marks.FracCell.{FracCell}
