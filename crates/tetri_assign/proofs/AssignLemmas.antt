@@ -24,7 +24,7 @@ use Rattle.tetri_compile.specs.declared.taking.Taken.{Taken}
 use Rattle.tetri_compile.specs.Counting.{AreCountsOf, taken_at}
 use Rattle.tetri_compile.specs.Flat.{IsCompiled}
 use Rattle.tetri_assign.specs.Assigned.{all_held, assigned, count_at, gathered}
-use Rattle.tetri_assign.specs.Taking.{NEVER, back_at, backs, taken_from, want_of, wants_from}
+use Rattle.tetri_assign.specs.steps.Taking.{NEVER, back_at, backs, taken_from, want_of, wants_from}
 use Rattle.tetri_assign.specs.declared.held.Held.{Held}
 use Rattle.tetri_assign.specs.declared.wants.Want.{Want}
 use Rattle.tetri_assign.proofs.BackLemmas.{IsOpenAt, first_backs, taken_sum}

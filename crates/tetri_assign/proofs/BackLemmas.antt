@@ -14,7 +14,7 @@ use Rattle.tetri_base.proofs.ListLaws.{Each-map, has-filter, sum_of-append, test
 use Rattle.tetri_compile.specs.declared.outline.Tally.{Tally}
 use Rattle.tetri_compile.specs.Sizes.{covers}
 use Rattle.tetri_assign.specs.Assigned.{Piece, is_taken, spare, piece, pieces, held, all_held}
-use Rattle.tetri_assign.specs.Taking.{NEVER, back_at, backs, ready, hold, want_of, taken_from}
+use Rattle.tetri_assign.specs.steps.Taking.{NEVER, back_at, backs, ready, hold, want_of, taken_from}
 use Rattle.tetri_assign.specs.declared.held.Held.{Held}
 use Rattle.tetri_assign.proofs.LawfulFacts.{free_if_idle, idle_of_free}
 use Rattle.tetri_assign.proofs.Pieces.{has-take, has_own}

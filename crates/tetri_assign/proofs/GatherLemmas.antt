@@ -6,7 +6,7 @@ use Rattle.std.proofs.lemmas.List.{drop_more}
 use Rattle.tetri_strl.specs.declared.grants.Grant.{Grant}
 use Rattle.tetri_base.proofs.ListLaws.{eq_from_test}
 use Rattle.tetri_assign.specs.Assigned.{give, gathered, grant}
-use Rattle.tetri_assign.specs.Gathering.{with_open}
+use Rattle.tetri_assign.specs.steps.Gathering.{with_open}
 use Rattle.tetri_assign.specs.declared.held.Held.{Held}
 
 -- an answer that is the opposite

@@ -12,7 +12,7 @@ use Rattle.tetri_compile.proofs.ProgramLaws.{granted_total}
 use Rattle.tetri_assign.specs.Assigned.{Piece, held, all_held, held_before, give, gathered, grant}
 use Rattle.tetri_base.specs.Order.{in_order}
 use Rattle.tetri_assign.specs.declared.held.Held.{Held}
-use Rattle.tetri_base.proofs.OrderLaws.{NotAfter, IsOrder, sum_of-in_order, Each-in_order, EachPair-in_order, in_order-rises}
+use Rattle.tetri_base.proofs.OrderLaws.{Each-in_order, EachPair-in_order, in_order-rises, order_by, order_then, IsOrder, NotAfter, sum_of-in_order}
 
 -- the leaf got the node
 abbrev pub goes_to : ℕ → ℕ → Held → Bool
@@ -77,14 +77,8 @@ granted_weigh a job leaf =
     (Each-all _ (λ g. ap (λ n. cond (suits job leaf g) n 0) (sym (sum_of-one g.nodes))) a)
 
 -- ---- grants by job and leaf, each ascending
-held_asymmetric : (a b : Held) → held_before a b ≡ true → held_before b a ≡ false
-held_asymmetric a b e = grind (arith, nat_tests)
-
-held_transitive : (a b c : Held) → held_before b a ≡ false → held_before c b ≡ false → held_before c a ≡ false
-held_transitive a b c p q = grind (arith, nat_tests)
-
 pub held_order : IsOrder held_before
-held_order = record { asymmetric = held_asymmetric; transitive = held_transitive }
+held_order = order_then (λ (a : Held). a.job) _ (order_then (λ (a : Held). a.leaf) _ (order_by (λ (a : Held). a.node)))
 
 same_job : (a b : Held) → held_before a b ≡ false → held_before b a ≡ false → a.job ≡ b.job
 same_job a b p q = grind (arith, nat_tests)

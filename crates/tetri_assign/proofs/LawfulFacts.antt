@@ -6,7 +6,7 @@ use Rattle.tetri_base.specs.Lists.{has}
 use Rattle.tetri_space.specs.Free.{is_closed, is_free, is_idle}
 use Rattle.tetri_space.specs.Partitions.{is_closed_part, part_at}
 use Rattle.tetri_space.specs.Space.{Space}
-use Rattle.tetri_space.proofs.ClosedLaws.{idle_later}
+use Rattle.tetri_space.proofs.InstanceLaws.{idle_later}
 use Rattle.tetri_compile.specs.Usable.{is_shut}
 use Rattle.tetri_compile.proofs.ProgramLaws.{Each-has, none_in_range, none_of}
 

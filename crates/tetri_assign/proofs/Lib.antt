@@ -1,3 +1,4 @@
+pub mod AssignLaws
 pub mod AssignLemmas
 pub mod BackLemmas
 pub mod Counted

@@ -11,7 +11,7 @@ use Rattle.tetri_base.specs.Lists.{has, Each}
 use Rattle.tetri_space.specs.Partitions.{alike, asked, closed_sets, leads, live_bids, nodes_of, part_at, partitions}
 use Rattle.tetri_space.specs.Space.{Space}
 use Rattle.tetri_base.proofs.ListLaws.{Each-map, Each-append, Each-both, Each-from, Each-get, Each-filter, has-filter, range_from}
-use Rattle.tetri_assign.specs.Taking.{AreMarks, IsMark, held_by, hold, may_use, ready, taken_from}
+use Rattle.tetri_assign.specs.steps.Taking.{AreMarks, IsMark, held_by, hold, may_use, ready, taken_from}
 use Rattle.tetri_assign.specs.declared.held.Held.{Held}
 use Rattle.tetri_assign.specs.declared.backs.Mark.{Mark}
 use Rattle.tetri_assign.specs.declared.wants.Want.{Want}

@@ -22,7 +22,7 @@ use Rattle.std.proofs.lemmas.Option.{same_Some}
 use Rattle.tetri_compile.specs.Sizes.{covers}
 use Rattle.tetri_assign.specs.Assigned.{Piece, piece, pieces, turn_before}
 use Rattle.tetri_base.specs.Order.{in_order}
-use Rattle.tetri_base.proofs.OrderLaws.{sum_of-in_order, Each-in_order}
+use Rattle.tetri_base.proofs.OrderLaws.{Each-in_order, sum_of-in_order}
 use Rattle.tetri_assign.proofs.Turns.{parts_sorted, parts_apart, in_turn, supplied}
 use Rattle.tetri_assign.proofs.Pieces.{IsExact, NoClash, pieces_right, use_at, slot_from}
 

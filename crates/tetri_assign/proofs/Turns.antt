@@ -15,7 +15,7 @@ use Rattle.tetri_compile.proofs.ProgramLaws.{AreMet-split}
 use Rattle.tetri_space.proofs.InstanceLaws.{alike_trans, alike_sym}
 use Rattle.tetri_assign.specs.Assigned.{turn_before}
 use Rattle.tetri_base.specs.Order.{in_order}
-use Rattle.tetri_base.proofs.OrderLaws.{NotAfter, IsOrder, in_order-rises}
+use Rattle.tetri_base.proofs.OrderLaws.{in_order-rises, order_by, order_then, IsOrder, NotAfter}
 
 -- ---- partitions
 module _ {X : Type 0} (R : X → X → Type 0) where
@@ -98,17 +98,13 @@ module _ (i : Space) (asks marks : List (List ℕ)) where
 abbrev pub StartsFirst : Tally → Tally → Type 0
 StartsFirst c d = c.leaf.start ≤ d.leaf.start
 
-turn_asymmetric : (c d : Tally) → turn_before c d ≡ true → turn_before d c ≡ false
-turn_asymmetric c d e = grind (arith, nat_tests)
-
-turn_transitive : (c d e : Tally) → turn_before d c ≡ false → turn_before e d ≡ false → turn_before e c ≡ false
-turn_transitive c d e p q = grind (arith, nat_tests)
-
 turn_start : (c d : Tally) → turn_before d c ≡ false → StartsFirst c d
 turn_start c d e = grind (arith, nat_tests)
 
 pub turn_order : IsOrder turn_before
-turn_order = record { asymmetric = turn_asymmetric; transitive = turn_transitive }
+turn_order =
+    order_then (λ (c : Tally). c.leaf.start) _
+    (order_then (λ (c : Tally). c.job) _ (order_then (λ (c : Tally). c.leaf.num) _ (order_by (λ (c : Tally). c.part))))
 
 pub in_turn : (cs : List Tally) → EachPair StartsFirst (in_order turn_before cs)
 in_turn cs =

@@ -14,13 +14,12 @@ use Rattle.tetri_compile.specs.declared.taking.Taken.{Taken}
 use Rattle.tetri_compile.specs.Counting.{taken, taken_at}
 use Rattle.tetri_compile.specs.Flat.{count_of}
 use Rattle.tetri_assign.specs.Assigned.{count_at, held_before, turn_before}
-use Rattle.tetri_base.specs.Order.{in_order}
-use Rattle.tetri_assign.specs.Taking.{want, want_of, wants_from}
+use Rattle.tetri_base.specs.Order.{in_order, by_then}
+use Rattle.tetri_assign.specs.steps.Taking.{want, want_of, wants_from}
 use Rattle.tetri_assign.specs.declared.held.Held.{Held}
 use Rattle.tetri_assign.specs.declared.wants.Want.{Want}
 use Rattle.tetri_assign.proofs.HeldLemmas.{held_order, same_held}
-use Rattle.tetri_base.proofs.KeyOrderLaws.{by_then, order_then, order_by, tied_first, tied_last, tied_rest, test_then, test_last}
-use Rattle.tetri_base.proofs.OrderLaws.{NotAfter, IsOrder, sum_of-in_order, EachPair-in_order, in_order-rises, sorted_is}
+use Rattle.tetri_base.proofs.OrderLaws.{EachPair-in_order, in_order-rises, IsOrder, NotAfter, order_by, order_then, sorted_is, sum_of-in_order, test_last, test_then, tied_first, tied_last, tied_rest}
 use Rattle.tetri_assign.proofs.Turns.{turn_order}
 
 -- ---- what counts above 0 want

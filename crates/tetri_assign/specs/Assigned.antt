@@ -1,5 +1,5 @@
 -- From the counts of a point to nodes.
-use Rattle.std.specs.Prelude.{ℕ, Bool, ◌&&◌, ◌||◌, not, ◌==◌, nat_lt, if◌then◌else◌, List, [], ◌∷◌, ◌++◌, map, take, unsigned_abs}
+use Rattle.std.specs.Prelude.{ℕ, Bool, ◌&&◌, not, ◌==◌, nat_lt, if◌then◌else◌, List, [], ◌∷◌, ◌++◌, map, take, unsigned_abs}
 use Rattle.std.specs.List.{list_any, filter}
 use lib.IntN.{ℤ}
 use Rattle.tetri_strl.specs.declared.grants.Grant.{Grant}
@@ -12,7 +12,7 @@ use Rattle.tetri_compile.specs.declared.outline.Tally.{Tally}
 use Rattle.tetri_compile.specs.Draft.{draft}
 use Rattle.tetri_compile.specs.Sizes.{covers}
 use Rattle.tetri_assign.specs.declared.held.Held.{Held}
-use Rattle.tetri_base.specs.Order.{in_order}
+use Rattle.tetri_base.specs.Order.{by_then, in_order}
 
 -- what a count took
 pub record Piece : Type 0 where
@@ -25,11 +25,7 @@ is_taken ps t n = list_any (λ q. covers q.tally.leaf t && has q.nodes n) ps
 
 -- by start, job, leaf and partition
 abbrev pub turn_before : Tally → Tally → Bool
-turn_before c d =
-    nat_lt c.leaf.start d.leaf.start
-    || (c.leaf.start == d.leaf.start && (nat_lt c.job d.job
-    || (c.job == d.job && (nat_lt c.leaf.num d.leaf.num
-    || (c.leaf.num == d.leaf.num && nat_lt c.part d.part)))))
+turn_before = by_then (λ (c : Tally). c.leaf.start) (by_then (λ (c : Tally). c.job) (by_then (λ (c : Tally). c.leaf.num) (λ c d. nat_lt c.part d.part)))
 
 -- `x` gives how many nodes a column counts
 module _ (s : Space) (parts : List (List ℕ)) (x : ℕ → ℕ) where
@@ -52,10 +48,7 @@ module _ (s : Space) (parts : List (List ℕ)) (x : ℕ → ℕ) where
 
 -- by job, leaf and node
 abbrev pub held_before : Held → Held → Bool
-held_before a b =
-    nat_lt a.job b.job
-    || (a.job == b.job && (nat_lt a.leaf b.leaf
-    || (a.leaf == b.leaf && nat_lt a.node b.node)))
+held_before = by_then (λ (h : Held). h.job) (by_then (λ (h : Held). h.leaf) (λ h i. nat_lt h.node i.node))
 
 -- the leaf got the node
 abbrev pub held : Tally → ℕ → Held

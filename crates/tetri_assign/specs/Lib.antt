@@ -1,4 +1,3 @@
 pub mod Assigned
-pub mod Gathering
 pub mod Granting
-pub mod Taking
+pub mod steps

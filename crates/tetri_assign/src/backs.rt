@@ -2,7 +2,7 @@
 ghost use Rattle.std.specs.Prelude.{◌≡◌, ◌<◌, ◌≤◌, ◌++◌, ◌==◌, if◌then◌else◌, length, map, replicate, take, All, IfOk, OnOk};
 ghost use Rattle.std.specs.List.{filter};
 ghost use Rattle.std.specs.List.Sorted.{IsNonDecreasingBy};
-ghost use Rattle.tetri_assign.specs.Taking.{IsMark, back_at, backs, held_by, hold, may_use, ready, taken_from};
+ghost use Rattle.tetri_assign.specs.steps.Taking.{IsMark, back_at, backs, held_by, hold, may_use, ready, taken_from};
 ghost use Rattle.tetri_space.specs.Partitions.{ArePartitionsOf, partitions, parts_of};
 ghost use Rattle.tetri_space.specs.Sound.{IsSound};
 ghost use Rattle.tetri_space.specs.Space.{space};

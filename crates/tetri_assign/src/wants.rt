@@ -1,6 +1,6 @@
 // What counts want.
 ghost use Rattle.std.specs.Prelude.{◌≡◌, IfOk};
-ghost use Rattle.tetri_assign.specs.Taking.{wants_from};
+ghost use Rattle.tetri_assign.specs.steps.Taking.{wants_from};
 ghost use Rattle.tetri_space.specs.Sound.{IsSound};
 ghost use Rattle.tetri_space.specs.Space.{space};
 

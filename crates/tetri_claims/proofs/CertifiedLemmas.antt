@@ -15,17 +15,15 @@ use Rattle.tetri_cert.specs.declared.certificate.Certificate.{Certificate}
 use Rattle.tetri_cert.specs.declared.certificate.Certificate.TheVariants.{Tops, Tree}
 use Rattle.tetri_cert.specs.declared.marks.Mark.{Mark}
 use Rattle.tetri_ip.specs.SamePrograms.{SameRows, SaysSame}
-use Rattle.tetri_cert.proofs.Covers.{tree_bound_holds}
-use Rattle.tetri_cert.proofs.SameLemmas.{same_programs}
+use Rattle.tetri_cert.proofs.TreeBoundLaws.{same_programs, tree_bound_holds}
 use Rattle.tetri_compile.specs.Allotted.{point_of}
 use Rattle.tetri_compile.specs.Flat.{FlatProgram, FlatRow, plain, plain_row}
-use Rattle.tetri_compile.proofs.LawLemmas.{allotment_has_point}
+use Rattle.tetri_compile.proofs.ProgramLaws.{allotment_has_point}
 use Rattle.tetri_space.specs.Lawful.{IsLawful}
 use Rattle.tetri_space.specs.Sound.{IsSound}
 use Rattle.tetri_space.specs.Space.{Space}
 use Rattle.tetri_space.specs.Total.{total_in}
-use Rattle.tetri_space.proofs.LawLemmas.{total_le_tops}
-use Rattle.tetri_space.proofs.TotalLemmas.{tops_limit}
+use Rattle.tetri_space.proofs.InstanceLaws.{tops_limit, total_le_tops}
 use Rattle.tetri_claims.specs.Certified.{IsBoundOf, TreeAnswers}
 use Rattle.tetri_claims.specs.Laws.{CertificatesBound, TreesHaveOneAnswer}
 

@@ -7,17 +7,15 @@ use Rattle.std.proofs.lemmas.List.Elements.{All-contains}
 use Rattle.std.proofs.lemmas.List.FromFn.{get_or-range_with_len, length-map-range_with_len, length-range_with_len}
 use Rattle.tetri_ip.specs.declared.programs.Program.{Program}
 use Rattle.tetri_ip.specs.Points.{IsFit}
-use Rattle.tetri_cert.proofs.ProperTreeLaws.{bounds_proper_trees}
+use Rattle.tetri_cert.proofs.TreeBoundLaws.{bounds_proper_trees}
 use Rattle.tetri_compile.specs.Flat.{plain, program_of}
 use Rattle.tetri_compile.proofs.ProgramLaws.{compiled_is_fit}
 use Rattle.tetri_assign.specs.Assigned.{assigned}
-use Rattle.tetri_assign.proofs.Law.{assigned_lawful, assigned_worth}
+use Rattle.tetri_assign.proofs.AssignLaws.{assigned_lawful, assigned_worth}
 use Rattle.tetri_space.specs.Partitions.{ArePartitionsOf, Parts, live_bids, partitions, parts_in, sets_in}
 use Rattle.tetri_space.specs.Sound.{IsSound}
 use Rattle.tetri_space.specs.Space.{Space}
-use Rattle.tetri_space.proofs.LawLemmas.{total_le_tops}
-use Rattle.tetri_space.proofs.PartsLemmas.{live_within}
-use Rattle.tetri_space.proofs.TotalLemmas.{tops_limit}
+use Rattle.tetri_space.proofs.InstanceLaws.{live_within, tops_limit, total_le_tops}
 use Rattle.tetri_claims.specs.Certified.{MayHaveTree}
 use Rattle.tetri_claims.specs.Laws.{BoundsAreOfProperTrees, ProgramsEarnLittle}
 

@@ -5,7 +5,7 @@ use Rattle.std.proofs.lemmas.Bool.{cases_eq}
 use Rattle.std.proofs.lemmas.List.{append_assoc, length-map, get_or-map, get_or-set_same, get_or-set_other, map-set, drop_more}
 use Rattle.tetri_base.proofs.ListLaws.{test_from_eq, test_from_ne}
 use Rattle.tetri_compile.specs.declared.outline.Tally.{Tally}
-use Rattle.tetri_compile.specs.ByPart.{list_at}
+use Rattle.tetri_base.specs.Lists.{list_at}
 
 -- no list has anything at first
 pub empty_at : (vs : List (Vec Tally Global)) (n p : ℕ) → map (λ (v : Vec Tally Global). v.items) vs ≡ replicate n [] → list_at vs p ≡ []

@@ -21,7 +21,7 @@ use Rattle.tetri_compile.specs.Flat.{column_count, count_of, plain, program_of, 
 use Rattle.tetri_compile.specs.Forms.{Form, Limit, plain_limit}
 use Rattle.tetri_compile.specs.Gain.{most_gain}
 use Rattle.tetri_compile.specs.Small.{HasSmallNumbers, IsSmallForm, IsSmallLimit}
-use Rattle.tetri_compile.specs.Walked.{Grows, IsReady, inside, next_column, room, usable}
+use Rattle.tetri_compile.specs.steps.Walked.{Grows, IsReady, inside, next_column, room, usable}
 use Rattle.tetri_compile.proofs.CoefficientLemmas.{IsModest, bid_rows_modest, objective_times, supply_modest}
 use Rattle.tetri_compile.proofs.CountLemmas.{counts_are}
 use Rattle.tetri_compile.proofs.FitLemmas.{program_fit}

@@ -12,7 +12,7 @@ use Rattle.tetri_strl.specs.WellMade.{PEAK}
 use Rattle.tetri_base.specs.Lists.{Each, EachPair, sum_of}
 use Rattle.tetri_base.proofs.ListLaws.{test_from_eq, test_from_ne, sum_of-append, sum_of-map, Each-map, Each-all, Each-append, Each-at, Each-from}
 use Rattle.tetri_compile.specs.declared.terms.Entry.{Entry}
-use Rattle.tetri_compile.specs.Entries.{on_left, on_right, times_in, AreEntriesOf, term_of}
+use Rattle.tetri_compile.specs.steps.Entries.{on_left, on_right, times_in, AreEntriesOf, term_of}
 use Rattle.tetri_compile.specs.Flat.{coefficient, terms_at}
 use Rattle.tetri_compile.specs.Forms.{Form}
 use Rattle.tetri_compile.specs.Small.{IsSmallForm}

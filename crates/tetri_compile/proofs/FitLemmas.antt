@@ -12,7 +12,8 @@ use lib.IntN.{ℤ, pos}
 use Rattle.tetri_ip.specs.declared.programs.Program.{Program}
 use Rattle.tetri_ip.specs.declared.programs.Row.{Row}
 use Rattle.tetri_ip.specs.declared.programs.Term.{Term}
-use Rattle.tetri_ip.specs.Points.{IsFit, IsFitRow, IsWithin, column_at, cost_reach, number_at, reach, right_of, size_at, term_at, terms_of}
+use Rattle.tetri_ip.specs.Points.{IsFit, IsFitRow, column_at, cost_reach, number_at, reach, right_of, size_at, term_at, terms_of}
+use Rattle.tetri_algebra.specs.Range.{IsWithin}
 use Rattle.tetri_strl.specs.WellMade.{PEAK}
 use Rattle.tetri_base.specs.Lists.{Each}
 use Rattle.tetri_compile.specs.Draft.{Draft}

@@ -1,19 +1,18 @@
 -- Slots as bits: which leaves set them, and how many are set.
-use Rattle.std.proofs.Common.{◌≡◌, ℕ, zero, suc, ◌+◌, ◌-◌, ◌*◌, ◌%◌, ◌^◌, ◌<◌, ◌≤◌, ◌==◌, ◌&&◌, ◌||◌, inl, inr, Bool, true, false, not, min, List, [], ◌∷◌, length, get_or, set, take, replicate, All, refl, sym, ap, ◌∙◌, subst, arith, nat_lt, bit_or, w64}
+use Rattle.std.proofs.Common.{◌≡◌, ℕ, zero, suc, ◌+◌, ◌-◌, ◌*◌, ◌%◌, ◌^◌, ◌<◌, ◌≤◌, ◌==◌, ◌&&◌, ◌||◌, inl, inr, Bool, true, false, min, List, [], ◌∷◌, length, get_or, set, take, replicate, All, refl, sym, ap, ◌∙◌, subst, arith, nat_lt, bit_or, w64}
 use Rattle.std.specs.Prelude.{nat_le}
 use Rattle.std.specs.Int.{bit_at, trailing_zeros}
 use Rattle.std.specs.List.{list_any, range_with_len}
 use Rattle.std.proofs.Math.Nat.{mod-eq_of_lt, pow-suc}
 use Rattle.std.proofs.Math.Pow.{pow_mono}
-use Rattle.std.proofs.lemmas.Bool.{cases_eq, cases_lt}
+use Rattle.std.proofs.lemmas.Bool.{cases_lt}
 use Rattle.std.proofs.lemmas.Bool.Decides.{nat_tests}
 use Rattle.std.proofs.lemmas.List.{get_or_past, length-set}
-use Rattle.std.proofs.lemmas.Nat.{pow_pos}
 use Rattle.std.proofs.lemmas.Nat.Bits.{bit_at_mask_inside, bit_at-trailing_zeros}
 use Rattle.tetri_strl.specs.declared.expr.Leaf.{Leaf}
 use Rattle.tetri_base.specs.Lists.{bit, count, has}
-use Rattle.tetri_space.specs.Slots.{marked, meets, overlap, slots_of}
-use Rattle.tetri_space.proofs.SlotLaws.{IsInWindow, marked_meets, meets_at, meets_overlap, none_meets, slots_bound}
+use Rattle.tetri_space.specs.Slots.{marked, meets, slots_of}
+use Rattle.tetri_space.proofs.InstanceLaws.{marked_meets, meets_at, meets_overlap, none_meets}
 use Rattle.tetri_compile.specs.Sizes.{StartsInWindow, covers, has_slot, is_used}
 use Rattle.tetri_compile.proofs.SizeLemmas.{any_test, used_is}
 

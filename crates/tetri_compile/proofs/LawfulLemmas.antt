@@ -24,8 +24,7 @@ use Rattle.tetri_space.specs.Partitions.{with_left, bids_left, live_bids, asked,
 use Rattle.tetri_space.specs.Sound.{IsSoundBid, IsSound}
 use Rattle.tetri_space.specs.Space.{Bid, Space, leaf_in, Covers}
 use Rattle.tetri_space.specs.Total.{bid_worth, total_in}
-use Rattle.tetri_space.proofs.ClosedLaws.{available_is}
-use Rattle.tetri_space.proofs.InstanceLaws.{free_decides, dead_granted, find-by_key, leaf_in-found, covered, IsLeftOf, each_left_of, OfLeft, AreFrom, IsGood, OtherJob, asked_has, left_leaves, lefts_good, lefts_jobs}
+use Rattle.tetri_space.proofs.InstanceLaws.{AreFrom, asked_has, available_is, covered, dead_granted, each_left_of, find-by_key, free_decides, IsGood, IsLeftOf, leaf_in-found, left_leaves, lefts_good, lefts_jobs, OfLeft, OtherJob}
 use Rattle.tetri_base.proofs.ListLaws.{eq_from_test, test_from_eq, Each-all, Each-at, Each-from, EachPair-from, EachPair-with, any_from, sum_of-filter-le}
 use Rattle.tetri_compile.specs.Allotted.{suits, earning, trimmed_for}
 use Rattle.tetri_compile.proofs.FairLemmas.{IsRightFor, IsKept, IsFair, HoldsApart, worth_of_bids, granted_total}

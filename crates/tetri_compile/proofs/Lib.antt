@@ -11,7 +11,7 @@ pub mod FlatLemmas
 pub mod FormColumns
 pub mod FormLemmas
 pub mod FormSizes
-pub mod GainLaws
+pub mod GainFacts
 pub mod GainLemmas
 pub mod GrantLemmas
 pub mod HeldLemmas

@@ -22,7 +22,7 @@ use Rattle.tetri_compile.specs.declared.outline.Tally.{Tally}
 use Rattle.tetri_compile.specs.Draft.{tallies, tallies_of}
 use Rattle.tetri_compile.specs.Forms.{Form, Limit, limit, share, run, times, plain_limit}
 use Rattle.tetri_compile.specs.Walk.{best, ones, uppers, uppers_of, width, form, forms, rows, rows_of}
-use Rattle.tetri_compile.specs.Walked.{Grows, next_column}
+use Rattle.tetri_compile.specs.steps.Walked.{Grows, next_column}
 
 -- one column further in a run
 pub run_next : (b n : ℕ) (xs : List ℕ) (k : ℕ) → k < length xs → run b (n + k) (drop k xs) ≡ share (n + k) b ∷ run b (n + (k + 1)) (drop (k + 1) xs)

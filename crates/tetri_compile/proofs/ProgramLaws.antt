@@ -1,10 +1,11 @@
 -- Of programs, their walks and their points: what crates above may cite.
-pub use Rattle.tetri_compile.proofs.CompileLemmas.{draft_small, compiled_is_fit, sound_bids}
+pub use Rattle.tetri_compile.proofs.CompileLemmas.{compiled_is_fit, draft_small, sound_bids}
 pub use Rattle.tetri_compile.proofs.CountLemmas.{counts_are}
 pub use Rattle.tetri_compile.proofs.FairLemmas.{Each-has, granted_total, le_from_test, lt_from_test, worth_of_bids}
 pub use Rattle.tetri_compile.proofs.FitLemmas.{program_fit}
-pub use Rattle.tetri_compile.proofs.FlatLemmas.{RowsMet, at_column, flat_met, flat_objective, meets_to}
-pub use Rattle.tetri_compile.proofs.FormLemmas.{AreMet-split, Within-split, at_point-append, at_point-run, at_point-times}
+pub use Rattle.tetri_compile.proofs.FlatLemmas.{at_column, flat_met, flat_objective, meets_to, RowsMet}
+pub use Rattle.tetri_compile.proofs.FormLemmas.{AreMet-split, at_point-append, at_point-run, at_point-times, Within-split}
+pub use Rattle.tetri_compile.proofs.GainFacts.{region_gain}
 pub use Rattle.tetri_compile.proofs.GainLemmas.{bid_uppers_small}
 pub use Rattle.tetri_compile.proofs.LawLemmas.{allotment_has_point}
 pub use Rattle.tetri_compile.proofs.LawfulLemmas.{goods, live_total, other_jobs}

@@ -1,8 +1,7 @@
 -- Steps of the loops that write the supply and the program by columns.
-use Rattle.std.proofs.Common.{◌≡◌, ℕ, zero, suc, ◌+◌, ◌-◌, ◌*◌, ◌^◌, ◌<◌, ◌≤◌, ◌==◌, ◌&&◌, Bool, true, false, cond, List, [], ◌∷◌, ◌++◌, length, get_or, slice_index_or, map, drop, replicate, refl, sym, ap, true≢false, ◌∙◌, subst, arith}
+use Rattle.std.proofs.Common.{◌≡◌, ℕ, zero, suc, ◌+◌, ◌-◌, ◌^◌, ◌<◌, ◌≤◌, ◌==◌, ◌&&◌, Bool, true, false, cond, List, [], ◌∷◌, ◌++◌, length, get_or, slice_index_or, map, drop, replicate, refl, sym, ap, true≢false, ◌∙◌, subst, arith}
 use Rattle.std.specs.Prelude.{nat_le, nat_lt}
 use Rattle.std.specs.List.{filter, range_with_len}
-use Rattle.std.proofs.lemmas.Bool.{cond_both}
 use Rattle.std.proofs.lemmas.List.{append_assoc, append-nil, drop_more, map-append}
 use Rattle.std.specs.Prelude.{unsigned_abs}
 use Rattle.std.proofs.lemmas.Int.{ints, fits_signed_from_abs, to_z-of_z}
@@ -24,7 +23,7 @@ use Rattle.tetri_compile.specs.Flat.{FlatRow, coefficient, flat_row, plain_row, 
 use Rattle.tetri_compile.specs.Forms.{Form, Limit, plain_limit}
 use Rattle.tetri_compile.specs.Sizes.{covers}
 use Rattle.tetri_compile.specs.Small.{IsSmallForm, IsSmallLimit}
-use Rattle.tetri_compile.specs.Walked.{Grows}
+use Rattle.tetri_compile.specs.steps.Walked.{Grows}
 use Rattle.tetri_compile.proofs.CoefficientLemmas.{few_times}
 
 -- the numbers from a place on begin with the one there

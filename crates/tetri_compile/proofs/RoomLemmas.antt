@@ -1,7 +1,6 @@
 -- Counts of the slots from which nodes are free.
 use Rattle.std.proofs.Common.{◌≡◌, ℕ, zero, suc, ◌+◌, ◌<◌, ◌≤◌, Bool, true, false, List, [], ◌∷◌, ◌++◌, length, get_or, Vec, Global, refl, sym, ap, ◌∙◌, subst, arith, below_more}
-use Rattle.tetri_space.specs.Finding.{list_at}
-use Rattle.tetri_base.specs.Lists.{bit, count}
+use Rattle.tetri_base.specs.Lists.{bit, count, list_at}
 use Rattle.tetri_base.proofs.ListLaws.{sum_of-append}
 
 -- as many items pass as stand before the first that fails, where none passes after it

@@ -10,7 +10,7 @@ use Rattle.tetri_compile.specs.declared.outline.Tally.{Tally}
 use Rattle.tetri_compile.specs.Draft.{bid_rows, bid_tallies, bid_uppers, objective, tallies, tallies_of}
 use Rattle.tetri_compile.specs.Forms.{Form, Limit, limit, run, share, plain_limit}
 use Rattle.tetri_compile.specs.Walk.{best, ones, uppers, uppers_of, width, width_of, form, forms, rows, rows_of, rows_under}
-use Rattle.tetri_compile.specs.Walked.{Grows, IsWalked, AreWalked, inside, next_column, usable}
+use Rattle.tetri_compile.specs.steps.Walked.{Grows, IsWalked, AreWalked, inside, next_column, usable}
 use Rattle.tetri_compile.proofs.OutlineLemmas.{forms_next, uppers_next, rows_next, tallies_next, next_is, grows_more, grows_length}
 
 module _ (s : Space) (job : ℕ) (ts : Trees) (i b : ℕ) (old new : Outline) (f : Form) where

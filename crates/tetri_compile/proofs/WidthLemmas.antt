@@ -27,7 +27,7 @@ use Rattle.tetri_compile.specs.Flat.{column_count, row_count}
 use Rattle.tetri_compile.specs.Forms.{Limit, limit, share, run}
 use Rattle.tetri_compile.specs.Sizes.{width_by, widths_by, widths_marked, row_total, row_totals, row_totals_under, covers, leaves_in, is_used, IsUsable, HasUsableParts, StartsInWindow}
 use Rattle.tetri_compile.specs.Usable.{usable_by}
-use Rattle.tetri_compile.specs.Walked.{IsReady}
+use Rattle.tetri_compile.specs.steps.Walked.{IsReady}
 use Rattle.tetri_compile.specs.Walk.{ones, own_uppers, uppers, uppers_of, width, form, rows, rows_of, rows_under}
 
 -- ---- the columns of a walk

@@ -1,15 +1,12 @@
 pub mod Allotted
-pub mod ByPart
 pub mod Counting
 pub mod Draft
-pub mod Entries
 pub mod Flat
 pub mod Forms
 pub mod Gain
 pub mod Marks
-pub mod Room
 pub mod Sizes
 pub mod Small
 pub mod Usable
 pub mod Walk
-pub mod Walked
+pub mod steps

@@ -15,9 +15,9 @@ ghost use Rattle.tetri_compile.specs.Counting.{AreCountsOf};
 ghost use Rattle.tetri_compile.specs.Draft.{bid_rows, bid_tallies, bid_uppers, draft, objective, outline_draft};
 ghost use Rattle.tetri_compile.specs.Flat.{IsCompiled, column_count, row_count};
 ghost use Rattle.tetri_compile.specs.Gain.{most_gain};
-ghost use Rattle.tetri_compile.specs.Room.{AreRooms};
+ghost use Rattle.tetri_compile.specs.steps.Room.{AreRooms};
 ghost use Rattle.tetri_compile.specs.Small.{HasSmallNumbers};
-ghost use Rattle.tetri_compile.specs.Walked.{Grows, IsReady, inside, next_column, usable};
+ghost use Rattle.tetri_compile.specs.steps.Walked.{Grows, IsReady, inside, next_column, usable};
 
 use crate::flattening::{counts_from, flatten};
 use crate::outline::{Outline, Share};

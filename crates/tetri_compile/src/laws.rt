@@ -13,6 +13,4 @@ pub fn most_gain_bounds_points(p: &Program)
     ensures points { (point : List ℤ) → IsPoint p.now (box_of p.now) point → objective p.now point ≤ℤ pos (most_gain p.now) }
     ensures regions { (b : Bounds) → IsInBox p.now b → (point : List ℤ) → IsPoint p.now b point
         → objective p.now point ≤ℤ pos (most_gain p.now) }
-{
-    let _ = p;
-}
+{}

@@ -6,7 +6,7 @@ ghost use Rattle.tetri_space.specs.Free.{is_idle};
 ghost use Rattle.tetri_space.specs.Partitions.{ArePartitionsOf, available, partitions, parts_of};
 ghost use Rattle.tetri_space.specs.Sound.{IsSound};
 ghost use Rattle.tetri_space.specs.Space.{space};
-ghost use Rattle.tetri_compile.specs.Room.{AreRooms, idle_count};
+ghost use Rattle.tetri_compile.specs.steps.Room.{AreRooms, idle_count};
 ghost use Rattle.tetri_compile.specs.Usable.{usable_by};
 
 use std::alloc::{AllocError, Global};
@@ -68,7 +68,6 @@ fn idle_at(inst: &Instance, rooms: &Rooms, part: u32, slot: u32) -> u64
     ensures { result ≡ idle_count (space inst.entry.now) part slot }
 {
     // The clauses alone speak of the instance.
-    let _ = inst;
     let since = rooms.since[part as usize].as_slice();
     since.partition_point(|from| *from <= slot) as u64
 }

@@ -5,11 +5,11 @@ ghost use Rattle.tetri_space.specs.Partitions.{ArePartitionsOf, parts_of, partit
 ghost use Rattle.tetri_space.specs.Sound.{IsSound};
 ghost use Rattle.tetri_space.specs.Space.{space};
 ghost use Rattle.tetri_compile.specs.declared.outline.Tally.{Tally as TallyRow};
-ghost use Rattle.tetri_compile.specs.ByPart.{list_at};
+ghost use Rattle.tetri_base.specs.Lists.{list_at};
 ghost use Rattle.tetri_compile.specs.Draft.{is_held, part_supply, supply, supply_row, tally_form};
-ghost use Rattle.tetri_compile.specs.Room.{AreRooms};
+ghost use Rattle.tetri_compile.specs.steps.Room.{AreRooms};
 ghost use Rattle.tetri_compile.specs.Sizes.{covers};
-ghost use Rattle.tetri_compile.specs.Walked.{Grows, room};
+ghost use Rattle.tetri_compile.specs.steps.Walked.{Grows, room};
 
 use crate::outline::{Inequality, Outline, Share, Tally};
 use crate::rooms::{Rooms, room_at};

@@ -2,7 +2,7 @@
 ghost use Rattle.std.specs.Prelude.{◌≡◌, ◌<◌, ◌^◌, ◌++◌, ℕ, map, IfOk, OnOk};
 ghost use Rattle.std.specs.List.{range_with_len};
 ghost use Rattle.tetri_base.specs.Lists.{Each, sum_of};
-ghost use Rattle.tetri_compile.specs.Entries.{AreEntriesOf, on_left, on_right, term_of};
+ghost use Rattle.tetri_compile.specs.steps.Entries.{AreEntriesOf, on_left, on_right, term_of};
 ghost use Rattle.tetri_compile.specs.Flat.{terms_at};
 ghost use Rattle.tetri_compile.specs.Forms.{Form};
 

@@ -9,9 +9,9 @@ ghost use Rattle.tetri_space.specs.Sound.{IsSound as IsSoundSpace};
 ghost use Rattle.tetri_space.specs.Space.{space};
 ghost use Rattle.tetri_compile.specs.Draft.{leaf_tallies, tallies_of};
 ghost use Rattle.tetri_compile.specs.Forms.{limit, run, share, times};
-ghost use Rattle.tetri_compile.specs.Room.{AreRooms};
+ghost use Rattle.tetri_compile.specs.steps.Room.{AreRooms};
 ghost use Rattle.tetri_compile.specs.Walk.{forms, leaf_form, leaf_rows, ones, rows_of, rows_under, uppers_of, width, width_of};
-ghost use Rattle.tetri_compile.specs.Walked.{AreWalked, Grows, IsReady, IsWalked, inside, next_column, usable};
+ghost use Rattle.tetri_compile.specs.steps.Walked.{AreWalked, Grows, IsReady, IsWalked, inside, next_column, usable};
 
 use crate::outline::{Inequality, Outline, Share, Tally};
 use crate::rooms::{Rooms, usable_by};

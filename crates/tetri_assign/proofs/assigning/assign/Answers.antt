@@ -12,7 +12,7 @@ use Rattle.tetri_assign.specs.Granting.{GrantsCounts}
 use Rattle.tetri_space.specs.Partitions.{partitions}
 use Rattle.tetri_space.specs.Space.{space}
 use Rattle.tetri_assign.specs.Assigned.{assigned, gathered}
-use Rattle.tetri_assign.specs.Taking.{backs, taken_from, wants_from}
+use Rattle.tetri_assign.specs.steps.Taking.{backs, taken_from, wants_from}
 use Rattle.tetri_assign.specs.declared.wants.Want.{Want}
 use Rattle.tetri_assign.proofs.AssignLemmas.{counts_right, gathered_assigned, wants_last, wants_there, wants_turn}
 use Rattle.tetri_assign.proofs.Law.{assigned_counts, assigned_lawful, assigned_ordered, assigned_worth}

@@ -1,5 +1,5 @@
 use Rattle.std.proofs.Common.{◌≡◌, ◌++◌, drop, map}
-use Rattle.tetri_assign.specs.Taking.{held_by}
+use Rattle.tetri_assign.specs.steps.Taking.{held_by}
 use Rattle.tetri_assign.proofs.backs.add_held.Given as goal
 
 abbrev pub invariant-loop-node : goal.invariant-loop-node

@@ -1,4 +1,4 @@
-use Rattle.tetri_assign.specs.Taking.{back_at}
+use Rattle.tetri_assign.specs.steps.Taking.{back_at}
 use Rattle.tetri_space.specs.Space.{space}
 use Rattle.tetri_assign.proofs.StepLemmas.{push_next}
 use Rattle.tetri_assign.proofs.backs.backs.Goals as goal

@@ -1,6 +1,6 @@
 use Rattle.std.proofs.Common.{◌≡◌, map}
 use Rattle.std.specs.List.{range_with_len}
-use Rattle.tetri_assign.specs.Taking.{back_at}
+use Rattle.tetri_assign.specs.steps.Taking.{back_at}
 use Rattle.tetri_space.specs.Space.{space}
 use Rattle.tetri_assign.proofs.backs.backs.Given as goal
 

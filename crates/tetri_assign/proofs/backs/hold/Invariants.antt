@@ -1,5 +1,5 @@
 use Rattle.std.proofs.Common.{◌≡◌, drop, length}
-use Rattle.tetri_assign.specs.Taking.{hold}
+use Rattle.tetri_assign.specs.steps.Taking.{hold}
 use Rattle.tetri_assign.proofs.backs.hold.Given as goal
 
 abbrev pub invariant-loop-node : goal.invariant-loop-node

@@ -1,6 +1,6 @@
 use Rattle.std.proofs.Common.{◌≡◌, ℕ, Bool, List, ◌++◌, ◌∷◌, ◌+◌, drop, take, filter, get_or, subst, arith}
 use Rattle.std.proofs.lemmas.List.{drop_more}
-use Rattle.tetri_assign.specs.Taking.{may_use, ready}
+use Rattle.tetri_assign.specs.steps.Taking.{may_use, ready}
 use Rattle.tetri_assign.proofs.MarkLemmas.{seen_fails, seen_passes}
 use Rattle.tetri_assign.proofs.StepLemmas.{le_test, not_le_test, passed_step, taken_step}
 use Rattle.tetri_assign.proofs.backs.ready.Goals as goal

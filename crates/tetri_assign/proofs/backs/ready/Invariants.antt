@@ -1,5 +1,5 @@
 use Rattle.std.proofs.Common.{◌≡◌, ◌≤◌, ◌++◌, ◌-◌, drop, filter, length, take}
-use Rattle.tetri_assign.specs.Taking.{may_use, ready}
+use Rattle.tetri_assign.specs.steps.Taking.{may_use, ready}
 use Rattle.tetri_assign.proofs.backs.ready.Given as goal
 
 abbrev pub invariant-loop-seen : goal.invariant-loop-seen

@@ -4,7 +4,7 @@ use Rattle.std.proofs.lemmas.List.{drop_more}
 use Rattle.std.proofs.lemmas.List.FromFn.{length-map-range_with_len}
 use Rattle.tetri_space.specs.Partitions.{part_at, partitions}
 use Rattle.tetri_space.specs.Space.{space}
-use Rattle.tetri_assign.specs.Taking.{AreMarks, IsMark, back_at, backs, held_by, hold, ready, taken_from}
+use Rattle.tetri_assign.specs.steps.Taking.{AreMarks, IsMark, back_at, backs, held_by, hold, ready, taken_from}
 use Rattle.tetri_assign.specs.declared.wants.Want.{Want}
 use Rattle.tetri_assign.proofs.BackLemmas.{length-hold}
 use Rattle.tetri_assign.proofs.MarkLemmas.{first_marks, later_wants, next_marks, next_taken, parts_small}

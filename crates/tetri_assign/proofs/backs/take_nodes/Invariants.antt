@@ -1,7 +1,7 @@
 use Rattle.std.proofs.Common.{◌≡◌, ◌++◌, drop, length}
 use Rattle.tetri_space.specs.Partitions.{partitions}
 use Rattle.tetri_space.specs.Space.{space}
-use Rattle.tetri_assign.specs.Taking.{AreMarks, backs, taken_from}
+use Rattle.tetri_assign.specs.steps.Taking.{AreMarks, backs, taken_from}
 use Rattle.tetri_assign.proofs.backs.take_nodes.Given as goal
 
 abbrev pub invariant-loop-want : goal.invariant-loop-want

@@ -1,5 +1,5 @@
 use Rattle.std.proofs.Common.{◌≡◌, ◌∙◌, ℕ, List, ◌++◌, ◌≤◌, All, ◌<◌, drop, take, filter, length, map, ap, sym, subst}
-use Rattle.tetri_assign.specs.Taking.{IsMark, held_by, hold, may_use, ready}
+use Rattle.tetri_assign.specs.steps.Taking.{IsMark, held_by, hold, may_use, ready}
 use Rattle.tetri_assign.proofs.MarkLemmas.{got_there, next_mark, ready_from, rest_is}
 use Rattle.tetri_assign.proofs.backs.take_part.Goals as goal
 

@@ -1,5 +1,5 @@
 use Rattle.std.proofs.Common.{◌≡◌, ◌++◌, drop}
-use Rattle.tetri_assign.specs.Taking.{wants_from}
+use Rattle.tetri_assign.specs.steps.Taking.{wants_from}
 use Rattle.tetri_space.specs.Space.{space}
 use Rattle.tetri_assign.proofs.wants.wants_of.Given as goal
 

@@ -11,7 +11,7 @@ use Rattle.tetri_compile.specs.declared.outline.Outline.{Outline}
 use Rattle.tetri_compile.specs.declared.outline.Share.{Share}
 use Rattle.tetri_compile.specs.Draft.{bid_uppers}
 use Rattle.tetri_compile.specs.Walk.{uppers}
-use Rattle.tetri_compile.specs.Walked.{IsReady, IsWalked, inside, next_column, usable}
+use Rattle.tetri_compile.specs.steps.Walked.{IsReady, IsWalked, inside, next_column, usable}
 use Rattle.tetri_compile.proofs.WalkedLemmas.{bid_next}
 use Rattle.tetri_compile.proofs.compiling.walk_bids.Goals as goal
 

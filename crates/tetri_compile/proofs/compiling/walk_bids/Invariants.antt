@@ -6,7 +6,7 @@ use Rattle.tetri_space.specs.Partitions.{parts_of}
 use Rattle.tetri_space.specs.Space.{bid, space}
 use Rattle.tetri_compile.specs.Draft.{bid_rows, bid_tallies, bid_uppers, objective}
 use Rattle.tetri_compile.specs.Forms.{plain_limit}
-use Rattle.tetri_compile.specs.Walked.{IsReady, inside, next_column, usable}
+use Rattle.tetri_compile.specs.steps.Walked.{IsReady, inside, next_column, usable}
 use Rattle.tetri_compile.proofs.compiling.walk_bids.Given as goal
 
 abbrev pub invariant-loop-offer : goal.invariant-loop-offer

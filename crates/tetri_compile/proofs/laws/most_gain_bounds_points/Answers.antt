@@ -1,4 +1,4 @@
-use Rattle.tetri_compile.proofs.GainLaws.{point_gain, region_gain}
+use Rattle.tetri_compile.proofs.GainFacts.{point_gain, region_gain}
 use Rattle.tetri_compile.proofs.laws.most_gain_bounds_points.Goals as goal
 
 pub returns : goal.returns

@@ -2,10 +2,9 @@ use Rattle.std.proofs.Common.{◌≡◌, ◌<◌, ℕ, List, length, ap, sym, �
 use Rattle.std.specs.Prelude.{nat_le}
 use Rattle.std.specs.List.Sorted.{IsNonDecreasing}
 use Rattle.std.proofs.lemmas.List.Sorted.{IsPartitionPoint-from_clause, IsPartitionedBy-leb}
-use Rattle.tetri_space.specs.Finding.{list_at}
-use Rattle.tetri_base.specs.Lists.{count}
+use Rattle.tetri_base.specs.Lists.{count, list_at}
 use Rattle.tetri_space.specs.Space.{space}
-use Rattle.tetri_space.proofs.FindingLemmas.{list_is}
+use Rattle.tetri_space.proofs.InstanceLaws.{list_is}
 use Rattle.tetri_compile.proofs.RoomLemmas.{count_point}
 use Rattle.tetri_compile.proofs.rooms.idle_at.Goals as goal
 

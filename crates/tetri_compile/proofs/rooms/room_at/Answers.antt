@@ -1,7 +1,7 @@
 use Rattle.std.proofs.Common.{◌<◌, ℕ, List, Bool, cond, length, sym, ap, ◌∙◌, subst}
 use Rattle.tetri_space.specs.Space.{space}
-use Rattle.tetri_space.proofs.ClosedLaws.{available_is}
-use Rattle.tetri_compile.specs.Room.{idle_count}
+use Rattle.tetri_space.proofs.InstanceLaws.{available_is}
+use Rattle.tetri_compile.specs.steps.Room.{idle_count}
 use Rattle.tetri_compile.proofs.rooms.room_at.Goals as goal
 
 pub closed-requires-clause-there : goal.closed-requires-clause-there

@@ -6,7 +6,7 @@ use Rattle.tetri_base.specs.Lists.{count}
 use Rattle.tetri_space.specs.Free.{is_idle}
 use Rattle.tetri_space.specs.Partitions.{part_at}
 use Rattle.tetri_space.specs.Space.{space}
-use Rattle.tetri_compile.specs.Room.{idle_count}
+use Rattle.tetri_compile.specs.steps.Room.{idle_count}
 use Rattle.tetri_compile.proofs.RoomLemmas.{each_list}
 use Rattle.tetri_compile.proofs.rooms.rooms_of.Goals as goal
 

@@ -1,10 +1,9 @@
 use Rattle.std.proofs.Common.{◌≡◌, ◌<◌, ℕ, length}
 use Rattle.std.specs.Prelude.{nat_le}
 use Rattle.std.specs.List.Sorted.{IsNonDecreasing}
-use Rattle.tetri_space.specs.Finding.{list_at}
-use Rattle.tetri_base.specs.Lists.{count}
+use Rattle.tetri_base.specs.Lists.{count, list_at}
 use Rattle.tetri_space.specs.Space.{space}
-use Rattle.tetri_compile.specs.Room.{idle_count}
+use Rattle.tetri_compile.specs.steps.Room.{idle_count}
 use Rattle.tetri_compile.proofs.rooms.rooms_of.Given as goal
 
 abbrev pub invariant-loop-part : goal.invariant-loop-part

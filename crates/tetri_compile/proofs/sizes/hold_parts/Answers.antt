@@ -1,10 +1,9 @@
 use Rattle.std.proofs.Common.{◌≡◌, ◌^◌, ◌<◌, ◌&&◌, ◌||◌, ℕ, List, Bool, true, false, All, length, slice_index_or, subst, sym, ap, ◌∙◌, refl, arith}
-use Rattle.std.proofs.lemmas.Bool.{cases_eq}
 use Rattle.tetri_base.specs.Lists.{has}
 use Rattle.tetri_space.specs.Partitions.{parts_found, parts_of}
 use Rattle.tetri_space.specs.Slots.{marked}
-use Rattle.tetri_space.proofs.SlotLaws.{length-marked, none_meets}
-use Rattle.tetri_compile.specs.Sizes.{IsUsable, has_slot}
+use Rattle.tetri_space.proofs.InstanceLaws.{none_meets}
+use Rattle.tetri_compile.specs.Sizes.{has_slot}
 use Rattle.tetri_compile.proofs.HeldLemmas.{parts_held, some_slot}
 use Rattle.tetri_compile.proofs.SizeLemmas.{used_next}
 use Rattle.tetri_compile.proofs.sizes.hold_parts.Goals as goal

@@ -1,9 +1,9 @@
-use Rattle.std.proofs.Common.{◌≡◌, ◌+◌, ◌<◌, ◌≤◌, ◌&&◌, ◌==◌, ℕ, length, take, slice_index_or, sym, ap, ◌∙◌, arith}
-use Rattle.std.specs.List.{list_any, range_with_len}
+use Rattle.std.proofs.Common.{◌≡◌, ◌+◌, ◌<◌, ℕ, length, take, sym, ap, ◌∙◌, arith}
+use Rattle.std.specs.List.{range_with_len}
 use Rattle.std.proofs.lemmas.List.{length-take}
 use Rattle.tetri_base.specs.Lists.{count}
 use Rattle.tetri_space.specs.Partitions.{parts_found, parts_of}
-use Rattle.tetri_compile.specs.Sizes.{IsUsable, covers, has_slot, is_used, leaves_in}
+use Rattle.tetri_compile.specs.Sizes.{IsUsable, has_slot, is_used, leaves_in}
 use Rattle.std.proofs.lemmas.List.FromFn.{length-range_with_len}
 use Rattle.tetri_compile.proofs.HeldLemmas.{none_at, used_there}
 use Rattle.tetri_compile.proofs.SizeLemmas.{count_most, marked_is, named_leaf, sum_range_next}

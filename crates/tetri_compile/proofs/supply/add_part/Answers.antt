@@ -3,7 +3,7 @@ use Rattle.std.proofs.lemmas.List.{append-nil}
 use Rattle.tetri_space.specs.Space.{space}
 use Rattle.tetri_compile.specs.Draft.{part_supply}
 use Rattle.tetri_compile.specs.Forms.{plain_limit}
-use Rattle.tetri_compile.specs.Walked.{room}
+use Rattle.tetri_compile.specs.steps.Walked.{room}
 use Rattle.tetri_compile.proofs.ProgramLemmas.{part_next, range_over}
 use Rattle.tetri_compile.proofs.supply.add_part.Goals as goal
 

@@ -5,7 +5,7 @@ use Rattle.tetri_space.specs.Space.{space}
 use Rattle.tetri_compile.specs.declared.outline.Inequality.{Inequality}
 use Rattle.tetri_compile.specs.Draft.{is_held, tally_form}
 use Rattle.tetri_compile.specs.Forms.{Form, Limit, plain_limit}
-use Rattle.tetri_compile.specs.Walked.{room}
+use Rattle.tetri_compile.specs.steps.Walked.{room}
 use Rattle.tetri_compile.proofs.OutlineLemmas.{row_last}
 use Rattle.tetri_compile.proofs.ProgramLemmas.{is_none, is_some}
 use Rattle.tetri_compile.proofs.ProgramLemmas.{held_are, nothing_grown, supply_none, supply_some}

@@ -4,7 +4,7 @@ use Rattle.std.proofs.lemmas.List.{append-nil}
 use Rattle.tetri_space.specs.Partitions.{partitions}
 use Rattle.tetri_space.specs.Space.{space}
 use Rattle.tetri_compile.specs.declared.outline.Tally.{Tally}
-use Rattle.tetri_compile.specs.Walked.{room}
+use Rattle.tetri_compile.specs.steps.Walked.{room}
 use Rattle.tetri_compile.proofs.ByPartLemmas.{list_is}
 use Rattle.tetri_compile.proofs.ProgramLemmas.{supply_next}
 use Rattle.tetri_compile.proofs.supply.add_supply.Goals as goal

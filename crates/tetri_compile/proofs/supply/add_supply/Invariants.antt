@@ -4,7 +4,7 @@ use Rattle.tetri_space.specs.Partitions.{partitions}
 use Rattle.tetri_space.specs.Space.{space}
 use Rattle.tetri_compile.specs.Draft.{supply}
 use Rattle.tetri_compile.specs.Forms.{plain_limit}
-use Rattle.tetri_compile.specs.Walked.{room}
+use Rattle.tetri_compile.specs.steps.Walked.{room}
 use Rattle.tetri_compile.proofs.supply.add_supply.Given as goal
 
 abbrev pub invariant-loop-part : goal.invariant-loop-part

@@ -2,7 +2,7 @@ use Rattle.std.proofs.Common.{◌+◌, ◌<◌, ◌==◌, ◌++◌, List, Vec, G
 use Rattle.std.specs.List.{filter}
 use Rattle.std.proofs.lemmas.List.{length-set, get_or_default}
 use Rattle.tetri_compile.specs.declared.outline.Tally.{Tally}
-use Rattle.tetri_compile.specs.ByPart.{list_at}
+use Rattle.tetri_base.specs.Lists.{list_at}
 use Rattle.tetri_compile.proofs.ByPartLemmas.{empty_at, lists_many, passed, put}
 use Rattle.tetri_compile.proofs.supply.by_part.Goals as goal
 use Rattle.tetri_compile.proofs.supply.by_part.Goals.{then-tally-count+in_ok-push, else-tally-count}

@@ -1,6 +1,6 @@
 use Rattle.std.proofs.Common.{◌≡◌, ◌<◌, ◌==◌, ◌++◌, ℕ, length, drop}
 use Rattle.std.specs.List.{filter}
-use Rattle.tetri_compile.specs.ByPart.{list_at}
+use Rattle.tetri_base.specs.Lists.{list_at}
 use Rattle.tetri_compile.proofs.supply.by_part.Given as goal
 
 abbrev pub invariant-loop-tally : goal.invariant-loop-tally

@@ -1,5 +1,5 @@
 use Rattle.std.proofs.Common.{◌≡◌, ◌++◌, drop, map}
-use Rattle.tetri_compile.specs.Entries.{on_left, on_right}
+use Rattle.tetri_compile.specs.steps.Entries.{on_left, on_right}
 use Rattle.tetri_compile.proofs.terms.entries_in.Given as goal
 
 abbrev pub invariant-loop-share : goal.invariant-loop-share

@@ -4,7 +4,7 @@ use Rattle.std.proofs.lemmas.List.Sorted.{IsNonDecreasingBy-from_sort_by_key}
 use Rattle.tetri_base.specs.Lists.{sum_of}
 use Rattle.tetri_base.proofs.ListLaws.{EachPair-from}
 use Rattle.tetri_compile.specs.declared.terms.Entry.{Entry}
-use Rattle.tetri_compile.specs.Entries.{times_in}
+use Rattle.tetri_compile.specs.steps.Entries.{times_in}
 use Rattle.tetri_compile.proofs.EntryLemmas.{both_plus, both_minus, all_plus, all_minus, sum_of-moved, below_moved}
 use Rattle.tetri_compile.proofs.terms.entries_of.Goals as goal
 

@@ -1,7 +1,7 @@
 use Rattle.std.proofs.Common.{◌<◌, sym, subst}
 use Rattle.tetri_base.specs.Lists.{Each}
 use Rattle.tetri_compile.specs.declared.terms.Entry.{Entry}
-use Rattle.tetri_compile.specs.Entries.{AreEntriesOf}
+use Rattle.tetri_compile.specs.steps.Entries.{AreEntriesOf}
 use Rattle.tetri_compile.proofs.terms.terms_between.Goals as goal
 
 pub returns : goal.returns

@@ -16,7 +16,7 @@ use Rattle.tetri_compile.specs.declared.outline.Outline.{Outline}
 use Rattle.tetri_compile.specs.declared.outline.Share.{Share}
 use Rattle.tetri_compile.specs.Forms.{Form, limit, run, share, plain_limit}
 use Rattle.tetri_compile.specs.Walk.{best, ones, uppers_of, form, forms, rows}
-use Rattle.tetri_compile.specs.Walked.{Grows, IsReady, IsWalked, inside, next_column, usable}
+use Rattle.tetri_compile.specs.steps.Walked.{Grows, IsReady, IsWalked, inside, next_column, usable}
 use Rattle.tetri_compile.proofs.FormSizes.{form_small}
 use Rattle.tetri_compile.proofs.KidLemmas.{kids_next}
 use Rattle.tetri_compile.proofs.OutlineLemmas.{ones_are, ones_long, rows_pushed, sides_are, top_is_best}

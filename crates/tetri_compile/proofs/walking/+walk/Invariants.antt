@@ -7,7 +7,7 @@ use Rattle.tetri_space.specs.Space.{space}
 use Rattle.tetri_compile.specs.Draft.{tallies_of}
 use Rattle.tetri_compile.specs.Forms.{plain_limit}
 use Rattle.tetri_compile.specs.Walk.{forms, rows_of, rows_under, uppers_of, width_of}
-use Rattle.tetri_compile.specs.Walked.{IsReady, inside, next_column, usable}
+use Rattle.tetri_compile.specs.steps.Walked.{IsReady, inside, next_column, usable}
 use Rattle.tetri_compile.proofs.walking.+walk.Given as goal
 
 abbrev pub invariant-walk_each-loop-place : goal.invariant-walk_each-loop-place

@@ -1,7 +1,7 @@
 use Rattle.std.proofs.Common.{◌≡◌, ◌+◌, ◌++◌, map, min, drop}
 use Rattle.tetri_space.specs.Space.{space}
 use Rattle.tetri_compile.specs.Draft.{leaf_tallies}
-use Rattle.tetri_compile.specs.Walked.{next_column, usable}
+use Rattle.tetri_compile.specs.steps.Walked.{next_column, usable}
 use Rattle.tetri_compile.proofs.walking.add_counts.Given as goal
 
 abbrev pub invariant-loop-part : goal.invariant-loop-part

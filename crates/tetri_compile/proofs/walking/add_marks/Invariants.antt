@@ -1,5 +1,5 @@
 use Rattle.std.proofs.Common.{[], replicate}
-use Rattle.tetri_compile.specs.Walked.{Grows}
+use Rattle.tetri_compile.specs.steps.Walked.{Grows}
 use Rattle.tetri_compile.proofs.walking.add_marks.Given as goal
 
 abbrev pub invariant-loop : goal.invariant-loop

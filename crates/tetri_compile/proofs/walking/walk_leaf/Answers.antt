@@ -3,7 +3,7 @@ use Rattle.tetri_space.specs.Space.{space}
 use Rattle.tetri_compile.specs.declared.outline.Inequality.{Inequality}
 use Rattle.tetri_compile.specs.Draft.{leaf_tallies}
 use Rattle.tetri_compile.specs.Forms.{Form, limit, run, share, plain_limit}
-use Rattle.tetri_compile.specs.Walked.{inside, next_column, usable}
+use Rattle.tetri_compile.specs.steps.Walked.{inside, next_column, usable}
 use Rattle.tetri_compile.proofs.OutlineLemmas.{rows_pushed, sides_are}
 use Rattle.tetri_compile.proofs.walking.walk_leaf.Goals as goal
 

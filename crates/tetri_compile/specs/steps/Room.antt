@@ -1,8 +1,7 @@
 -- From which slots the nodes of each partition are idle.
 use Rattle.std.specs.Prelude.{◌≡◌, ℕ, ◌<◌, nat_le, length}
 use Rattle.std.specs.List.Sorted.{IsNonDecreasing}
-use Rattle.tetri_base.specs.Lists.{count}
-use Rattle.tetri_space.specs.Finding.{list_at}
+use Rattle.tetri_base.specs.Lists.{count, list_at}
 use Rattle.tetri_space.specs.Free.{is_idle}
 use Rattle.tetri_space.specs.Partitions.{part_at, partitions}
 use Rattle.tetri_space.specs.Space.{Space}
