@@ -6,7 +6,7 @@ use Rattle.std.proofs.lemmas.Grind.{flat_map-append}
 use Rattle.std.proofs.lemmas.List.{append-nil, length-append, length-map, take_all}
 use Rattle.std.proofs.lemmas.List.Elements.{All-contains, All-map, filter-append}
 use Rattle.tetri_io.specs.Sink.{AppendsPart}
-use Rattle.tetri_io.proofs.Known.{append_known-append}
+use Rattle.tetri_io.proofs.TextLaws.{append_known-append}
 use Rattle.tetri_strl.specs.declared.grants.Grant.{Grant}
 use Rattle.tetri_space.specs.Space.{Bid, Space}
 use Rattle.tetri_split.specs.Parts.{jobs_in}

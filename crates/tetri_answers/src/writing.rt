@@ -12,7 +12,7 @@ ghost use Rattle.tetri_trace.specs.Sound.{IsSound};
 use crate::lines::{answer_text, booked_line};
 use std::alloc::{AllocError, Global};
 use tetri_io::{Sink, send_all};
-use tetri_parts::Stop;
+use tetri_report::SendFault;
 use tetri_reserve::{AnswerKind, Book};
 use tetri_space::Instance;
 use tetri_state::{State, jobs_of_a_run_are_known};
@@ -43,13 +43,13 @@ fn write_answers<K: Sink>(
     trace: &Trace,
     inst: &Instance,
     sink: &mut K,
-) -> Result<usize, Stop>
+) -> Result<usize, SendFault>
     requires instance { space inst.now ≡ first_instance (scenario trace.now) }
     requires of_trace { IsInstanceOf (scenario trace.now) (space inst.now) }
     ensures ok { IfOk result (λ count. WroteAll (scenario trace.entry.now) count (K.written sink.old) (K.written sink.new)) }
-    ensures failed { IsErrOf result Stop.Failed → StoppedInAnswersText (scenario trace.entry.now) (K.written sink.old) (K.written sink.new) }
-    ensures memory { IsErrOf result Stop.NoMemory → StoppedBetweenAnswers (scenario trace.entry.now) (K.written sink.old) (K.written sink.new) }
-    ensures write { IsErrOf result Stop.Failed → Rose (K.faults sink.old) (K.faults sink.new) }
+    ensures failed { IsErrOf result SendFault.Failed → StoppedInAnswersText (scenario trace.entry.now) (K.written sink.old) (K.written sink.new) }
+    ensures memory { IsErrOf result SendFault.NoMemory → StoppedBetweenAnswers (scenario trace.entry.now) (K.written sink.old) (K.written sink.new) }
+    ensures write { IsErrOf result SendFault.Failed → Rose (K.faults sink.old) (K.faults sink.new) }
     ensures later { K.faults sink.old ≤ K.faults sink.new }
 {
     let mut book = Book::new(alloc, inst)?;
@@ -67,12 +67,12 @@ fn write_answers<K: Sink>(
 /// `admit` of tetri_reserve does with the trace's budget, and writes each answer by one send once it is made: the job with the word of
 /// the answer's kind, and the plan that shows it, if there is one. By one more send it writes how many jobs are booked, of how many.
 /// A fault leaves whole answers and a proper front of the next text, and want of memory whole answers alone.
-pub fn admit_trace<K: Sink>(alloc: Global, trace: &Trace, sink: &mut K) -> Result<(), Stop>
+pub fn admit_trace<K: Sink>(alloc: Global, trace: &Trace, sink: &mut K) -> Result<(), SendFault>
     requires { IsSound (scenario trace.now) }
     ensures ok { OnOk result (WroteAnswers (scenario trace.entry.now) (K.written sink.old) (K.written sink.new)) }
-    ensures failed { IsErrOf result Stop.Failed → StoppedInAnswersText (scenario trace.entry.now) (K.written sink.old) (K.written sink.new) }
-    ensures memory { IsErrOf result Stop.NoMemory → StoppedBetweenAnswers (scenario trace.entry.now) (K.written sink.old) (K.written sink.new) }
-    ensures write { IsErrOf result Stop.Failed → Rose (K.faults sink.old) (K.faults sink.new) }
+    ensures failed { IsErrOf result SendFault.Failed → StoppedInAnswersText (scenario trace.entry.now) (K.written sink.old) (K.written sink.new) }
+    ensures memory { IsErrOf result SendFault.NoMemory → StoppedBetweenAnswers (scenario trace.entry.now) (K.written sink.old) (K.written sink.new) }
+    ensures write { IsErrOf result SendFault.Failed → Rose (K.faults sink.old) (K.faults sink.new) }
     ensures later { K.faults sink.old ≤ K.faults sink.new }
 {
     let inst = first_instance(alloc, trace)?;

@@ -12,7 +12,7 @@ use Rattle.tetri_run.specs.Words.{to_check}
 use Rattle.tetri_run.specs.declared.status.Status.{Status}
 use Rattle.tetri_run.specs.declared.status.Status.TheVariants.{Done, Refused, Usage, ReadFault, WriteFault, BadTrace, NoMemory}
 use Rattle.tetri_run.specs.Run.{in_order, plans_of, state_behind}
-use Rattle.tetri_run.proofs.RunLemmas.{run_plans}
+use Rattle.tetri_run.proofs.RunLaws.{run_plans}
 use Rattle.tetri_state.specs.Reached.{ArePlans}
 use Rattle.tetri_state.specs.Snapshot.{Snapshot, opening_state}
 use Rattle.tetri_notice.specs.declared.fault.TraceWhy.{TraceWhy}

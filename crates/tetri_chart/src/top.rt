@@ -12,10 +12,11 @@ ghost use Rattle.tetri_notice.specs.declared.fault.TraceWhy.{TraceWhy};
 
 use crate::unkept::Unkept;
 use std::alloc::Global;
-use tetri_drawing::{GatherFault, Stop, draw, gather};
+use tetri_drawing::{GatherFault, draw, gather};
 use tetri_io::{Shelf, Sink};
-use tetri_run::{Status, Why, run_check};
-use tetri_trace::{Trace, TraceFault, read_trace};
+use tetri_report::SendFault;
+use tetri_run::{Status, Why, run_check, status_of};
+use tetri_trace::{Trace, read_trace};
 
 // Draws the report that a name holds, which is an accepted report of the trace.
 fn draw_report<S: Shelf, K: Sink>(
@@ -41,8 +42,8 @@ fn draw_report<S: Shelf, K: Sink>(
     match gather(alloc, trace, cycle, shelf, name) {
         Ok(chart) => match draw(alloc, trace, &chart, sink) {
             Ok(()) => Status::Done,
-            Err(Stop::Failed) => Status::WriteFault,
-            Err(Stop::NoMemory) => Status::NoMemory,
+            Err(SendFault::Failed) => Status::WriteFault,
+            Err(SendFault::NoMemory) => Status::NoMemory,
         },
         Err(GatherFault::Strange) => Status::Refused {
             line: 1,
@@ -90,9 +91,7 @@ fn draw_accepted<S: Shelf, K: Sink>(
             }
             draw_report(alloc, &trace, report, cycle, shelf, sink)
         }
-        Err(TraceFault::Read) => Status::ReadFault,
-        Err(TraceFault::Bad { line, why }) => Status::BadTrace { line, why },
-        Err(TraceFault::NoMemory) => Status::NoMemory,
+        Err(fault) => status_of(fault),
     }
 }
 

@@ -1,19 +1,19 @@
 -- How a report is gathered line by line.
-use Rattle.std.proofs.Common.{◌≡◌, ℕ, ◌+◌, ◌<◌, ◌≤◌, ◌==◌, true, false, cond, List, [], ◌∷◌, ◌++◌, All, length, drop, take, map, refl, sym, ap, ◌∙◌, subst, append_assoc, inl, inr, arith}
+use Rattle.std.proofs.Common.{◌≡◌, ℕ, ◌+◌, ◌<◌, ◌≤◌, List, [], ◌∷◌, ◌++◌, All, length, drop, take, map, refl, sym, ap, ◌∙◌, subst, append_assoc, inl, inr, arith}
 use Rattle.std.specs.Prelude.{Option, Result, Ok, Err}
-use Rattle.std.proofs.lemmas.List.{drop_all}
 use Rattle.std.proofs.lemmas.List.Elements.{All-head, All-tail}
 use Rattle.tetri_base.specs.ResultSteps.{◌>>=◌}
 use Rattle.tetri_cert.specs.declared.certificate.Certificate.{Certificate}
 use Rattle.tetri_io.specs.LineReader.{IsAhead, ahead, place}
 use Rattle.tetri_io.specs.declared.line_reader.LineReader.{LineReader}
-use Rattle.tetri_io.specs.Lines.{line_of, lines_from, onto}
-use Rattle.tetri_io.proofs.Lines.{first_line, line_of-le}
+use Rattle.tetri_io.specs.Lines.{line_of}
+use Rattle.tetri_io.proofs.TextLaws.{first_line, line_of-le}
 use Rattle.tetri_report.specs.Block.{Block}
-use Rattle.tetri_report.specs.Reading.{Reading, behind_line, end_answer, line_answer, onto_blocks, onto_report, opened, report_from, report_in}
+use Rattle.tetri_report.specs.Reading.{Reading, behind_line, end_answer, line_answer, onto_report, opened, report_from, report_in}
+use Rattle.tetri_base.specs.Lists.{with_first}
 use Rattle.tetri_report.specs.Strips.{Telling, more, tops, node, ended, answer_told, bare, block_told, strip_behind, told_answer}
 use Rattle.tetri_report.specs.declared.cycle.Summary.{Summary}
-use Rattle.tetri_report.proofs.ReportLaws.{line_is_told, strip_of_bare, told_of_bare}
+use Rattle.tetri_report.proofs.ReportLaws.{line_is_told, none_left, some_line, strip_of_bare, texts_from, told_of_bare}
 use Rattle.tetri_state.specs.Begin.{occurring}
 use Rattle.tetri_state.specs.Snapshot.{Snapshot, opening_state}
 use Rattle.tetri_state.specs.declared.pieces.Piece.{Piece}
@@ -41,41 +41,18 @@ err_same e = cc
 pub nothing_ahead : (content : List ℕ) (r : LineReader) → ahead r ≡ [] → IsAhead content r
 nothing_ahead content r none = record { bytes = none ∙ sym (ap (λ bytes. take (length bytes) (drop (place r) content)) none) }
 
--- the lines of the bytes from an offset on
-abbrev pub texts_from : ℕ → List ℕ → List (List ℕ)
-texts_from at bytes = map (λ l. l.0) (lines_from at bytes)
-
 abbrev pub IsShortLine : List ℕ → Type 0
 IsShortLine line = length line ≤ 1048576
 
--- Where bytes are left, there is a line, and else none.
-abbrev HasFirst : List (List ℕ × ℕ) → Type 0
-HasFirst ls = (first : List ℕ × ℕ) × (others : List (List ℕ × ℕ)) × (ls ≡ first ∷ others)
-
-some_line : (at : ℕ) (xs : List ℕ) → 0 < length xs → HasFirst (lines_from at xs)
-some_line at [] h = absurd (omega arith)
-some_line at (x ∷ xs) h =
-    elim (x == 10) as (λ b. HasFirst (cond b (([], at + 1) ∷ lines_from (at + 1) xs) (onto (x ∷ []) (at + 1) (lines_from (at + 1) xs)))) [
-      | true ↦ (([], at + 1), lines_from (at + 1) xs, refl)
-      | false ↦ onto_some (lines_from (at + 1) xs)
-    ]
-  where
-    onto_some : (ls : List (List ℕ × ℕ)) → HasFirst (onto (x ∷ []) (at + 1) ls)
-    onto_some [] = ((x ∷ [], at + 1), [], refl)
-    onto_some (l ∷ ls) = (((x ∷ []) ++ l.0, l.1), ls, refl)
-
-none_left : (content : List ℕ) (at : ℕ) → length content ≤ at → texts_from at (drop at content) ≡ []
-none_left content at past = ap (texts_from at) (drop_all at content past)
-
 -- what further lines give, once one was read
 reads_on : (t : Scenario) (r : Reading) (line : List ℕ) (rest : List (List ℕ)) (o : Option Block) → line_answer t r line ≡ Ok o → (bs : List Block) (s : Summary) →
-    report_from t r (line ∷ rest) ≡ Ok (bs, s) → (later : List Block) × (bs ≡ onto_blocks o later) × (report_from t (behind_line t r line) rest ≡ Ok (later, s))
+    report_from t r (line ∷ rest) ≡ Ok (bs, s) → (later : List Block) × (bs ≡ with_first o later) × (report_from t (behind_line t r line) rest ≡ Ok (later, s))
 reads_on t r line rest o answer bs s reads =
     by_rest (report_from t (behind_line t r line) rest) refl
     (sym (ap (λ (a : Result (Option Block) ℕ). a >>= λ x. onto_report x (report_from t (behind_line t r line) rest)) answer) ∙ reads)
   where
     by_rest : (q : Result (List Block × Summary) ℕ) → report_from t (behind_line t r line) rest ≡ q → onto_report o q ≡ Ok (bs, s) →
-        (later : List Block) × (bs ≡ onto_blocks o later) × (report_from t (behind_line t r line) rest ≡ Ok (later, s))
+        (later : List Block) × (bs ≡ with_first o later) × (report_from t (behind_line t r line) rest ≡ Ok (later, s))
     by_rest (Err n) is e = absurd (ok_not_err (sym e))
     by_rest (Ok x) is e =
         let same = ok_same e in
@@ -111,21 +88,21 @@ module _ (t : Scenario) (asked : Option ℕ) where
       ∙ ap (λ x. new.waits.items ++ waits_from t asked x bs) (sym k.state))
 
   told_shows : (c : Certificate) (told : Telling) (old new : Gathering) (bs : List Block) → TakesTold t asked told old new →
-      picture_with t asked old (onto_blocks (block_told c told) bs) ≡ picture_with t asked new bs
+      picture_with t asked old (with_first (block_told c told) bs) ≡ picture_with t asked new bs
   told_shows c more old new bs k = ap (λ g. picture_with t asked g bs) (sym k)
   told_shows c (tops columns rows) old new bs k = ap (λ g. picture_with t asked g bs) (sym k)
   told_shows c (node mark) old new bs k = ap (λ g. picture_with t asked g bs) (sym k)
   told_shows c (ended b) old new bs k = taken_shows old new b bs k
 
   told_may : (c : Certificate) (told : Telling) (old new : Gathering) (bs : List Block) → TakesTold t asked told old new →
-      MayAllRun t old.state (onto_blocks (block_told c told) bs) → MayAllRun t new.state bs
+      MayAllRun t old.state (with_first (block_told c told) bs) → MayAllRun t new.state bs
   told_may c more old new bs k may = subst (λ (g : Gathering). MayAllRun t g.state bs) (sym k) may
   told_may c (tops columns rows) old new bs k may = subst (λ (g : Gathering). MayAllRun t g.state bs) (sym k) may
   told_may c (node mark) old new bs k may = subst (λ (g : Gathering). MayAllRun t g.state bs) (sym k) may
   told_may c (ended b) old new bs k may = subst (λ s. MayAllRun t s bs) (sym k.state) may.1
 
   -- what is strange may not run
-  strange_not : (c : Certificate) (told : Telling) (s : Snapshot) (bs : List Block) → IsStrange t s told → MayAllRun t s (onto_blocks (block_told c told) bs) → ⊥
+  strange_not : (c : Certificate) (told : Telling) (s : Snapshot) (bs : List Block) → IsStrange t s told → MayAllRun t s (with_first (block_told c told) bs) → ⊥
   strange_not c more s bs h may = h
   strange_not c (tops columns rows) s bs h may = h
   strange_not c (node mark) s bs h may = h

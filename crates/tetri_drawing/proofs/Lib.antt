@@ -4,5 +4,6 @@ pub mod GatherLemmas
 pub mod PartLemmas
 pub mod SameRunLemmas
 pub mod SlotLemmas
+pub mod SpanLaws
 pub mod SpanLemmas
 pub mod WriteLemmas

@@ -5,9 +5,7 @@ use Rattle.std.proofs.lemmas.List.{get_or_default, map-append}
 use Rattle.std.proofs.lemmas.List.Folds.{list_any-append}
 use Rattle.tetri_base.specs.Lists.{Each, has}
 use Rattle.tetri_report.specs.Block.{Block}
-use Rattle.tetri_state.proofs.Ascending.{each_from}
-use Rattle.tetri_state.proofs.BeginLemmas.{filter_both}
-use Rattle.tetri_state.proofs.RunOnLemmas.{told_runs}
+use Rattle.tetri_state.proofs.StateLaws.{each_from, filter_both, told_runs}
 use Rattle.tetri_state.specs.After.{new_pieces}
 use Rattle.tetri_state.specs.Begin.{Turn, begin, but_of, cancel, events_at, fail, fail_on, happen, happen_all, has_ended, holder_in, is_over, occurring, prolonged, put_number, running_on, runs, staying as state_staying, turn, unturned, without}
 use Rattle.tetri_state.specs.Planning.{instance_of}

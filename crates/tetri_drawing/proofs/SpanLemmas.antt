@@ -8,7 +8,7 @@ use Rattle.std.proofs.lemmas.List.Elements.{All-contains, All-map, All-weaker, C
 use Rattle.std.proofs.lemmas.List.Sorted.{IsPermutation-refl, IsPermutation-trans, IsPermutation-append_comm, IsPermutation-append_left, IsPermutation-append_right, IsPermutation-map, IsPermutation-filter_both}
 use Rattle.tetri_report.specs.Block.{Block}
 use Rattle.tetri_base.specs.Lists.{has}
-use Rattle.tetri_space.proofs.PrunedLemmas.{in_map}
+use Rattle.tetri_space.proofs.InstanceLaws.{in_map}
 use Rattle.tetri_state.specs.After.{new_pieces}
 use Rattle.tetri_state.specs.Begin.{begin, is_over, occurring, prolonged, staying as state_staying}
 use Rattle.tetri_state.specs.Pieces.{IsSameRun}

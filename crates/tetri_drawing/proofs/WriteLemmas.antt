@@ -5,7 +5,7 @@ use Rattle.std.specs.Io.KnownBytes.{append_known}
 use Rattle.std.proofs.Math.Seq.{take-append-add}
 use Rattle.std.proofs.lemmas.List.{append-nil, take-append-le}
 use Rattle.tetri_io.specs.Sink.{AppendsPart}
-use Rattle.tetri_io.proofs.Known.{append_known-append, part_on}
+use Rattle.tetri_io.proofs.TextLaws.{append_known-append, part_on}
 use Rattle.tetri_trace.specs.Scenario.{Scenario}
 use Rattle.tetri_svg.specs.Layout.{Layout}
 use Rattle.tetri_drawing.specs.Ends.{back_text, front_text}

@@ -17,15 +17,11 @@ pub fn pieces_are_those_of_states(trace: &Trace)
     ensures first { AreSameRuns (opening_state (scenario trace.entry.now)).pieces [] }
     ensures behind { (s : Snapshot) (active : List Piece) (b : Block) → AreSameRuns s.pieces active
         → AreSameRuns (next (scenario trace.entry.now) s b).pieces (running (scenario trace.entry.now) s active b) }
-{
-    let _ = trace;
-}
+{}
 
 /// The spans of a picture are those of the pieces of its run: one for each piece that a cycle launches, with its nodes, its start and the
 /// end that is expected of it, up to the first slot whose beginning leaves a state in which it runs no more, and no other.
 pub fn pictures_tell_pieces(trace: &Trace)
     ensures { (asked : Option ℕ) (blocks : List Block)
         → TellsPieces (scenario trace.entry.now) blocks (picture_of (scenario trace.entry.now) asked blocks).spans }
-{
-    let _ = trace;
-}
+{}

@@ -11,11 +11,9 @@ mod names;
 mod report;
 mod shades;
 mod slot;
-mod stop;
 mod writing;
 
 pub use chart::{Chart, CycleMark, Span, Wait};
 pub use laws::{pictures_tell_pieces, pieces_are_those_of_states};
 pub use report::{GatherFault, gather};
-pub use stop::Stop;
 pub use writing::draw;

@@ -14,9 +14,9 @@ use crate::bars::add_span;
 use crate::chart::{Chart, Span};
 use crate::framing::framed;
 use crate::front::add_front;
-use crate::stop::Stop;
 use std::alloc::Global;
 use tetri_io::{Sink, send_all};
+use tetri_report::SendFault;
 use tetri_svg::Frame;
 use tetri_trace::Trace;
 
@@ -27,12 +27,12 @@ fn send_front<K: Sink>(
     frame: &Frame,
     pieces: usize,
     sink: &mut K,
-) -> Result<(), Stop>
+) -> Result<(), SendFault>
     ensures ok { OnOk result (K.written sink.new ≡ append_known (K.written sink.old) (front_text (scenario trace.entry.now) frame.now pieces)) }
-    ensures failed { IsErrOf result Stop.Failed
+    ensures failed { IsErrOf result SendFault.Failed
         → AppendsPart (K.written sink.old) (K.written sink.new) (front_text (scenario trace.entry.now) frame.now pieces) }
-    ensures memory { IsErrOf result Stop.NoMemory → K.written sink.new ≡ K.written sink.old }
-    ensures write { IsErrOf result Stop.Failed → Rose (K.faults sink.old) (K.faults sink.new) }
+    ensures memory { IsErrOf result SendFault.NoMemory → K.written sink.new ≡ K.written sink.old }
+    ensures write { IsErrOf result SendFault.Failed → Rose (K.faults sink.old) (K.faults sink.new) }
     ensures later { K.faults sink.old ≤ K.faults sink.new }
 {
     let mut out = String::new(alloc);
@@ -48,12 +48,12 @@ fn send_span<K: Sink>(
     frame: &Frame,
     span: &Span,
     sink: &mut K,
-) -> Result<(), Stop>
+) -> Result<(), SendFault>
     ensures ok { OnOk result (K.written sink.new ≡ append_known (K.written sink.old) (span_text (scenario trace.entry.now) frame.now span.entry.now)) }
-    ensures failed { IsErrOf result Stop.Failed
+    ensures failed { IsErrOf result SendFault.Failed
         → AppendsPart (K.written sink.old) (K.written sink.new) (span_text (scenario trace.entry.now) frame.now span.entry.now) }
-    ensures memory { IsErrOf result Stop.NoMemory → K.written sink.new ≡ K.written sink.old }
-    ensures write { IsErrOf result Stop.Failed → Rose (K.faults sink.old) (K.faults sink.new) }
+    ensures memory { IsErrOf result SendFault.NoMemory → K.written sink.new ≡ K.written sink.old }
+    ensures write { IsErrOf result SendFault.Failed → Rose (K.faults sink.old) (K.faults sink.new) }
     ensures later { K.faults sink.old ≤ K.faults sink.new }
 {
     let mut out = String::new(alloc);
@@ -69,13 +69,13 @@ fn send_spans<K: Sink>(
     frame: &Frame,
     spans: &[Span],
     sink: &mut K,
-) -> Result<(), Stop>
+) -> Result<(), SendFault>
     ensures ok { OnOk result (K.written sink.new ≡ append_known (K.written sink.old) (bars_text (scenario trace.entry.now) frame.now spans.entry.now)) }
-    ensures failed { IsErrOf result Stop.Failed
+    ensures failed { IsErrOf result SendFault.Failed
         → AppendsPart (K.written sink.old) (K.written sink.new) (bars_text (scenario trace.entry.now) frame.now spans.entry.now) }
-    ensures memory { IsErrOf result Stop.NoMemory
+    ensures memory { IsErrOf result SendFault.NoMemory
         → AppendsFront (K.written sink.old) (K.written sink.new) (bars_text (scenario trace.entry.now) frame.now spans.entry.now) }
-    ensures write { IsErrOf result Stop.Failed → Rose (K.faults sink.old) (K.faults sink.new) }
+    ensures write { IsErrOf result SendFault.Failed → Rose (K.faults sink.old) (K.faults sink.new) }
     ensures later { K.faults sink.old ≤ K.faults sink.new }
 {
     for span in spans {
@@ -94,12 +94,12 @@ fn send_back<K: Sink>(
     frame: &Frame,
     chart: &Chart,
     sink: &mut K,
-) -> Result<(), Stop>
+) -> Result<(), SendFault>
     ensures ok { OnOk result (K.written sink.new ≡ append_known (K.written sink.old) (back_text (scenario trace.entry.now) frame.now chart.entry.now)) }
-    ensures failed { IsErrOf result Stop.Failed
+    ensures failed { IsErrOf result SendFault.Failed
         → AppendsPart (K.written sink.old) (K.written sink.new) (back_text (scenario trace.entry.now) frame.now chart.entry.now) }
-    ensures memory { IsErrOf result Stop.NoMemory → K.written sink.new ≡ K.written sink.old }
-    ensures write { IsErrOf result Stop.Failed → Rose (K.faults sink.old) (K.faults sink.new) }
+    ensures memory { IsErrOf result SendFault.NoMemory → K.written sink.new ≡ K.written sink.old }
+    ensures write { IsErrOf result SendFault.Failed → Rose (K.faults sink.old) (K.faults sink.new) }
     ensures later { K.faults sink.old ≤ K.faults sink.new }
 {
     let mut out = String::new(alloc);
@@ -110,14 +110,19 @@ fn send_back<K: Sink>(
 
 /// Writes the picture: what stands before the bars by one send, the bars of each piece by one more, and what stands behind them by one
 /// more. A fault leaves a proper front of the picture, and want of memory a front of it.
-pub fn draw<K: Sink>(alloc: Global, trace: &Trace, chart: &Chart, sink: &mut K) -> Result<(), Stop>
+pub fn draw<K: Sink>(
+    alloc: Global,
+    trace: &Trace,
+    chart: &Chart,
+    sink: &mut K,
+) -> Result<(), SendFault>
     requires { IsSound (scenario trace.now) }
     ensures ok { OnOk result (K.written sink.new ≡ append_known (K.written sink.old) (svg_text (scenario trace.entry.now) chart.entry.now)) }
-    ensures failed { IsErrOf result Stop.Failed
+    ensures failed { IsErrOf result SendFault.Failed
         → AppendsPart (K.written sink.old) (K.written sink.new) (svg_text (scenario trace.entry.now) chart.entry.now) }
-    ensures memory { IsErrOf result Stop.NoMemory
+    ensures memory { IsErrOf result SendFault.NoMemory
         → AppendsFront (K.written sink.old) (K.written sink.new) (svg_text (scenario trace.entry.now) chart.entry.now) }
-    ensures write { IsErrOf result Stop.Failed → Rose (K.faults sink.old) (K.faults sink.new) }
+    ensures write { IsErrOf result SendFault.Failed → Rose (K.faults sink.old) (K.faults sink.new) }
     ensures later { K.faults sink.old ≤ K.faults sink.new }
 {
     let frame = framed(trace, chart.asked);

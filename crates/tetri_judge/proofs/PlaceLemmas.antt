@@ -9,7 +9,7 @@ use Rattle.tetri_strl.specs.Trim.{first_waste}
 use Rattle.tetri_cert.specs.declared.certificate.Certificate.{Certificate}
 use Rattle.tetri_cert.specs.declared.certificate.Certificate.TheVariants.{Tops, Tree}
 use Rattle.tetri_cert.specs.declared.faults.TreeWhy.{TreeWhy}
-use Rattle.tetri_cert.proofs.FaultLemmas.{faults_name_nodes}
+use Rattle.tetri_cert.proofs.TreeBoundLaws.{faults_name_nodes}
 use Rattle.tetri_report.specs.Block.{Block}
 use Rattle.tetri_report.specs.BlockLines.{certificate_lines, end_place, plan_place}
 use Rattle.tetri_report.specs.declared.line.ReportLine.TheVariants as lines

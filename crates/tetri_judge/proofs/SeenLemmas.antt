@@ -2,7 +2,7 @@
 use Rattle.std.proofs.Common.{◌≡◌, ℕ, ◌+◌, ◌≤◌, List, [], ◌∷◌, ◌++◌, length, refl, sym, ap, ◌∙◌, subst, arith, inl, inr, ⊎_elim}
 use Rattle.std.specs.Prelude.{◌⊎◌, ◌↔◌, Result, Ok, Err}
 use Rattle.std.proofs.lemmas.List.{append-nil, append_assoc, length-append}
-use Rattle.tetri_cert.specs.Trees.{Gives, nodes_in, tree_bound}
+use Rattle.tetri_cert.specs.Trees.{IsTreeAnswer, nodes_in, tree_bound}
 use Rattle.tetri_cert.specs.Walks.{IsOver, tells}
 use Rattle.tetri_cert.specs.declared.certificate.Certificate.{Certificate}
 use Rattle.tetri_cert.specs.declared.certificate.Certificate.TheVariants.{Tops, Tree}
@@ -33,7 +33,7 @@ use Rattle.tetri_judge.proofs.VerdictLaws.{fault_answers}
 
 -- The walk
 
-gives_itself : (answer : Result ℕ TreeFault) → Gives answer answer
+gives_itself : (answer : Result ℕ TreeFault) → IsTreeAnswer answer answer
 gives_itself (Ok bound) = refl
 gives_itself (Err (faults.Bad node why)) = refl
 gives_itself (Err (faults.Past node column)) = refl
@@ -70,7 +70,7 @@ module _ (s : Space) where
       Tells s (Tree marks) (seen.Tree answer nodes)
   walk_tells marks w answer nodes is e n = λ may. (
     n,
-    (w.program, is.program, subst (Gives answer) (e ∙ is.tells [] ∙ ap (tree_bound w.program) (append-nil marks)) (gives_itself answer)),
+    (w.program, is.program, subst (IsTreeAnswer answer) (e ∙ is.tells [] ∙ ap (tree_bound w.program) (append-nil marks)) (gives_itself answer)),
   )
 
   -- The tests

@@ -8,11 +8,11 @@ use Rattle.tetri_cert.specs.declared.faults.TreeFault.{TreeFault}
 use Rattle.tetri_cert.specs.declared.faults.TreeFault.TheVariants as faults
 use Rattle.tetri_cert.specs.declared.faults.TreeWhy.{TreeWhy}
 use Rattle.tetri_cert.specs.declared.marks.Mark.{Mark}
-use Rattle.tetri_cert.specs.Trees.{Gives, tree_bound}
+use Rattle.tetri_cert.specs.Trees.{IsTreeAnswer, tree_bound}
 use Rattle.tetri_claims.specs.Certified.{IsBoundOf, IsCertified, MayHaveTree, TreeAnswers}
 use Rattle.tetri_claims.specs.Good.{IsGood, IsHonest}
 use Rattle.tetri_claims.specs.Planned.{Planned}
-use Rattle.tetri_claims.proofs.CertifiedLemmas.{certificates_bound, one_answer, one_bound}
+use Rattle.tetri_claims.proofs.ClaimLaws.{certificates_bound, one_answer, one_bound}
 use Rattle.tetri_compile.specs.Flat.{plain, program_of}
 use Rattle.tetri_ip.specs.declared.programs.Program.{Program}
 use Rattle.tetri_judge.specs.Answers.{AnswersBound, verdict_of}
@@ -22,7 +22,7 @@ use Rattle.tetri_judge.specs.declared.verdict.Verdict.TheVariants.{Unlawful, Wro
 use Rattle.tetri_judge.proofs.WastedLemmas.{none_wasted}
 use Rattle.tetri_space.specs.Sound.{IsSound}
 use Rattle.tetri_space.specs.Space.{Space}
-use Rattle.tetri_space.proofs.RuleLemmas.{broken_first, first_broken_same, lawful_keeps}
+use Rattle.tetri_space.proofs.InstanceLaws.{broken_first, first_broken_same, lawful_keeps}
 
 module _ (s : Space) where
   -- a tree with a fault has no bound
@@ -202,11 +202,11 @@ module _ (s : Space) (carried budget : ℕ) (p : Planned) where
           by_test false is false are = inr (inl (grind (arith, nat_tests)))
 
 -- a tree's fault over the instance's program is the certificate's
-pub fault_answers : (s : Space) (marks : List Mark) (p : Program) (f : TreeFault) (v : Verdict) → MayHaveTree s → plain p ≡ program_of s → Gives (Err f) (tree_bound p marks) →
+pub fault_answers : (s : Space) (marks : List Mark) (p : Program) (f : TreeFault) (v : Verdict) → MayHaveTree s → plain p ≡ program_of s → IsTreeAnswer (Err f) (tree_bound p marks) →
     v ≡ verdict_of f → AnswersBound (Err v) s (Tree marks)
 fault_answers s marks p f v may is told e = subst (λ w. AnswersBound (Err w) s (Tree marks)) (sym e) (by_fault f told)
   where
-    by_fault : (g : TreeFault) → Gives (Err g) (tree_bound p marks) → AnswersBound (Err (verdict_of g)) s (Tree marks)
+    by_fault : (g : TreeFault) → IsTreeAnswer (Err g) (tree_bound p marks) → AnswersBound (Err (verdict_of g)) s (Tree marks)
     by_fault (faults.Bad node why) told = inr (may, (p, is, told))
     by_fault (faults.Past node column) told = (may, (p, is, told))
     by_fault faults.NoMemory told = tt

@@ -13,14 +13,13 @@ use Rattle.tetri_judge.specs.Wasted.{lesser, first_wasted}
 use Rattle.tetri_space.specs.Sound.{IsSound, IsSoundBid}
 use Rattle.tetri_space.specs.Space.{Bid, Space, bid}
 use Rattle.tetri_space.specs.declared.instance.Offer.{Offer}
-use Rattle.tetri_space.proofs.BidLemmas.{next_bid, later_jobs}
+use Rattle.tetri_space.proofs.InstanceLaws.{next_bid, later_jobs}
 use Rattle.tetri_strl.specs.declared.grants.Grant.{Grant}
 use Rattle.tetri_strl.specs.Thrifty.{IsThriftyFor}
 use Rattle.tetri_strl.specs.Tree.{Tree, tree}
 use Rattle.tetri_strl.specs.Trim.{first_waste, idle, wastes}
 use Rattle.tetri_strl.specs.Worth.{granted, worth_at, leaf_worth}
-use Rattle.tetri_strl.proofs.GrantLemmas.{NamesNot, granted-append, granted-others}
-use Rattle.tetri_strl.proofs.TrimThrift.{waste_is_exact}
+use Rattle.tetri_strl.proofs.ExprLaws.{granted-append, granted-others, NamesNot, waste_is_exact}
 
 pub lesser-none : (o : Option ℕ) → lesser o None ≡ o
 lesser-none None = refl

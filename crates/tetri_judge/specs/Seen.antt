@@ -1,6 +1,6 @@
 -- What was seen of a certificate, in place of all its marks.
 use Rattle.std.specs.Prelude.{◌≡◌, ◌⊎◌, ◌↔◌, ℕ, List, ◌++◌, length, Option, Some, None, Result}
-use Rattle.tetri_cert.specs.Trees.{Gives, nodes_in, tree_bound}
+use Rattle.tetri_cert.specs.Trees.{IsTreeAnswer, nodes_in, tree_bound}
 use Rattle.tetri_cert.specs.Walks.{IsOver, tells}
 use Rattle.tetri_cert.specs.declared.certificate.Certificate.{Certificate}
 use Rattle.tetri_cert.specs.declared.certificate.Certificate.TheVariants.{Tops, Tree}
@@ -20,7 +20,7 @@ use Rattle.tetri_judge.specs.declared.tree_walk.TreeWalk.{TreeWalk}
 
 -- What marks have over the integer program of the instance: the bound of a proper tree or the first fault, unless memory ran out.
 abbrev pub TreeGives : Space → List Mark → Result ℕ TreeFault → Type 0
-TreeGives s marks answer = (p : Program) × (plain p ≡ program_of s) × Gives answer (tree_bound p marks)
+TreeGives s marks answer = (p : Program) × (plain p ≡ program_of s) × IsTreeAnswer answer (tree_bound p marks)
 
 -- What was seen tells this certificate of a plan in the instance: tops are told by their numbers, and a tree, where one may stand
 -- in the instance, by how many of its nodes are counted and by what it gives. Where none may stand, all trees are told alike.

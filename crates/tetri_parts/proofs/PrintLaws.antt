@@ -11,7 +11,7 @@ use Rattle.tetri_strl.specs.WellMade as well_made
 use Rattle.tetri_space.specs.Space.{Bid, Space, set_of, leaf_in}
 use Rattle.tetri_space.specs.Lawful.{IsLawful, MayBeGranted, IsLawfulGrant}
 use Rattle.tetri_space.specs.Sound.{HasKnownSet, IsSoundBid, IsSound}
-use Rattle.tetri_space.proofs.LeafLemmas.{leaf_in-within, IsOffered}
+use Rattle.tetri_space.proofs.InstanceLaws.{leaf_in-within, IsOffered}
 use Rattle.tetri_trace.specs.Scenario.{Scenario}
 use Rattle.tetri_report.specs.Printable.{IsPrintableGrant}
 use Rattle.tetri_split.specs.Parts.{ArePartsOf, first_job, jobs_in}

@@ -4,7 +4,7 @@ use Rattle.std.specs.Prelude.{flat_map, Option, Some, None}
 use Rattle.std.proofs.lemmas.List.{append-nil, append_assoc}
 use Rattle.std.specs.Io.KnownBytes.{append_known}
 use Rattle.tetri_io.specs.Sink.{AppendsPart}
-use Rattle.tetri_io.proofs.Known.{append_known-append}
+use Rattle.tetri_io.proofs.TextLaws.{append_known-append}
 use Rattle.tetri_report.specs.Text.{events_text, launches_text, summary_text}
 use Rattle.tetri_report.specs.declared.cycle.Summary.{Summary}
 use Rattle.tetri_state.specs.After.{after}
@@ -16,9 +16,10 @@ use Rattle.tetri_strl.specs.declared.grants.Grant.{Grant}
 use Rattle.tetri_trace.specs.Scenario.{Scenario}
 use Rattle.tetri_parts.specs.Cycle.{IsPartsCycle, PartPlan, PartsCycle, bound_of, value_of}
 use Rattle.tetri_parts.specs.Run.{IsPartsRun, NextPartsText, cycle, summary, optimal_in_parts, parts_cycles_text, state_behind_parts, summary_of_parts, worth_of_parts}
-use Rattle.tetri_parts.specs.Progress.{RanAll, RanSlot, RanSlots, StoppedBetweenParts, StoppedInPartsText, StoppedInSlot, WroteParts, summary_at}
+use Rattle.tetri_parts.specs.Progress.{RanAll, RanSlot, RanSlots, StoppedBetweenParts, StoppedInPartsText, StoppedInSlot, WroteParts}
+use Rattle.tetri_report.specs.Tally.{summary_at}
 use Rattle.tetri_parts.specs.Text.{part_text, parts_cycle_text, parts_line}
-use Rattle.tetri_parts.specs.declared.cycles.RunTally.{RunTally}
+use Rattle.tetri_report.specs.declared.tally.RunTally.{RunTally}
 use Rattle.tetri_parts.specs.declared.slot.SlotTally.{SlotTally}
 use Rattle.tetri_state.specs.Planning.{instance_at}
 

@@ -2,7 +2,6 @@
 use Rattle.std.specs.Prelude.{◌≡◌, ◌<◌, ℕ, List, ◌++◌, Option, All, flat_map, length, take}
 use Rattle.std.specs.Io.KnownBytes.{append_known}
 use Rattle.tetri_io.specs.Sink.{AppendsPart}
-use Rattle.tetri_report.specs.Text.{summary_text}
 use Rattle.tetri_report.specs.declared.cycle.Summary.{Summary}
 use Rattle.tetri_space.specs.Space.{Space}
 use Rattle.tetri_state.specs.After.{after}
@@ -15,7 +14,7 @@ use Rattle.tetri_trace.specs.Scenario.{Scenario}
 use Rattle.tetri_parts.specs.Cycle.{ArePlansByPart, IsPartsCycle, IsPlanOfPart, PartPlan, PartsCycle, bound_of, grants_by_part, jobs_by_part, optimal_count, value_of}
 use Rattle.tetri_parts.specs.Run.{IsPartsRun, NextPartsText, optimal_in_parts, parts_cycles_text, parts_report_text, state_behind_parts, summary_of_parts, worth_of_parts}
 use Rattle.tetri_parts.specs.Text.{parts_cycle_text, parts_line, part_text}
-use Rattle.tetri_parts.specs.declared.cycles.RunTally.{RunTally}
+use Rattle.tetri_report.specs.declared.tally.RunTally.{RunTally}
 use Rattle.tetri_parts.specs.declared.planning.PartLines.{PartLines}
 use Rattle.tetri_parts.specs.declared.planning.PartsPlan.{PartsPlan}
 use Rattle.tetri_parts.specs.declared.slot.Ready.{Ready}
@@ -114,15 +113,3 @@ pub record StoppedBetweenParts (t : Scenario) (before now : Option (List ℕ)) :
   pub past : List PartsCycle
   pub run : IsPartsRun t past
   pub written : now ≡ append_known before (parts_cycles_text t past)
-
--- what is added up, as the numbers of a run
-abbrev pub summary_at : Snapshot → RunTally → Summary
-summary_at s tally = record {
-  cycles = s.now;
-  launched = length s.launched;
-  ended = length s.ended;
-  cancelled = length s.cancelled;
-  expired = length s.expired;
-  worth = tally.worth;
-  optimal = tally.optimal;
-}

@@ -6,7 +6,5 @@ mod cycles;
 mod lines;
 mod planning;
 mod slot;
-mod stop;
 
 pub use cycles::run_by_parts;
-pub use stop::Stop;

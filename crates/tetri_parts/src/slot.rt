@@ -8,10 +8,9 @@ ghost use Rattle.tetri_trace.specs.Scenario.{scenario};
 ghost use Rattle.tetri_trace.specs.Sound.{IsSound};
 
 use crate::planning::plan_by_parts;
-use crate::stop::Stop;
 use std::alloc::{AllocError, Global};
 use tetri_io::{Sink, send_all};
-use tetri_report::{print_events, print_launches};
+use tetri_report::{SendFault, print_events, print_launches};
 use tetri_state::{Prepared, State, jobs_of_a_run_are_known, launch_of};
 use tetri_trace::Trace;
 
@@ -70,16 +69,16 @@ pub(crate) fn run_slot<K: Sink>(
     trace: &Trace,
     state: &mut State,
     sink: &mut K,
-) -> Result<SlotTally, Stop>
+) -> Result<SlotTally, SendFault>
     requires sound { IsSound (scenario trace.now) }
     requires reached { IsReached (scenario trace.now) between state.old }
     requires in_run { state.old.now < (scenario trace.now).header.until }
     ensures ok { IfOk result (λ tally. RanSlot (scenario trace.entry.now) state.old state.new tally (K.written sink.old) (K.written sink.new)) }
     ensures most { IfOk result (λ tally. tally.optimal ≤ 1) }
     ensures small { IfOk result (λ tally. tally.worth < 2 ^ 64) }
-    ensures failed { IsErrOf result Stop.Failed → StoppedInSlot (scenario trace.entry.now) state.old (K.written sink.old) (K.written sink.new) }
-    ensures memory { IsErrOf result Stop.NoMemory → K.written sink.new ≡ K.written sink.old }
-    ensures write { IsErrOf result Stop.Failed → Rose (K.faults sink.old) (K.faults sink.new) }
+    ensures failed { IsErrOf result SendFault.Failed → StoppedInSlot (scenario trace.entry.now) state.old (K.written sink.old) (K.written sink.new) }
+    ensures memory { IsErrOf result SendFault.NoMemory → K.written sink.new ≡ K.written sink.old }
+    ensures write { IsErrOf result SendFault.Failed → Rose (K.faults sink.old) (K.faults sink.new) }
     ensures later { K.faults sink.old ≤ K.faults sink.new }
 {
     let ready = ready_slot(alloc, trace, state)?;

@@ -11,15 +11,13 @@ use Rattle.tetri_cert.specs.declared.certificate.Certificate.TheVariants.{Tops, 
 use Rattle.tetri_cert.specs.declared.marks.Cell.{Cell}
 use Rattle.tetri_strl.specs.declared.grants.Grant.{Grant}
 use Rattle.tetri_strl.specs.Thrifty.{IsThriftyFor}
-use Rattle.tetri_strl.proofs.ExprLaws.{apart_of_pairs, trimmed_thrifty}
-use Rattle.tetri_strl.proofs.GrantLemmas.{worth_of-none}
+use Rattle.tetri_strl.proofs.ExprLaws.{apart_of_pairs, trimmed_thrifty, worth_of-none}
 use Rattle.tetri_space.specs.Lawful.{IsLawful, IsLawfulGrant}
 use Rattle.tetri_space.specs.Sound.{IsSound, IsSoundBid}
 use Rattle.tetri_space.specs.Space.{Bid, Space}
 use Rattle.tetri_space.specs.Total.{bid_worth, total_in}
 use Rattle.tetri_space.specs.Trimmed.{IsThriftyForAll, all_trimmed}
-use Rattle.tetri_space.proofs.AllotmentLaws.{lawful_trimmed, thrifty_trimmed, total_in_order, total_trimmed}
-use Rattle.tetri_space.proofs.SpanLemmas.{all_of, each_of}
+use Rattle.tetri_space.proofs.InstanceLaws.{all_of, each_of, lawful_trimmed, thrifty_trimmed, total_in_order, total_trimmed}
 use Rattle.tetri_search.specs.Follow.{last_whole}
 use Rattle.tetri_claims.specs.Planned.{Planned}
 use Rattle.tetri_plan.specs.Chosen.{IsChosen, better, better_found, first_best, found_at, kept, searched}

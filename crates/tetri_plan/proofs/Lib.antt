@@ -1,5 +1,6 @@
+pub mod ChoiceLemmas
 pub mod KeptLemmas
-pub mod SearchedLemmas
+pub mod PlanLaws
 pub mod PlanLemmas
-pub mod ChoiceLaws
+pub mod SearchedLemmas
 pub mod TrimLemmas

@@ -15,13 +15,13 @@ use Rattle.tetri_space.specs.Sound.{IsSound}
 use Rattle.tetri_space.specs.Space.{Bid, Space}
 use Rattle.tetri_space.specs.Total.{bid_top, total_in}
 use Rattle.tetri_space.specs.Trimmed.{IsThriftyForAll}
-use Rattle.tetri_space.proofs.AllotmentLaws.{lawful_in_order, ordered_in_order, thrifty_in_order, total_in_order}
+use Rattle.tetri_space.proofs.InstanceLaws.{lawful_in_order, ordered_in_order, thrifty_in_order, total_in_order}
 use Rattle.tetri_compile.specs.Flat.{column_count, row_count}
 use Rattle.tetri_search.proofs.SearchLaws.{rests_spend_the_budget}
 use Rattle.tetri_claims.specs.Certified.{IsBoundOf, IsCutShort, MayHaveTree, counted_nodes}
 use Rattle.tetri_claims.specs.Good.{BoundsEveryLawful, IsGood}
 use Rattle.tetri_claims.specs.Planned.{Planned}
-use Rattle.tetri_claims.proofs.CertifiedLemmas.{certificates_bound}
+use Rattle.tetri_claims.proofs.ClaimLaws.{certificates_bound}
 use Rattle.tetri_plan.specs.Chosen.{IsChosen, IsEarnedFor, kept}
 use Rattle.tetri_plan.specs.Plans.{HasTree, enough_in, leaves_open}
 use Rattle.tetri_plan.specs.Searched.{IsSearched, mark_below, mark_for}

@@ -21,11 +21,11 @@ use Rattle.tetri_space.specs.Space.{Space}
 use Rattle.tetri_space.specs.Lawful.{IsLawful}
 use Rattle.tetri_space.specs.Total.{tops_in, total_in}
 use Rattle.tetri_space.specs.Trimmed.{IsThriftyForAll, all_trimmed}
-use Rattle.tetri_space.proofs.AllotmentLaws.{total_trimmed}
+use Rattle.tetri_space.proofs.InstanceLaws.{total_trimmed}
 use Rattle.tetri_compile.specs.Draft.{draft}
 use Rattle.tetri_compile.specs.Flat.{FlatProgram, column_count, plain, plain_row, program_of, row_count}
 use Rattle.tetri_assign.specs.Assigned.{assigned}
-use Rattle.tetri_assign.proofs.Law.{assigned_lawful, assigned_worth}
+use Rattle.tetri_assign.proofs.AssignLaws.{assigned_lawful, assigned_worth}
 use Rattle.tetri_search.specs.Follow.{IsEarned, best_behind, last_whole}
 use Rattle.tetri_search.specs.Laws.{enough, points_in}
 use Rattle.tetri_search.specs.declared.searching.Found.{Found}

@@ -9,7 +9,7 @@ use Rattle.tetri_strl.specs.declared.grants.Grant.{Grant}
 use Rattle.tetri_strl.specs.Tree.{Tree}
 use Rattle.tetri_strl.specs.Trim.{earns, idle, trimmed}
 use Rattle.tetri_strl.specs.Worth.{granted, leaf_worth, worth_at}
-use Rattle.tetri_strl.proofs.TrimOfOthers.{filter-both}
+use Rattle.tetri_strl.proofs.ExprLaws.{filter-both}
 use Rattle.tetri_space.specs.Space.{Bid, Space}
 use Rattle.tetri_space.specs.Trimmed.{all_trimmed}
 

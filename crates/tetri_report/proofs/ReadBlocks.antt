@@ -1,5 +1,5 @@
 -- Reading the printed lines of a block.
-use Rattle.std.proofs.Common.{◌≡◌, ℕ, ◌<◌, ◌^◌, refl, sym, ap, ◌∙◌, arith, List, [], ◌∷◌, ◌++◌, length, map, true, false, Bool, All}
+use Rattle.std.proofs.Common.{◌≡◌, ℕ, ◌<◌, ◌^◌, refl, sym, ap, ◌∙◌, arith, List, [], ◌∷◌, ◌++◌, length, map, true, All}
 use Rattle.std.specs.Prelude.{None}
 use Rattle.std.proofs.lemmas.List.{append-nil, append_assoc}
 use Rattle.std.proofs.lemmas.List.Elements.{All-cons, All-head, All-nil, All-tail}
@@ -14,110 +14,13 @@ use Rattle.tetri_trace.specs.Sound.{IsSound}
 use Rattle.tetri_report.specs.Block.{Block}
 use Rattle.tetri_report.specs.BlockLines.{certificate_lines, grant_line, granted, inner_lines, plan_of}
 use Rattle.tetri_report.specs.Printable.{IsCertificateInRange, IsInRange, IsPrintable, IsPrintableCertificate, IsPrintableGrant, IsPrintableNode}
-use Rattle.tetri_report.specs.Reading.{Reading, before_cancels, before_ends, before_fails, before_nodes, before_overs, before_plan, block_of, is_certified, is_planned, with_line}
+use Rattle.tetri_report.specs.Reading.{Reading, block_of, is_certified, is_from_to, with_line}
 use Rattle.tetri_report.specs.declared.line.ReportLine.{ReportLine}
 use Rattle.tetri_report.specs.declared.line.ReportLine.TheVariants as lines
-use Rattle.tetri_report.specs.declared.line.Stage.{Stage}
 use Rattle.tetri_report.specs.declared.line.Stage.TheVariants as stages
 use Rattle.tetri_report.proofs.PrintedLines.{IsPrintableLine}
+use Rattle.tetri_report.proofs.StageLemmas.{wider}
 use Rattle.tetri_report.proofs.ReadSteps.{ReadsTo, and_then, lines_of_kind, one_line, with_lines}
-
--- what is in an earlier stage is in a later one
-ends_cancels : (s : Stage) → before_ends s ≡ true → before_cancels s ≡ true
-ends_cancels stages.Begun h = h
-ends_cancels stages.Ends h = h
-ends_cancels stages.Cancels h = refl
-ends_cancels stages.Opened h = h
-ends_cancels stages.Fails h = h
-ends_cancels stages.Overs h = h
-ends_cancels stages.Expires h = h
-ends_cancels stages.Planned h = h
-ends_cancels stages.Tree h = h
-ends_cancels stages.Certified h = h
-ends_cancels stages.Closed h = h
-
-cancels_fails : (s : Stage) → before_cancels s ≡ true → before_fails s ≡ true
-cancels_fails stages.Begun h = h
-cancels_fails stages.Ends h = h
-cancels_fails stages.Cancels h = h
-cancels_fails stages.Opened h = h
-cancels_fails stages.Fails h = refl
-cancels_fails stages.Overs h = h
-cancels_fails stages.Expires h = h
-cancels_fails stages.Planned h = h
-cancels_fails stages.Tree h = h
-cancels_fails stages.Certified h = h
-cancels_fails stages.Closed h = h
-
-fails_overs : (s : Stage) → before_fails s ≡ true → before_overs s ≡ true
-fails_overs stages.Begun h = h
-fails_overs stages.Ends h = h
-fails_overs stages.Cancels h = h
-fails_overs stages.Opened h = h
-fails_overs stages.Fails h = h
-fails_overs stages.Overs h = refl
-fails_overs stages.Expires h = h
-fails_overs stages.Planned h = h
-fails_overs stages.Tree h = h
-fails_overs stages.Certified h = h
-fails_overs stages.Closed h = h
-
-overs_plan : (s : Stage) → before_overs s ≡ true → before_plan s ≡ true
-overs_plan stages.Begun h = h
-overs_plan stages.Ends h = h
-overs_plan stages.Cancels h = h
-overs_plan stages.Opened h = h
-overs_plan stages.Fails h = h
-overs_plan stages.Overs h = h
-overs_plan stages.Expires h = refl
-overs_plan stages.Planned h = h
-overs_plan stages.Tree h = h
-overs_plan stages.Certified h = h
-overs_plan stages.Closed h = h
-
-planned_nodes : (s : Stage) → is_planned s ≡ true → before_nodes s ≡ true
-planned_nodes stages.Begun h = h
-planned_nodes stages.Ends h = h
-planned_nodes stages.Cancels h = h
-planned_nodes stages.Opened h = h
-planned_nodes stages.Fails h = h
-planned_nodes stages.Overs h = h
-planned_nodes stages.Expires h = h
-planned_nodes stages.Planned h = refl
-planned_nodes stages.Tree h = refl
-planned_nodes stages.Certified h = h
-planned_nodes stages.Closed h = h
-
--- behind a node of a tree
-abbrev is_tree : Stage → Bool
-is_tree stages.Tree = true
-is_tree _ = false
-
-tree_nodes : (s : Stage) → is_tree s ≡ true → before_nodes s ≡ true
-tree_nodes stages.Begun h = h
-tree_nodes stages.Ends h = h
-tree_nodes stages.Cancels h = h
-tree_nodes stages.Opened h = h
-tree_nodes stages.Fails h = h
-tree_nodes stages.Overs h = h
-tree_nodes stages.Expires h = h
-tree_nodes stages.Planned h = refl
-tree_nodes stages.Tree h = refl
-tree_nodes stages.Certified h = h
-tree_nodes stages.Closed h = h
-
-tree_certified : (s : Stage) → is_tree s ≡ true → is_certified s ≡ true
-tree_certified stages.Begun h = h
-tree_certified stages.Ends h = h
-tree_certified stages.Cancels h = h
-tree_certified stages.Opened h = h
-tree_certified stages.Fails h = h
-tree_certified stages.Overs h = h
-tree_certified stages.Expires h = h
-tree_certified stages.Planned h = h
-tree_certified stages.Tree h = refl
-tree_certified stages.Certified h = refl
-tree_certified stages.Closed h = h
 
 -- what lines of one kind add to a block
 module _ (t : Scenario) where
@@ -217,29 +120,29 @@ module _ (t : Scenario) (sound : IsSound t) (b : Block) (good : IsPrintable t b)
   abbrev certified : Certificate → Block
   certified c = record (before_certificate b) { certificate = c }
 
-  tops_read : (r : Reading) (columns rows : ℕ) → r.fault ≡ None → is_planned r.stage ≡ true → r.block ≡ before_certificate b → IsCertificateInRange (Tops columns rows) →
+  tops_read : (r : Reading) (columns rows : ℕ) → r.fault ≡ None → is_from_to stages.Planned stages.Planned r.stage ≡ true → r.block ≡ before_certificate b → IsCertificateInRange (Tops columns rows) →
       ReadsTo t is_certified r (lines.Tops columns rows ∷ []) (certified (Tops columns rows))
   tops_read r columns rows sane here is small =
       let s = one_line t is_certified sound r (lines.Tops columns rows) sane here refl refl small in
       record { behind = s.behind; sane = s.sane; stage = s.stage; is = s.is ∙ ap (λ (c : Block). record c { certificate = Tops columns rows }) is; same = s.same }
 
   -- the first node begins a tree, and the others are added to it
-  tree_read : (r : Reading) (m : Mark) (ms : List Mark) → r.fault ≡ None → is_planned r.stage ≡ true → r.block ≡ before_certificate b → IsPrintableNode m → All IsPrintableNode ms →
+  tree_read : (r : Reading) (m : Mark) (ms : List Mark) → r.fault ≡ None → is_from_to stages.Planned stages.Planned r.stage ≡ true → r.block ≡ before_certificate b → IsPrintableNode m → All IsPrintableNode ms →
       ReadsTo t is_certified r (lines.Node m ∷ map lines.Node ms) (certified (Tree (m ∷ ms)))
   tree_read r m ms sane here is first others =
-      let one = one_line t is_tree sound r (lines.Node m) sane (planned_nodes r.stage here) refl refl first in
-      let more = lines_of_kind t lines.Node is_tree (λ stage x h. tree_nodes stage h) (λ x. refl) (λ x. refl) sound one.behind ms one.sane one.stage others in
+      let one = one_line t (is_from_to stages.Tree stages.Tree) sound r (lines.Node m) sane (wider stages.Planned stages.Planned stages.Planned stages.Tree r.stage (omega arith) (omega arith) here) refl refl first in
+      let more = lines_of_kind t lines.Node (is_from_to stages.Tree stages.Tree) (λ stage x h. wider stages.Tree stages.Tree stages.Planned stages.Tree stage (omega arith) (omega arith) h) (λ x. refl) (λ x. refl) sound one.behind ms one.sane one.stage others in
       let begun : one.behind.block ≡ certified (Tree (m ∷ [])) = one.is ∙ ap (λ (c : Block). with_line c (lines.Node m)) is in
-      let s = and_then t is_tree is_tree r (lines.Node m ∷ []) (map lines.Node ms) _ _ one more in
+      let s = and_then t (is_from_to stages.Tree stages.Tree) (is_from_to stages.Tree stages.Tree) r (lines.Node m ∷ []) (map lines.Node ms) _ _ one more in
       record {
         behind = s.behind;
         sane = s.sane;
-        stage = tree_certified s.behind.stage s.stage;
+        stage = wider stages.Tree stages.Tree stages.Tree stages.Certified s.behind.stage (omega arith) (omega arith) s.stage;
         is = s.is ∙ ap (λ (c : Block). with_lines t lines.Node c ms) begun ∙ adds_nodes t (before_certificate b) (m ∷ []) ms;
         same = s.same;
       }
 
-  certificate_read : (r : Reading) (c : Certificate) → r.fault ≡ None → is_planned r.stage ≡ true → r.block ≡ before_certificate b → IsPrintableCertificate c → IsCertificateInRange c →
+  certificate_read : (r : Reading) (c : Certificate) → r.fault ≡ None → is_from_to stages.Planned stages.Planned r.stage ≡ true → r.block ≡ before_certificate b → IsPrintableCertificate c → IsCertificateInRange c →
       ReadsTo t is_certified r (certificate_lines c) (certified c)
   certificate_read r (Tops columns rows) sane here is fits small = tops_read r columns rows sane here is small
   certificate_read r (Tree []) sane here is fits small = absurd (omega (arith, fits.0))
@@ -248,7 +151,7 @@ module _ (t : Scenario) (sound : IsSound t) (b : Block) (good : IsPrintable t b)
   abbrev from_certificate : List ReportLine
   from_certificate = certificate_lines b.certificate ++ map lines.Launch b.launched
 
-  rest_from_certificate : (r : Reading) → r.fault ≡ None → is_planned r.stage ≡ true → r.block ≡ before_certificate b → ReadsTo t is_certified r from_certificate b
+  rest_from_certificate : (r : Reading) → r.fault ≡ None → is_from_to stages.Planned stages.Planned r.stage ≡ true → r.block ≡ before_certificate b → ReadsTo t is_certified r from_certificate b
   rest_from_certificate r sane here is =
       let s = certificate_read r b.certificate sane here is good.certificate range.certificate in
       and_then t is_certified is_certified r (certificate_lines b.certificate) (map lines.Launch b.launched) _ b s (launches_read s.behind s.sane s.stage s.is)
@@ -256,60 +159,60 @@ module _ (t : Scenario) (sound : IsSound t) (b : Block) (good : IsPrintable t b)
   abbrev from_grants : List ReportLine
   from_grants = map grant_line (granted b.grants b.starts) ++ from_certificate
 
-  rest_from_grants : (r : Reading) → r.fault ≡ None → is_planned r.stage ≡ true → r.block ≡ before_grants b → ReadsTo t is_certified r from_grants b
+  rest_from_grants : (r : Reading) → r.fault ≡ None → is_from_to stages.Planned stages.Planned r.stage ≡ true → r.block ≡ before_grants b → ReadsTo t is_certified r from_grants b
   rest_from_grants r sane here is =
-      let s = lines_of_kind t grant_line is_planned (λ stage x h. h) (λ x. refl) (λ x. refl) sound r (granted b.grants b.starts) sane here (grants_good t b.grants b.starts good.starts good.grants range.grants range.starts) in
-      and_then t is_planned is_certified r (map grant_line (granted b.grants b.starts)) from_certificate _ b s
+      let s = lines_of_kind t grant_line (is_from_to stages.Planned stages.Planned) (λ stage x h. h) (λ x. refl) (λ x. refl) sound r (granted b.grants b.starts) sane here (grants_good t b.grants b.starts good.starts good.grants range.grants range.starts) in
+      and_then t (is_from_to stages.Planned stages.Planned) is_certified r (map grant_line (granted b.grants b.starts)) from_certificate _ b s
       (rest_from_certificate s.behind s.sane s.stage (s.is ∙ ap (λ (c : Block). with_lines t grant_line c (granted b.grants b.starts)) is ∙ adds_granted t (before_grants b) b.grants b.starts good.starts))
 
   abbrev from_plan : List ReportLine
   from_plan = lines.Plan (plan_of b) ∷ [] ++ from_grants
 
-  rest_from_plan : (r : Reading) → r.fault ≡ None → before_plan r.stage ≡ true → r.block ≡ without_plan b → ReadsTo t is_certified r from_plan b
+  rest_from_plan : (r : Reading) → r.fault ≡ None → is_from_to stages.Begun stages.Expires r.stage ≡ true → r.block ≡ without_plan b → ReadsTo t is_certified r from_plan b
   rest_from_plan r sane here is =
-      let s = one_line t is_planned sound r (lines.Plan (plan_of b)) sane here refl refl (range.value, range.bound, range.nodes) in
-      and_then t is_planned is_certified r (lines.Plan (plan_of b) ∷ []) from_grants _ b s
+      let s = one_line t (is_from_to stages.Planned stages.Planned) sound r (lines.Plan (plan_of b)) sane here refl refl (range.value, range.bound, range.nodes) in
+      and_then t (is_from_to stages.Planned stages.Planned) is_certified r (lines.Plan (plan_of b) ∷ []) from_grants _ b s
       (rest_from_grants s.behind s.sane s.stage (s.is ∙ ap (λ (c : Block). with_line c (lines.Plan (plan_of b))) is))
 
   abbrev from_expired : List ReportLine
   from_expired = map lines.Expire b.expired ++ from_plan
 
-  rest_from_expired : (r : Reading) → r.fault ≡ None → before_plan r.stage ≡ true → r.block ≡ before_expired b → ReadsTo t is_certified r from_expired b
+  rest_from_expired : (r : Reading) → r.fault ≡ None → is_from_to stages.Begun stages.Expires r.stage ≡ true → r.block ≡ before_expired b → ReadsTo t is_certified r from_expired b
   rest_from_expired r sane here is =
-      let s = lines_of_kind t lines.Expire before_plan (λ stage x h. h) (λ x. refl) (λ x. refl) sound r b.expired sane here good.expired in
-      and_then t before_plan is_certified r (map lines.Expire b.expired) from_plan _ b s
+      let s = lines_of_kind t lines.Expire (is_from_to stages.Begun stages.Expires) (λ stage x h. h) (λ x. refl) (λ x. refl) sound r b.expired sane here good.expired in
+      and_then t (is_from_to stages.Begun stages.Expires) is_certified r (map lines.Expire b.expired) from_plan _ b s
       (rest_from_plan s.behind s.sane s.stage (s.is ∙ ap (λ (c : Block). with_lines t lines.Expire c b.expired) is ∙ adds_expired t (before_expired b) b.expired))
 
   abbrev from_over : List ReportLine
   from_over = map lines.Over b.over ++ from_expired
 
-  rest_from_over : (r : Reading) → r.fault ≡ None → before_overs r.stage ≡ true → r.block ≡ before_over b → ReadsTo t is_certified r from_over b
+  rest_from_over : (r : Reading) → r.fault ≡ None → is_from_to stages.Begun stages.Overs r.stage ≡ true → r.block ≡ before_over b → ReadsTo t is_certified r from_over b
   rest_from_over r sane here is =
-      let s = lines_of_kind t lines.Over before_overs (λ stage x h. h) (λ x. refl) (λ x. refl) sound r b.over sane here (λ k d lt. (good.over k d lt, range.over k d lt)) in
-      and_then t before_overs is_certified r (map lines.Over b.over) from_expired _ b s
-      (rest_from_expired s.behind s.sane (overs_plan s.behind.stage s.stage) (s.is ∙ ap (λ (c : Block). with_lines t lines.Over c b.over) is ∙ adds_over t (before_over b) b.over))
+      let s = lines_of_kind t lines.Over (is_from_to stages.Begun stages.Overs) (λ stage x h. h) (λ x. refl) (λ x. refl) sound r b.over sane here (λ k d lt. (good.over k d lt, range.over k d lt)) in
+      and_then t (is_from_to stages.Begun stages.Overs) is_certified r (map lines.Over b.over) from_expired _ b s
+      (rest_from_expired s.behind s.sane (wider stages.Begun stages.Overs stages.Begun stages.Expires s.behind.stage (omega arith) (omega arith) s.stage) (s.is ∙ ap (λ (c : Block). with_lines t lines.Over c b.over) is ∙ adds_over t (before_over b) b.over))
 
   abbrev from_failed : List ReportLine
   from_failed = map lines.Fail b.failed ++ from_over
 
-  rest_from_failed : (r : Reading) → r.fault ≡ None → before_fails r.stage ≡ true → r.block ≡ before_failed b → ReadsTo t is_certified r from_failed b
+  rest_from_failed : (r : Reading) → r.fault ≡ None → is_from_to stages.Begun stages.Fails r.stage ≡ true → r.block ≡ before_failed b → ReadsTo t is_certified r from_failed b
   rest_from_failed r sane here is =
-      let s = lines_of_kind t lines.Fail before_fails (λ stage x h. h) (λ x. refl) (λ x. refl) sound r b.failed sane here good.failed in
-      and_then t before_fails is_certified r (map lines.Fail b.failed) from_over _ b s
-      (rest_from_over s.behind s.sane (fails_overs s.behind.stage s.stage) (s.is ∙ ap (λ (c : Block). with_lines t lines.Fail c b.failed) is ∙ adds_failed t (before_failed b) b.failed))
+      let s = lines_of_kind t lines.Fail (is_from_to stages.Begun stages.Fails) (λ stage x h. h) (λ x. refl) (λ x. refl) sound r b.failed sane here good.failed in
+      and_then t (is_from_to stages.Begun stages.Fails) is_certified r (map lines.Fail b.failed) from_over _ b s
+      (rest_from_over s.behind s.sane (wider stages.Begun stages.Fails stages.Begun stages.Overs s.behind.stage (omega arith) (omega arith) s.stage) (s.is ∙ ap (λ (c : Block). with_lines t lines.Fail c b.failed) is ∙ adds_failed t (before_failed b) b.failed))
 
   abbrev from_cancelled : List ReportLine
   from_cancelled = map lines.Cancel b.cancelled ++ from_failed
 
-  rest_from_cancelled : (r : Reading) → r.fault ≡ None → before_cancels r.stage ≡ true → r.block ≡ before_cancelled b → ReadsTo t is_certified r from_cancelled b
+  rest_from_cancelled : (r : Reading) → r.fault ≡ None → is_from_to stages.Begun stages.Cancels r.stage ≡ true → r.block ≡ before_cancelled b → ReadsTo t is_certified r from_cancelled b
   rest_from_cancelled r sane here is =
-      let s = lines_of_kind t lines.Cancel before_cancels (λ stage x h. h) (λ x. refl) (λ x. refl) sound r b.cancelled sane here good.cancelled in
-      and_then t before_cancels is_certified r (map lines.Cancel b.cancelled) from_failed _ b s
-      (rest_from_failed s.behind s.sane (cancels_fails s.behind.stage s.stage) (s.is ∙ ap (λ (c : Block). with_lines t lines.Cancel c b.cancelled) is ∙ adds_cancelled t (before_cancelled b) b.cancelled))
+      let s = lines_of_kind t lines.Cancel (is_from_to stages.Begun stages.Cancels) (λ stage x h. h) (λ x. refl) (λ x. refl) sound r b.cancelled sane here good.cancelled in
+      and_then t (is_from_to stages.Begun stages.Cancels) is_certified r (map lines.Cancel b.cancelled) from_failed _ b s
+      (rest_from_failed s.behind s.sane (wider stages.Begun stages.Cancels stages.Begun stages.Fails s.behind.stage (omega arith) (omega arith) s.stage) (s.is ∙ ap (λ (c : Block). with_lines t lines.Cancel c b.cancelled) is ∙ adds_cancelled t (before_cancelled b) b.cancelled))
 
   -- all lines of a block behind its first one are read
-  pub reads_block : (r : Reading) → r.fault ≡ None → before_ends r.stage ≡ true → r.block ≡ block_of b.number → ReadsTo t is_certified r (inner_lines b) b
+  pub reads_block : (r : Reading) → r.fault ≡ None → is_from_to stages.Begun stages.Ends r.stage ≡ true → r.block ≡ block_of b.number → ReadsTo t is_certified r (inner_lines b) b
   reads_block r sane here is =
-      let s = lines_of_kind t lines.End before_ends (λ stage x h. h) (λ x. refl) (λ x. refl) sound r b.ended sane here (λ k d lt. (good.ended k d lt, range.ended k d lt)) in
-      and_then t before_ends is_certified r (map lines.End b.ended) from_cancelled _ b s
-      (rest_from_cancelled s.behind s.sane (ends_cancels s.behind.stage s.stage) (s.is ∙ ap (λ (c : Block). with_lines t lines.End c b.ended) is ∙ adds_ended t (block_of b.number) b.ended))
+      let s = lines_of_kind t lines.End (is_from_to stages.Begun stages.Ends) (λ stage x h. h) (λ x. refl) (λ x. refl) sound r b.ended sane here (λ k d lt. (good.ended k d lt, range.ended k d lt)) in
+      and_then t (is_from_to stages.Begun stages.Ends) is_certified r (map lines.End b.ended) from_cancelled _ b s
+      (rest_from_cancelled s.behind s.sane (wider stages.Begun stages.Ends stages.Begun stages.Cancels s.behind.stage (omega arith) (omega arith) s.stage) (s.is ∙ ap (λ (c : Block). with_lines t lines.End c b.ended) is ∙ adds_ended t (block_of b.number) b.ended))

@@ -10,23 +10,24 @@ use Rattle.tetri_cert.specs.Text.{certificate_text}
 use Rattle.tetri_cert.specs.declared.certificate.Certificate.{Certificate}
 use Rattle.tetri_cert.specs.declared.certificate.Certificate.TheVariants.{Tops, Tree}
 use Rattle.tetri_cert.specs.declared.marks.Mark.{Mark}
-use Rattle.tetri_cert.proofs.TextBack.{text_joined}
+use Rattle.tetri_cert.proofs.MarkLaws.{text_joined}
 use Rattle.tetri_cluster.specs.Cluster.{name_at}
 use Rattle.tetri_io.specs.Lines.{lines_from}
-use Rattle.tetri_io.proofs.TextLemmas.{AllAvoid, lines_of_text, text_of}
+use Rattle.tetri_io.proofs.TextLaws.{AllAvoid, lines_of_text, text_of}
 use Rattle.tetri_trace.specs.Scenario.{Scenario}
 use Rattle.tetri_trace.specs.Sound.{IsSound}
 use Rattle.tetri_report.specs.Block.{Block}
 use Rattle.tetri_report.specs.BlockLines.{block_lines, certificate_lines, granted, inner_lines, occurrences_in, plan_of}
 use Rattle.tetri_report.specs.BlockLines as read
 use Rattle.tetri_report.specs.Printable.{IsCertificateInRange, IsInRange, IsPrintable, IsPrintableCertificate, IsSummaryInRange}
-use Rattle.tetri_report.specs.Reading.{Reading, is_between, is_certified, onto_blocks, onto_report, opened, report_from, report_in, with_read}
+use Rattle.tetri_report.specs.Reading.{Reading, is_between, is_certified, onto_report, opened, report_from, report_in, with_read}
+use Rattle.tetri_base.specs.Lists.{with_first}
 use Rattle.tetri_report.specs.Text.{after_comma, cycle_line, cycle_text, entry, events_text, grant_line, grant_lines, granted_line, happened_text, job_line, job_name, joined, launches_text, leaf_line, name_line, piece_line, plan_line, plan_text, summary_text}
 use Rattle.tetri_report.specs.declared.cycle.Summary.{Summary}
 use Rattle.tetri_report.specs.declared.line.ReportLine.{ReportLine}
 use Rattle.tetri_report.specs.declared.line.ReportLine.TheVariants as lines
-use Rattle.tetri_report.specs.declared.line.Stage.{Stage}
 use Rattle.tetri_report.specs.declared.line.Stage.TheVariants as stages
+use Rattle.tetri_report.proofs.StageLemmas.{certified_between}
 use Rattle.tetri_report.proofs.PrintedLines.{IsPrintableLine, line_avoids, line_back, line_of}
 use Rattle.tetri_report.proofs.ReadBlocks.{grants_good, reads_block}
 use Rattle.tetri_report.proofs.ReadSteps.{step}
@@ -205,7 +206,7 @@ module _ (t : Scenario) (sound : IsSound t) where
   before r = if is_certified r.stage then Some r.block else None
 
   lines_read : (bs : List Block) (s : Summary) → All (IsPrintable t) bs → All IsInRange bs → IsSummaryInRange s → (r : Reading) → r.fault ≡ None → is_between r.stage ≡ true →
-      report_from t r (map (line_of t) (report_lines bs s)) ≡ Ok (onto_blocks (before r) bs, s)
+      report_from t r (map (line_of t) (report_lines bs s)) ≡ Ok (with_first (before r) bs, s)
   lines_read [] s good range small r sane here = step t r (line_of t (lines.Summary s)) (lines.Summary s) [] sane (line_back t sound (lines.Summary s) (summary_good s small)) here
   lines_read (b ∷ bs) s good range small r sane here =
       let first = lines.Cycle b.number in
@@ -216,20 +217,7 @@ module _ (t : Scenario) (sound : IsSound t) where
       let ended : before inner.behind ≡ Some b = ap (λ (x : Bool). if x then Some inner.behind.block else None) inner.stage ∙ ap Some inner.is in
       step t r (line_of t first) first (map (line_of t) (inner_lines b ++ report_lines bs s)) sane (line_back t sound first numbered) here
       ∙ ap (λ ls. onto_report (before r) (report_from t (with_read r first) ls)) (map-append (line_of t) (inner_lines b) (report_lines bs s))
-      ∙ ap (onto_report (before r)) (inner.same rest ∙ more ∙ ap (λ (o : Option Block). Ok (onto_blocks o bs, s)) ended)
-    where
-      certified_between : (stage : Stage) → is_certified stage ≡ true → is_between stage ≡ true
-      certified_between stages.Opened h = refl
-      certified_between stages.Begun h = h
-      certified_between stages.Ends h = h
-      certified_between stages.Cancels h = h
-      certified_between stages.Fails h = h
-      certified_between stages.Overs h = h
-      certified_between stages.Expires h = h
-      certified_between stages.Planned h = h
-      certified_between stages.Tree h = h
-      certified_between stages.Certified h = h
-      certified_between stages.Closed h = h
+      ∙ ap (onto_report (before r)) (inner.same rest ∙ more ∙ ap (λ (o : Option Block). Ok (with_first o bs, s)) ended)
 
   -- the lines of a printed report
   pub lines_printed : (bs : List Block) (s : Summary) → All (IsPrintable t) bs → All IsInRange bs → IsSummaryInRange s →

@@ -6,7 +6,8 @@ use Rattle.tetri_trace.specs.Scenario.{Scenario}
 use Rattle.tetri_trace.specs.Sound.{IsSound}
 use Rattle.tetri_report.specs.Block.{Block}
 use Rattle.tetri_report.specs.Line.{line_in}
-use Rattle.tetri_report.specs.Reading.{Reading, answer_to, behind_line, block_before, ends_block, fitting, is_certified, line_answer, may_follow, onto_blocks, onto_report, reading_behind, report_from, stage_behind, unless_refused, with_line, with_read}
+use Rattle.tetri_report.specs.Reading.{Reading, answer_to, behind_line, block_before, ends_block, fitting, is_certified, line_answer, may_follow, onto_report, reading_behind, report_from, stage_behind, unless_refused, with_line, with_read}
+use Rattle.tetri_base.specs.Lists.{with_first}
 use Rattle.tetri_base.specs.ResultSteps.{◌>>=◌}
 use Rattle.tetri_report.specs.declared.cycle.Summary.{Summary}
 use Rattle.tetri_report.specs.declared.line.ReportLine.{ReportLine}
@@ -27,7 +28,7 @@ module _ (t : Scenario) where
       ap (λ (o : Option ℕ). unless_refused o (λ n. Err n) (answer_to r (fitting r.stage (line_in t line)))) sane ∙ ap (answer_to r) fit in
       let behind : behind_line t r line ≡ with_read r l =
       ap (λ (o : Option ℕ). unless_refused o (λ n. r) (reading_behind r (fitting r.stage (line_in t line)))) sane ∙ ap (reading_behind r) fit in
-      ap (λ (a : Result (Option Block) ℕ). a >>= λ o. report_from t (behind_line t r line) rest >>= λ x. Ok (onto_blocks o x.0, x.1)) answer
+      ap (λ (a : Result (Option Block) ℕ). a >>= λ o. report_from t (behind_line t r line) rest >>= λ x. Ok (with_first o x.0, x.1)) answer
       ∙ ap (λ (q : Reading). onto_report (block_before r l) (report_from t q rest)) behind
 
   -- the same of a printed line within a block

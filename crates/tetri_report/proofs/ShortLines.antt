@@ -1,20 +1,16 @@
 -- Each line of a printed report is short.
-use Rattle.std.proofs.Common.{◌≡◌, ℕ, ◌+◌, ◌*◌, ◌<◌, ◌≤◌, ◌^◌, ◌&&◌, Bool, true, false, nat_le, List, [], ◌∷◌, ◌++◌, length, map, All, codes, decimal, arith, lit<, lit≤, length-append, ap, refl, subst, sym}
+use Rattle.std.proofs.Common.{◌≡◌, ℕ, ◌+◌, ◌*◌, ◌<◌, ◌≤◌, ◌^◌, ◌&&◌, Bool, true, false, nat_le, List, [], ◌∷◌, ◌++◌, length, map, All, codes, decimal, arith, lit≤, length-append, ap, refl, subst, sym}
 use Rattle.std.specs.Prelude.{flat_map}
-use Rattle.std.specs.List.{join_with_byte, list_all}
+use Rattle.std.specs.List.{list_all}
 use Rattle.std.proofs.lemmas.Bool.{false≢true}
 use Rattle.std.proofs.lemmas.Bool.Decides.{nat_tests}
-use Rattle.std.proofs.lemmas.Fmt.{length-decimal-le_wide}
 use Rattle.std.proofs.lemmas.List.{get_or-map, length-map}
 use Rattle.std.proofs.lemmas.List.Elements.{All-head, All-map, All-tail, All-weaker}
-use Rattle.tetri_cert.specs.Text.{mark_text}
-use Rattle.tetri_cert.specs.declared.plan_mark.PlanMark.{PlanMark}
-use Rattle.tetri_cert.specs.declared.plan_mark.PlanMark.TheVariants.{Optimal, Spent, Wide}
-use Rattle.tetri_cert.proofs.TextBack.{text_joined}
-use Rattle.tetri_cert.proofs.TextShort.{short}
+use Rattle.tetri_cert.proofs.MarkLaws.{short, text_joined}
 use Rattle.tetri_cluster.specs.Cluster.{name_at}
 use Rattle.tetri_cluster.specs.Names.{is_name, is_name_byte}
 use Rattle.tetri_io.specs.Lines.{lines_from}
+use Rattle.tetri_io.proofs.TextLaws.{decimal_short, joined_within, room}
 use Rattle.tetri_trace.specs.Scenario.{Scenario}
 use Rattle.tetri_trace.specs.Sound.{IsSound}
 use Rattle.tetri_report.specs.Block.{Block}
@@ -23,38 +19,11 @@ use Rattle.tetri_report.specs.Text.{cycle_text, job_name, summary_text}
 use Rattle.tetri_report.specs.declared.cycle.Summary.{Summary}
 use Rattle.tetri_report.specs.declared.line.ReportLine.{ReportLine}
 use Rattle.tetri_report.specs.declared.line.ReportLine.TheVariants as lines
-use Rattle.tetri_report.proofs.PrintedLines.{IsPrintableLine, job_named, line_of, node_named, words}
+use Rattle.tetri_report.proofs.PrintedLines.{IsPrintableLine, job_named, larges, line_of, marked, node_named, smalls, words}
 use Rattle.tetri_report.proofs.ReadReports.{lines_printable, lines_printed, report_lines}
 
--- the bytes of words, and one for each mark behind them
-abbrev room : List (List ℕ) → ℕ
-room [] = 0
-room (w ∷ ws) = length w + 1 + room ws
-
-joined_within : (mark : ℕ) (ws : List (List ℕ)) → length (join_with_byte mark ws) ≤ room ws
-joined_within mark [] = omega arith
-joined_within mark (w ∷ []) = omega arith
-joined_within mark (w ∷ v ∷ ws) = omega (arith, joined_within mark (v ∷ ws), length-append w (mark ∷ join_with_byte mark (v ∷ ws)))
-
-number_short : (n : ℕ) → n < 2 ^ 127 → length (decimal n) ≤ 39
-number_short n h =
-    let digits : 2 ^ 127 ≤ 10 ^ 39 = lit≤ tt in
-    let wide : 2 ^ 127 ≤ 10 ^ 64 = lit≤ tt in
-    length-decimal-le_wide 39 n (lit< tt) (omega arith) (omega arith)
-
-small_short : (n : ℕ) → n < 2 ^ 32 → length (decimal n) ≤ 39
-small_short n h = number_short n (omega arith)
-
-large_short : (n : ℕ) → n < 2 ^ 64 → length (decimal n) ≤ 39
-large_short n h = number_short n (omega arith)
-
 entry_short : (key : List ℕ) (n : ℕ) → length key ≤ 10 → n < 2 ^ 127 → length (key ++ decimal n) ≤ 49
-entry_short key n few h = omega (arith, few, number_short n h, length-append key (decimal n))
-
-mark_short : (m : PlanMark) → length (mark_text m) ≤ 7
-mark_short Optimal = lit≤ tt
-mark_short Spent = lit≤ tt
-mark_short Wide = lit≤ tt
+entry_short key n few h = omega (arith, few, decimal_short n h, length-append key (decimal n))
 
 name_short : (name : List ℕ) → is_name name ≡ true → length name ≤ 64
 name_short name h = let few = second (nat_le 1 (length name)) (nat_le (length name) 64) (list_all is_name_byte name) h in grind (arith, nat_tests)
@@ -76,17 +45,17 @@ module _ (t : Scenario) (sound : IsSound t) where
       omega arith
 
   line_short : (l : ReportLine) → IsPrintableLine t l → length (line_of t l) ≤ 1048576
-  line_short (lines.Cycle number) h = omega (arith, joined_within 32 (words t (lines.Cycle number)), small_short number h)
-  line_short (lines.End piece) h = omega (arith, joined_within 32 (words t (lines.End piece)), job_short piece.job h.0, small_short piece.leaf h.1)
+  line_short (lines.Cycle number) h = omega (arith, joined_within 32 (words t (lines.Cycle number)), smalls.short number h)
+  line_short (lines.End piece) h = omega (arith, joined_within 32 (words t (lines.End piece)), job_short piece.job h.0, smalls.short piece.leaf h.1)
   line_short (lines.Cancel job) h = omega (arith, joined_within 32 (words t (lines.Cancel job)), job_short job h)
   line_short (lines.Fail job) h = omega (arith, joined_within 32 (words t (lines.Fail job)), job_short job h)
-  line_short (lines.Over piece) h = omega (arith, joined_within 32 (words t (lines.Over piece)), job_short piece.job h.0, small_short piece.leaf h.1)
+  line_short (lines.Over piece) h = omega (arith, joined_within 32 (words t (lines.Over piece)), job_short piece.job h.0, smalls.short piece.leaf h.1)
   line_short (lines.Expire job) h = omega (arith, joined_within 32 (words t (lines.Expire job)), job_short job h)
-  line_short (lines.Plan p) h = omega (arith, joined_within 32 (words t (lines.Plan p)), large_short p.value h.0, large_short p.bound h.1, mark_short p.mark, small_short p.nodes h.2)
+  line_short (lines.Plan p) h = omega (arith, joined_within 32 (words t (lines.Plan p)), larges.short p.value h.0, larges.short p.bound h.1, marked.short p.mark tt, smalls.short p.nodes h.2)
   line_short (lines.Grant g start) h =
       let nodes = joined_within 44 (map (name_at t.nodes) g.nodes) in
-      omega (arith, joined_within 32 (words t (lines.Grant g start)), job_short g.job h.0, small_short g.leaf h.1, small_short start h.2, nodes, nodes_room g.nodes h.4, h.5)
-  line_short (lines.Tops columns rows) h = omega (arith, joined_within 32 (words t (lines.Tops columns rows)), large_short columns h.0, large_short rows h.1)
+      omega (arith, joined_within 32 (words t (lines.Grant g start)), job_short g.job h.0, smalls.short g.leaf h.1, smalls.short start h.2, nodes, nodes_room g.nodes h.4, h.5)
+  line_short (lines.Tops columns rows) h = omega (arith, joined_within 32 (words t (lines.Tops columns rows)), larges.short columns h.0, larges.short rows h.1)
   line_short (lines.Node m) h = omega (arith, ap length (text_joined m), short m h.plain h.short)
   line_short (lines.Launch job) h = omega (arith, joined_within 32 (words t (lines.Launch job)), job_short job h)
   line_short (lines.Summary s) h =

@@ -1,20 +1,21 @@
 -- Reading without certificates is reading with them left out.
-use Rattle.std.proofs.Common.{◌≡◌, ℕ, List, [], ◌∷◌, Bool, true, false, cond, refl, sym, ap, ◌∙◌}
+use Rattle.std.proofs.Common.{◌≡◌, ℕ, List, [], ◌∷◌, Bool, true, false, cond, refl, sym, ap, ◌∙◌, arith}
 use Rattle.std.specs.Prelude.{Option, Some, None, Result, Ok, Err}
 use Rattle.tetri_cert.specs.declared.certificate.Certificate.{Certificate}
 use Rattle.tetri_cert.specs.declared.certificate.Certificate.TheVariants.{Tops}
 use Rattle.tetri_trace.specs.Scenario.{Scenario}
-use Rattle.tetri_report.specs.Block.{Block, bare_block, certified}
+use Rattle.tetri_report.specs.Block.{Block, bare_block}
 use Rattle.tetri_report.specs.Line.{line_in}
-use Rattle.tetri_report.specs.Reading.{Reading, answer_to, before_cancels, before_ends, before_fails, before_overs, before_plan, behind_line, block_before, end_answer, fitting, is_certified, is_planned, line_answer, may_follow, onto_blocks, onto_report, opened, reading_behind, report_from, unless_refused, with_line, with_read}
-use Rattle.tetri_report.specs.Strips.{BeginsBare, Telling, answer_told, bare, block_told, blocks_told, certificate_with, certified_reading, ended_or_more, strip_behind, told_answer, told_by, told_from, telling_of, report_told}
+use Rattle.tetri_report.specs.Reading.{Reading, answer_to, behind_line, block_before, end_answer, fitting, is_certified, line_answer, may_follow, onto_report, opened, reading_behind, report_from, unless_refused, with_line, with_read}
+use Rattle.tetri_base.specs.Lists.{with_first}
+use Rattle.tetri_report.specs.Strips.{BeginsBare, Telling, answer_told, bare, block_told, blocks_told, certificate_with, ended_or_more, strip_behind, told_answer, told_by, told_from, telling_of, report_told}
 use Rattle.tetri_report.specs.Strips as strips
 use Rattle.tetri_report.specs.declared.cycle.Summary.{Summary}
 use Rattle.tetri_report.specs.declared.line.ReportLine.{ReportLine}
 use Rattle.tetri_report.specs.declared.line.ReportLine.TheVariants as lines
-use Rattle.tetri_report.specs.declared.line.Stage.{Stage}
 use Rattle.tetri_report.specs.declared.line.Stage.TheVariants as stages
 use Rattle.tetri_base.specs.ResultSteps.{◌>>=◌}
+use Rattle.tetri_report.proofs.StageLemmas.{before_certificate}
 
 -- a block that is ended tells the same without its certificate
 ended_bare : (b : Bool) (c : Block) → ended_or_more (cond b (Some (bare_block c)) None) ≡ ended_or_more (cond b (Some c) None)
@@ -131,30 +132,16 @@ certificate_behind t r line told begins answer = by_fault r.fault (fitting r.sta
     by_fault None None e = absurd cc
     by_fault None (Some l) e = with_line_told r l begins ∙ ap (certificate_with r.block.certificate) (same e)
 
--- a stage that passes a test which those behind a certificate fail
-not_certified : (passes : Stage → Bool) → passes stages.Tree ≡ false → passes stages.Certified ≡ false → (s : Stage) → passes s ≡ true → is_certified s ≡ false
-not_certified passes tree certified stages.Opened h = refl
-not_certified passes tree certified stages.Begun h = refl
-not_certified passes tree certified stages.Ends h = refl
-not_certified passes tree certified stages.Cancels h = refl
-not_certified passes tree certified stages.Fails h = refl
-not_certified passes tree certified stages.Overs h = refl
-not_certified passes tree certified stages.Expires h = refl
-not_certified passes tree certified stages.Planned h = refl
-not_certified passes tree certified stages.Tree h = sym h ∙ tree
-not_certified passes tree certified stages.Certified h = sym h ∙ certified
-not_certified passes tree certified stages.Closed h = refl
-
 with_read_begins : (r : Reading) (l : ReportLine) → BeginsBare r → may_follow r.stage l ≡ true → BeginsBare (with_read r l)
 with_read_begins r (lines.Cycle number) begins fits = λ e. refl
 with_read_begins r (lines.Summary s) begins fits = λ e. refl
-with_read_begins r (lines.End piece) begins fits = λ e. begins (not_certified before_ends refl refl r.stage fits)
-with_read_begins r (lines.Cancel job) begins fits = λ e. begins (not_certified before_cancels refl refl r.stage fits)
-with_read_begins r (lines.Fail job) begins fits = λ e. begins (not_certified before_fails refl refl r.stage fits)
-with_read_begins r (lines.Over piece) begins fits = λ e. begins (not_certified before_overs refl refl r.stage fits)
-with_read_begins r (lines.Expire job) begins fits = λ e. begins (not_certified before_plan refl refl r.stage fits)
-with_read_begins r (lines.Plan p) begins fits = λ e. begins (not_certified before_plan refl refl r.stage fits)
-with_read_begins r (lines.Grant grant start) begins fits = λ e. begins (not_certified is_planned refl refl r.stage fits)
+with_read_begins r (lines.End piece) begins fits = λ e. begins (before_certificate stages.Begun stages.Ends r.stage (omega arith) fits)
+with_read_begins r (lines.Cancel job) begins fits = λ e. begins (before_certificate stages.Begun stages.Cancels r.stage (omega arith) fits)
+with_read_begins r (lines.Fail job) begins fits = λ e. begins (before_certificate stages.Begun stages.Fails r.stage (omega arith) fits)
+with_read_begins r (lines.Over piece) begins fits = λ e. begins (before_certificate stages.Begun stages.Overs r.stage (omega arith) fits)
+with_read_begins r (lines.Expire job) begins fits = λ e. begins (before_certificate stages.Begun stages.Expires r.stage (omega arith) fits)
+with_read_begins r (lines.Plan p) begins fits = λ e. begins (before_certificate stages.Begun stages.Expires r.stage (omega arith) fits)
+with_read_begins r (lines.Grant grant start) begins fits = λ e. begins (before_certificate stages.Planned stages.Planned r.stage (omega arith) fits)
 with_read_begins r (lines.Tops columns rows) begins fits = λ e. absurd cc
 with_read_begins r (lines.Node mark) begins fits = λ e. absurd cc
 with_read_begins r (lines.Launch job) begins fits = λ e. absurd cc
@@ -183,7 +170,7 @@ end_told c (Err n) = refl
 
 -- what is told is the block that was ended and those behind it
 onto_told : (c : Certificate) (told : Telling) (rest : List Telling) →
-    onto_blocks (block_told c told) (blocks_told (certificate_with c told) rest) ≡ blocks_told c (told ∷ rest)
+    with_first (block_told c told) (blocks_told (certificate_with c told) rest) ≡ blocks_told c (told ∷ rest)
 onto_told c strips.more rest = refl
 onto_told c (strips.tops columns rows) rest = refl
 onto_told c (strips.node mark) rest = refl

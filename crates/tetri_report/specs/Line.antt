@@ -1,11 +1,13 @@
 -- What one line of a report says.
-use Rattle.std.specs.Prelude.{ℕ, ◌++◌, ◌^◌, List, [], ◌∷◌, length, drop, take, Option, Some, None, if◌then◌else◌, bytes_eq, codes, option_and_then, option_map}
+use Rattle.std.specs.Prelude.{ℕ, ◌++◌, ◌^◌, List, [], ◌∷◌, length, drop, take, Option, Some, None, if◌then◌else◌, bytes_eq, codes, option_map}
 use Rattle.tetri_cert.specs.NodeText.{node_by_tag}
-use Rattle.tetri_cert.specs.Numbers.{small_number}
+use Rattle.tetri_cert.specs.Numbers.{small_number, small_numbers}
+use Rattle.tetri_cert.specs.Text.{mark_text}
 use Rattle.tetri_cert.specs.declared.plan_mark.PlanMark.{PlanMark}
 use Rattle.tetri_cert.specs.declared.plan_mark.PlanMark.TheVariants.{Optimal, Spent, Wide}
 use Rattle.tetri_cluster.specs.Cluster.{names_of}
 use Rattle.tetri_cluster.specs.Names.{number_of}
+use Rattle.tetri_io.specs.Codec.{Codec, among, four_in, numbers, one_in, two_in}
 use Rattle.tetri_io.specs.Numbers.{number_below}
 use Rattle.tetri_io.specs.Words.{parts_at, words_of}
 use Rattle.tetri_state.specs.declared.happened.PieceId.{PieceId}
@@ -23,27 +25,26 @@ large_number word = number_below (2 ^ 64) word
 abbrev pub huge_number : List ℕ → Option ℕ
 huge_number word = number_below (2 ^ 127) word
 
+abbrev pub large_numbers : Codec ℕ
+large_numbers = numbers (2 ^ 64)
+
+abbrev pub plan_marks : Codec PlanMark
+plan_marks = among mark_text (Optimal ∷ Spent ∷ Wide ∷ [])
+
 abbrev pub cycle_in : List (List ℕ) → Option ReportLine
-cycle_in (number ∷ []) = small_number number >>= λ n. Some (lines.Cycle n)
-cycle_in words = None
+cycle_in words = one_in lines.Cycle small_numbers words
 
 abbrev pub mark_in : List ℕ → Option PlanMark
-mark_in word =
-    if bytes_eq word (codes "optimal") then Some Optimal
-    else (if bytes_eq word (codes "spent") then Some Spent else (if bytes_eq word (codes "wide") then Some Wide else None))
+mark_in word = plan_marks.read word
+
+abbrev pub plan_with : ℕ → ℕ → PlanMark → ℕ → ReportLine
+plan_with value bound mark nodes = lines.Plan (record { value = value; bound = bound; mark = mark; nodes = nodes })
 
 unfoldable pub plan_in : List (List ℕ) → Option ReportLine
-plan_in (value ∷ bound ∷ mark ∷ nodes ∷ []) = do
-  value ← large_number value
-  bound ← large_number bound
-  mark ← mark_in mark
-  nodes ← small_number nodes
-  Some (lines.Plan (record { value = value; bound = bound; mark = mark; nodes = nodes }))
-plan_in words = None
+plan_in words = four_in plan_with large_numbers large_numbers plan_marks small_numbers words
 
 abbrev pub tops_in : List (List ℕ) → Option ReportLine
-tops_in (columns ∷ rows ∷ []) = large_number columns >>= λ columns. large_number rows >>= λ rows. Some (lines.Tops columns rows)
-tops_in words = None
+tops_in words = two_in lines.Tops large_numbers large_numbers words
 
 -- the number behind a key and its equals sign
 unfoldable pub entry_in : List ℕ → ℕ → List ℕ → Option ℕ

@@ -1,5 +1,5 @@
 -- What the lines of a report read as.
-use Rattle.std.specs.Prelude.{ℕ, ◌+◌, ◌&&◌, List, [], ◌∷◌, ◌++◌, map, Bool, true, false, if◌then◌else◌, Option, Some, None, ok_or, Result, Ok, Err}
+use Rattle.std.specs.Prelude.{ℕ, ◌+◌, ◌&&◌, ◌||◌, nat_le, List, [], ◌∷◌, ◌++◌, map, Bool, true, false, if◌then◌else◌, Option, Some, None, ok_or, Result, Ok, Err}
 use Rattle.tetri_cert.specs.declared.plan_mark.PlanMark.TheVariants.{Wide}
 use Rattle.tetri_cert.specs.declared.certificate.Certificate.{Certificate}
 use Rattle.tetri_cert.specs.declared.certificate.Certificate.TheVariants.{Tops, Tree}
@@ -14,6 +14,7 @@ use Rattle.tetri_report.specs.declared.line.ReportLine.{ReportLine}
 use Rattle.tetri_report.specs.declared.line.ReportLine.TheVariants as lines
 use Rattle.tetri_report.specs.declared.line.Stage.{Stage}
 use Rattle.tetri_report.specs.declared.line.Stage.TheVariants as stages
+use Rattle.tetri_base.specs.Lists.{with_first}
 use Rattle.tetri_base.specs.ResultSteps.{◌>>=◌}
 
 -- the block that has no lines but its first one
@@ -58,58 +59,45 @@ with_line b (lines.Node mark) = record b { certificate = with_node b.certificate
 with_line b (lines.Launch job) = record b { launched = b.launched ++ job ∷ [] }
 with_line b (lines.Summary s) = block_of 0
 
--- Where a line may stand: events of one kind behind those of earlier kinds, then the plan with its grants, the certificate,
--- which is one `tops` line or the nodes of a tree, and the launches. A cycle or the summary may stand first or behind a block.
-abbrev pub before_ends : Stage → Bool
-before_ends stages.Begun = true
-before_ends stages.Ends = true
-before_ends _ = false
+-- the stages of a report, numbered in their order
+abbrev pub rank : Stage → ℕ
+rank stages.Opened = 0
+rank stages.Begun = 1
+rank stages.Ends = 2
+rank stages.Cancels = 3
+rank stages.Fails = 4
+rank stages.Overs = 5
+rank stages.Expires = 6
+rank stages.Planned = 7
+rank stages.Tree = 8
+rank stages.Certified = 9
+rank stages.Closed = 10
 
-abbrev pub before_cancels : Stage → Bool
-before_cancels stages.Cancels = true
-before_cancels stage = before_ends stage
+-- the stage is one of those from the first to the last
+abbrev pub is_from_to : Stage → Stage → Stage → Bool
+is_from_to first last stage = nat_le (rank first) (rank stage) && nat_le (rank stage) (rank last)
 
-abbrev pub before_fails : Stage → Bool
-before_fails stages.Fails = true
-before_fails stage = before_cancels stage
-
-abbrev pub before_overs : Stage → Bool
-before_overs stages.Overs = true
-before_overs stage = before_fails stage
-
-abbrev pub before_plan : Stage → Bool
-before_plan stages.Expires = true
-before_plan stage = before_overs stage
-
-abbrev pub is_planned : Stage → Bool
-is_planned stages.Planned = true
-is_planned _ = false
-
-abbrev pub before_nodes : Stage → Bool
-before_nodes stages.Tree = true
-before_nodes stage = is_planned stage
-
+-- the certificate has begun, and a block may end here
 abbrev pub is_certified : Stage → Bool
-is_certified stages.Certified = true
-is_certified stages.Tree = true
-is_certified _ = false
+is_certified = is_from_to stages.Tree stages.Certified
 
+-- no block has begun, or it may end here
 abbrev pub is_between : Stage → Bool
-is_between stages.Opened = true
-is_between stage = is_certified stage
+is_between stage = is_from_to stages.Opened stages.Opened stage || is_certified stage
 
--- whether a line may follow at this stage
+-- The stages at which a line may follow. Events of one kind stand behind those of earlier kinds, then the plan with its grants, the
+-- certificate, which is one `tops` line or the nodes of a tree, and the launches.
 abbrev pub may_follow : Stage → ReportLine → Bool
 may_follow stage (lines.Cycle number) = is_between stage
-may_follow stage (lines.End piece) = before_ends stage
-may_follow stage (lines.Cancel job) = before_cancels stage
-may_follow stage (lines.Fail job) = before_fails stage
-may_follow stage (lines.Over piece) = before_overs stage
-may_follow stage (lines.Expire job) = before_plan stage
-may_follow stage (lines.Plan p) = before_plan stage
-may_follow stage (lines.Grant grant start) = is_planned stage
-may_follow stage (lines.Tops columns rows) = is_planned stage
-may_follow stage (lines.Node mark) = before_nodes stage
+may_follow stage (lines.End piece) = is_from_to stages.Begun stages.Ends stage
+may_follow stage (lines.Cancel job) = is_from_to stages.Begun stages.Cancels stage
+may_follow stage (lines.Fail job) = is_from_to stages.Begun stages.Fails stage
+may_follow stage (lines.Over piece) = is_from_to stages.Begun stages.Overs stage
+may_follow stage (lines.Expire job) = is_from_to stages.Begun stages.Expires stage
+may_follow stage (lines.Plan p) = is_from_to stages.Begun stages.Expires stage
+may_follow stage (lines.Grant grant start) = is_from_to stages.Planned stages.Planned stage
+may_follow stage (lines.Tops columns rows) = is_from_to stages.Planned stages.Planned stage
+may_follow stage (lines.Node mark) = is_from_to stages.Planned stages.Tree stage
 may_follow stage (lines.Launch job) = is_certified stage
 may_follow stage (lines.Summary s) = is_between stage
 
@@ -191,13 +179,9 @@ behind_line t r line = unless_refused r.fault (λ n. r) (reading_behind r (fitti
 abbrev pub end_answer : Reading → Result Summary ℕ
 end_answer r = unless_refused r.fault (λ n. Err n) (ok_or r.summary (r.lines + 1))
 
-abbrev pub onto_blocks : Option Block → List Block → List Block
-onto_blocks None bs = bs
-onto_blocks (Some b) bs = b ∷ bs
-
 -- what further lines give, with a block in front where one was ended
 abbrev pub onto_report : Option Block → Result (List Block × Summary) ℕ → Result (List Block × Summary) ℕ
-onto_report o rest = rest >>= λ x. Ok (onto_blocks o x.0, x.1)
+onto_report o rest = rest >>= λ x. Ok (with_first o x.0, x.1)
 
 -- the blocks and the summary that further lines make
 abbrev pub report_from : Scenario → Reading → List (List ℕ) → Result (List Block × Summary) ℕ

@@ -11,9 +11,11 @@ mod lines;
 mod print;
 mod ranges;
 mod read;
+mod send_fault;
 mod stages;
 mod strips;
 mod summary;
+mod tally;
 
 pub use blocks::Blocks;
 pub use cycle::{Cycle, Head, Summary};
@@ -26,5 +28,7 @@ pub use laws::{
 pub use line::PlanLine;
 pub use lines::name_of;
 pub use print::{print_cycle, print_events, print_launches, print_plan};
+pub use send_fault::SendFault;
 pub use strips::{Strips, Told};
 pub use summary::print_summary;
+pub use tally::{RunTally, summary_at};

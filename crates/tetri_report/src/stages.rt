@@ -1,88 +1,33 @@
 // Where a line of a report may stand.
 ghost use Rattle.std.specs.Prelude.{◌≡◌};
-ghost use Rattle.tetri_report.specs.Reading.{before_cancels, before_ends, before_fails, before_nodes, before_overs, before_plan, ends_block, fitting, is_between, is_certified, is_planned, may_follow, stage_behind};
+ghost use Rattle.tetri_report.specs.Reading.{ends_block, fitting, is_between, is_certified, is_from_to, may_follow, rank, stage_behind};
 
 use crate::line::{ReportLine, Stage};
 
-fn before_ends(stage: Stage) -> bool
-    ensures { result ≡ before_ends stage }
+// The stages of a report, numbered in their order.
+fn rank(stage: Stage) -> u8
+    ensures { result ≡ rank stage }
 {
-    match stage {
-        Stage::Begun | Stage::Ends => true,
-        _ => false,
-    }
+    stage as u8
 }
 
-fn before_cancels(stage: Stage) -> bool
-    ensures { result ≡ before_cancels stage }
+// Whether a stage is one of those from the first to the last.
+fn is_from_to(first: Stage, last: Stage, stage: Stage) -> bool
+    ensures { result ≡ is_from_to first last stage }
 {
-    match stage {
-        Stage::Cancels => true,
-        _ => before_ends(stage),
-    }
-}
-
-fn before_fails(stage: Stage) -> bool
-    ensures { result ≡ before_fails stage }
-{
-    match stage {
-        Stage::Fails => true,
-        _ => before_cancels(stage),
-    }
-}
-
-fn before_overs(stage: Stage) -> bool
-    ensures { result ≡ before_overs stage }
-{
-    match stage {
-        Stage::Overs => true,
-        _ => before_fails(stage),
-    }
-}
-
-fn before_plan(stage: Stage) -> bool
-    ensures { result ≡ before_plan stage }
-{
-    match stage {
-        Stage::Expires => true,
-        _ => before_overs(stage),
-    }
-}
-
-fn is_planned(stage: Stage) -> bool
-    ensures { result ≡ is_planned stage }
-{
-    match stage {
-        Stage::Planned => true,
-        _ => false,
-    }
-}
-
-fn before_nodes(stage: Stage) -> bool
-    ensures { result ≡ before_nodes stage }
-{
-    match stage {
-        Stage::Tree => true,
-        _ => is_planned(stage),
-    }
+    rank(first) <= rank(stage) && rank(stage) <= rank(last)
 }
 
 pub(crate) fn is_certified(stage: Stage) -> bool
     ensures { result ≡ is_certified stage }
 {
-    match stage {
-        Stage::Certified | Stage::Tree => true,
-        _ => false,
-    }
+    is_from_to(Stage::Tree, Stage::Certified, stage)
 }
 
 fn is_between(stage: Stage) -> bool
     ensures { result ≡ is_between stage }
 {
-    match stage {
-        Stage::Opened => true,
-        _ => is_certified(stage),
-    }
+    is_from_to(Stage::Opened, Stage::Opened, stage) || is_certified(stage)
 }
 
 fn may_follow(stage: Stage, line: &ReportLine) -> bool
@@ -90,15 +35,15 @@ fn may_follow(stage: Stage, line: &ReportLine) -> bool
 {
     match line {
         ReportLine::Cycle(_) => is_between(stage),
-        ReportLine::End(_) => before_ends(stage),
-        ReportLine::Cancel(_) => before_cancels(stage),
-        ReportLine::Fail(_) => before_fails(stage),
-        ReportLine::Over(_) => before_overs(stage),
-        ReportLine::Expire(_) => before_plan(stage),
-        ReportLine::Plan(_) => before_plan(stage),
-        ReportLine::Grant { .. } => is_planned(stage),
-        ReportLine::Tops { .. } => is_planned(stage),
-        ReportLine::Node(_) => before_nodes(stage),
+        ReportLine::End(_) => is_from_to(Stage::Begun, Stage::Ends, stage),
+        ReportLine::Cancel(_) => is_from_to(Stage::Begun, Stage::Cancels, stage),
+        ReportLine::Fail(_) => is_from_to(Stage::Begun, Stage::Fails, stage),
+        ReportLine::Over(_) => is_from_to(Stage::Begun, Stage::Overs, stage),
+        ReportLine::Expire(_) => is_from_to(Stage::Begun, Stage::Expires, stage),
+        ReportLine::Plan(_) => is_from_to(Stage::Begun, Stage::Expires, stage),
+        ReportLine::Grant { .. } => is_from_to(Stage::Planned, Stage::Planned, stage),
+        ReportLine::Tops { .. } => is_from_to(Stage::Planned, Stage::Planned, stage),
+        ReportLine::Node(_) => is_from_to(Stage::Planned, Stage::Tree, stage),
         ReportLine::Launch(_) => is_certified(stage),
         ReportLine::Summary(_) => is_between(stage),
     }

@@ -14,8 +14,7 @@ use Rattle.tetri_space.specs.Sound.{IsSound}
 use Rattle.tetri_space.specs.Space.{Bid, Space, bid}
 use Rattle.tetri_space.specs.Total.{total_in}
 use Rattle.tetri_space.specs.Trimmed.{IsThriftyForAll}
-use Rattle.tetri_space.proofs.InstanceLaws.{later_jobs, next_bid}
-use Rattle.tetri_space.proofs.SpanLemmas.{each_of}
+use Rattle.tetri_space.proofs.InstanceLaws.{each_of, later_jobs, next_bid}
 use Rattle.tetri_split.specs.Restricted.{restricted}
 use Rattle.tetri_plan.specs.declared.planning.Plan.{Plan}
 use Rattle.tetri_reserve.specs.Answers.{EachAnswer, IsAnswer, IsAnswered, booked, carried, carried_on, grants_of, is_booked}

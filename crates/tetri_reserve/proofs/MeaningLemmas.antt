@@ -8,9 +8,9 @@ use Rattle.tetri_strl.specs.declared.grants.Grant.{Grant}
 use Rattle.tetri_space.specs.Lawful.{IsLawful, IsLawfulGrant}
 use Rattle.tetri_space.specs.Space.{Bid, Space}
 use Rattle.tetri_space.specs.Total.{bid_worth}
-use Rattle.tetri_space.proofs.SpanLemmas.{all_of, each_of}
+use Rattle.tetri_space.proofs.InstanceLaws.{all_of, each_of}
 use Rattle.tetri_split.specs.Restricted.{grants_to, restricted}
-use Rattle.tetri_split.proofs.RestrictedLaws.{bid_worth-kept, lawful-kept}
+use Rattle.tetri_split.proofs.SplitLaws.{bid_worth-kept, lawful-kept}
 use Rattle.tetri_plan.specs.declared.planning.Plan.{Plan}
 use Rattle.tetri_reserve.specs.Answers.{EachAnswer, IsAnswer, IsAnswered, IsShort, Says, grants_of}
 use Rattle.tetri_reserve.specs.Laws.{AnswersAreTrue}

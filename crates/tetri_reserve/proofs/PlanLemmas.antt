@@ -16,7 +16,7 @@ use Rattle.tetri_compile.specs.Flat.{column_count, row_count}
 use Rattle.tetri_plan.specs.Chosen.{IsChosen, IsEarnedFor, kept}
 use Rattle.tetri_plan.specs.Plans.{leaves_open, planned_of}
 use Rattle.tetri_plan.specs.declared.planning.Plan.{Plan}
-use Rattle.tetri_plan.proofs.KeptLemmas.{carried_worth}
+use Rattle.tetri_plan.proofs.PlanLaws.{carried_worth}
 use Rattle.tetri_reserve.specs.Answers.{IsPlanOf, IsShort}
 use Rattle.tetri_reserve.specs.Wanted.{wanted_bid, with_bid}
 

@@ -21,11 +21,9 @@ use Rattle.tetri_space.specs.Sound.{HasKnownSet, IsSound, IsSoundBid}
 use Rattle.tetri_space.specs.Space.{Bid, IsLive, Space, leaf_in}
 use Rattle.tetri_space.specs.Total.{bid_worth, total_in}
 use Rattle.tetri_space.specs.Trimmed.{IsThriftyForAll}
-use Rattle.tetri_space.proofs.InstanceLaws.{find-by_key}
-use Rattle.tetri_space.proofs.SpanLemmas.{all_of, each_of}
+use Rattle.tetri_space.proofs.InstanceLaws.{all_of, each_of, find-by_key}
 use Rattle.tetri_split.specs.Restricted.{grants_to, restricted}
-use Rattle.tetri_split.proofs.RestrictedLaws.{grants_name_kept, lawful-kept, lawful-whole, sound-kept}
-use Rattle.tetri_split.proofs.RestrictingLemmas.{found_list, job_more}
+use Rattle.tetri_split.proofs.SplitLaws.{found_list, grants_name_kept, job_more, lawful-kept, lawful-whole, sound-kept}
 use Rattle.tetri_reserve.specs.Book.{IsShallow}
 use Rattle.tetri_reserve.specs.Wanted.{each_wanted, wanted, wanted_bid, with_bid}
 

@@ -7,7 +7,7 @@ use Rattle.tetri_advice.specs.Creeds.{greedy_list}
 use Rattle.tetri_advice.specs.Heard.{Heard, IsGiven, StillSit}
 use Rattle.tetri_advice.specs.Seat.{Seat, creeds_of}
 use Rattle.tetri_advice.specs.declared.creed.Creed.{Creed}
-use Rattle.tetri_advice.proofs.SeatLaws.{heard_cycle, rose_on, still_sit}
+use Rattle.tetri_advice.proofs.AdviceLaws.{heard_cycle, rose_on, still_sit}
 use Rattle.tetri_plan.specs.Advised.{IsWorthAtMost}
 use Rattle.tetri_plan.specs.Chosen.{kept}
 use Rattle.tetri_judge.specs.PlanOf.{planned}
@@ -18,19 +18,18 @@ use Rattle.tetri_space.specs.Total.{total_in}
 use Rattle.tetri_state.specs.Begin.{begin}
 use Rattle.tetri_state.specs.Reached.{IsReached, between}
 use Rattle.tetri_state.specs.Snapshot.{Snapshot}
-use Rattle.tetri_state.proofs.InstanceLemmas.{instance_sound}
-use Rattle.tetri_state.proofs.ReachedLemmas.{begin_reached, early_begun, stands_begun}
+use Rattle.tetri_state.proofs.StateLaws.{begin_reached, early_begun, instance_sound, stands_begun}
 use Rattle.tetri_strl.specs.declared.grants.Grant.{Grant}
 use Rattle.tetri_trace.specs.Scenario.{Scenario}
 use Rattle.tetri_trace.specs.Sound.{IsSound}
-use Rattle.tetri_plan.proofs.KeptLemmas.{carried_worth, chosen_bounds, given_bounds, kept_bounds}
+use Rattle.tetri_plan.proofs.PlanLaws.{carried_worth, chosen_bounds, given_bounds, kept_bounds}
 use Rattle.tetri_run.specs.Advised.{AreListsOf, BeginsWithin, IsAdvice, IsAdvisedRun, IsOnlyRun, IsWorthCreeds, IsWorthFirst}
 use Rattle.tetri_run.specs.Cycle.{IsPlannedCycle}
 use Rattle.tetri_run.specs.Run.{AnyLists, IsPlannedRun, IsRunOf, state_behind}
 use Rattle.tetri_run.proofs.OneRun.{one_run}
 use Rattle.tetri_run.proofs.RunLemmas.{append_known-nil, run_of, run_reaches}
 use Rattle.tetri_run.specs.Progress.{RanSlot, RanSlots, StoppedBetween, StoppedInSlot}
-use Rattle.tetri_run.specs.declared.cycles.RunTally.{RunTally}
+use Rattle.tetri_report.specs.declared.tally.RunTally.{RunTally}
 use Rattle.tetri_run.specs.declared.slot.SlotTally.{SlotTally}
 use Rattle.tetri_run.specs.declared.telling.Telling.{Telling}
 use Rattle.tetri_state.specs.Planning.{instance_at}

@@ -5,13 +5,14 @@ use Rattle.std.proofs.lemmas.List.{append-nil, append_assoc, length-append}
 use Rattle.std.proofs.lemmas.List.Elements.{All-cons, All-head, All-nil, All-tail}
 use Rattle.tetri_strl.specs.declared.grants.Grant.{Grant}
 use Rattle.tetri_claims.specs.Good.{IsHonest}
-use Rattle.tetri_claims.proofs.CertifiedLemmas.{certificates_bound}
+use Rattle.tetri_claims.proofs.ClaimLaws.{certificates_bound}
 use Rattle.tetri_judge.proofs.VerdictLaws.{certified_passes, passing_is_not_refused}
 use Rattle.tetri_report.specs.Block.{Block}
 use Rattle.tetri_report.specs.BlockLines.{block_lines}
 use Rattle.tetri_judge.specs.PlanOf.{planned}
 use Rattle.tetri_report.specs.Line.{line_in}
-use Rattle.tetri_report.specs.Reading.{Reading, answer_to, behind_line, block_before, end_answer, ends_block, fitting, is_between, is_certified, line_answer, may_follow, onto_blocks, onto_report, opened, reading_behind, report_from, stage_behind, unless_refused, with_read}
+use Rattle.tetri_report.specs.Reading.{Reading, answer_to, behind_line, block_before, end_answer, fitting, is_between, is_certified, line_answer, may_follow, onto_report, reading_behind, report_from, stage_behind, unless_refused, with_read}
+use Rattle.tetri_base.specs.Lists.{with_first}
 use Rattle.tetri_base.specs.ResultSteps.{◌>>=◌}
 use Rattle.tetri_report.specs.Reading as reading
 use Rattle.tetri_report.specs.declared.cycle.Summary.{Summary}
@@ -26,8 +27,7 @@ use Rattle.tetri_state.specs.Begin.{begin}
 use Rattle.tetri_state.specs.Planning.{IsCarry, instance_at}
 use Rattle.tetri_state.specs.Reached.{IsReached, between}
 use Rattle.tetri_state.specs.Snapshot.{Snapshot}
-use Rattle.tetri_state.proofs.InstanceLemmas.{instance_sound}
-use Rattle.tetri_state.proofs.ReachedLemmas.{begin_reached, stands_begun, early_begun}
+use Rattle.tetri_state.proofs.StateLaws.{begin_reached, early_begun, instance_sound, stands_begun}
 use Rattle.tetri_trace.specs.Scenario.{Scenario}
 use Rattle.tetri_trace.specs.Sound.{IsSound}
 use Rattle.tetri_report.proofs.ReportLaws.{corrected_itself}
@@ -119,13 +119,13 @@ read_line t r line ended answer = by_fault r.fault refl
 
 -- what further lines give, once one was read
 reads_on : (t : Scenario) (r : Reading) (line : List ℕ) (rest : List (List ℕ)) (ended : Option Block) → line_answer t r line ≡ Ok ended → (bs : List Block) (s : Summary) →
-    report_from t r (line ∷ rest) ≡ Ok (bs, s) → (more : List Block) × (bs ≡ onto_blocks ended more) × (report_from t (behind_line t r line) rest ≡ Ok (more, s))
+    report_from t r (line ∷ rest) ≡ Ok (bs, s) → (more : List Block) × (bs ≡ with_first ended more) × (report_from t (behind_line t r line) rest ≡ Ok (more, s))
 reads_on t r line rest ended answer bs s reads =
     by_rest (report_from t (behind_line t r line) rest) refl
-    (sym (ap (λ (a : Result (Option Block) ℕ). a >>= λ o. report_from t (behind_line t r line) rest >>= λ x. Ok (onto_blocks o x.0, x.1)) answer) ∙ reads)
+    (sym (ap (λ (a : Result (Option Block) ℕ). a >>= λ o. report_from t (behind_line t r line) rest >>= λ x. Ok (with_first o x.0, x.1)) answer) ∙ reads)
   where
     by_rest : (q : Result (List Block × Summary) ℕ) → report_from t (behind_line t r line) rest ≡ q → onto_report ended q ≡ Ok (bs, s) →
-        (more : List Block) × (bs ≡ onto_blocks ended more) × (report_from t (behind_line t r line) rest ≡ Ok (more, s))
+        (more : List Block) × (bs ≡ with_first ended more) × (report_from t (behind_line t r line) rest ≡ Ok (more, s))
     by_rest (Err n) is e = absurd (ok_not_err (sym e))
     by_rest (Ok x) is e =
         let same = ok_same e in
@@ -170,7 +170,7 @@ closed_end t r m (line ∷ rest) closed is bs s reads = by_answer (line_answer t
   where
     by_answer : (q : Result (Option Block) ℕ) → line_answer t r line ≡ q → (bs ≡ []) × (m ≡ s)
     by_answer (Err n) answer =
-        absurd (ok_not_err (sym (sym (ap (λ (a : Result (Option Block) ℕ). a >>= λ o. report_from t (behind_line t r line) rest >>= λ x. Ok (onto_blocks o x.0, x.1)) answer) ∙ reads)))
+        absurd (ok_not_err (sym (sym (ap (λ (a : Result (Option Block) ℕ). a >>= λ o. report_from t (behind_line t r line) rest >>= λ x. Ok (with_first o x.0, x.1)) answer) ∙ reads)))
     by_answer (Ok ended) answer =
         let read = read_line t r line ended answer in
         absurd (true_not_false read.fits (ap (λ (g : Stage). may_follow g read.said) closed ∙ closed_blocks read.said))
@@ -243,19 +243,19 @@ block_comes t r (line ∷ rest) w none bs s reads = by_answer (λ w none more on
 
     by_answer : Next → (q : Result (Option Block) ℕ) → line_answer t r line ≡ q → 1 ≤ length bs
     by_answer next (Err n) answer =
-        absurd (ok_not_err (sym (sym (ap (λ (a : Result (Option Block) ℕ). a >>= λ o. report_from t (behind_line t r line) rest >>= λ x. Ok (onto_blocks o x.0, x.1)) answer) ∙ reads)))
+        absurd (ok_not_err (sym (sym (ap (λ (a : Result (Option Block) ℕ). a >>= λ o. report_from t (behind_line t r line) rest >>= λ x. Ok (with_first o x.0, x.1)) answer) ∙ reads)))
     by_answer next (Ok ended) answer =
         let read = read_line t r line ended answer in
         let on = reads_on t r line rest ended answer bs s reads in
         ⊎_elim
-        (λ ends. omega (arith, ap length (on.1 ∙ ap (λ o. onto_blocks o on.0) (read.before ∙ ends))))
+        (λ ends. omega (arith, ap length (on.1 ∙ ap (λ o. with_first o on.0) (read.before ∙ ends))))
         (λ goes.
         let more : 1 ≤ length on.0 =
         next (ap (λ (q : Reading). is_within q.stage) read.behind ∙ goes.0) (ap (λ (q : Reading). q.summary) read.behind ∙ goes.1) on.0 on.2 in
         longer ended on.0 bs on.1 more)
         (within_line read.said r w read.fits)
       where
-        longer : (o : Option Block) (more bs : List Block) → bs ≡ onto_blocks o more → 1 ≤ length more → 1 ≤ length bs
+        longer : (o : Option Block) (more bs : List Block) → bs ≡ with_first o more → 1 ≤ length more → 1 ≤ length bs
         longer None more bs e some = omega (arith, ap length e, some)
         longer (Some b) more bs e some = omega (arith, ap length e)
 
@@ -307,8 +307,8 @@ module _ (t : Scenario) (sound : IsSound t) where
     pub short : All IsShort rest
 
   module _ (past : List Block) (s : Summary) (run : IsRun t past) (whole : length past ≡ t.header.until) (counted : s ≡ summary_of t past) where
-    order_on : (c : Checking) (ended : Option Block) (more bs : List Block) → in_order past ≡ in_order c.past ++ bs → bs ≡ onto_blocks ended more →
-        in_order past ≡ in_order (onto_blocks ended c.past) ++ more
+    order_on : (c : Checking) (ended : Option Block) (more bs : List Block) → in_order past ≡ in_order c.past ++ bs → bs ≡ with_first ended more →
+        in_order past ≡ in_order (with_first ended c.past) ++ more
     order_on c None more bs order is = order ∙ ap (λ l. in_order c.past ++ l) is
     order_on c (Some b) more bs order is = order ∙ ap (λ l. in_order c.past ++ l) is ∙ one_more c.past more b
 
@@ -320,7 +320,7 @@ module _ (t : Scenario) (sound : IsSound t) where
         let on = reads_on t c.reading line rest ended answer blocks s is.reads in
         let order = order_on c ended on.0 blocks is.order on.1 in
         let r = behind_line t c.reading line in
-        let front = onto_blocks ended c.past in
+        let front = with_first ended c.past in
         ⊎_elim
         (λ closed.
         let summary : r.summary ≡ Some closed.0 = ap (λ (q : Reading). q.summary) read.behind ∙ ap reading.summary_of closed.1 in
@@ -338,7 +338,7 @@ module _ (t : Scenario) (sound : IsSound t) where
         IsRefused t c line number why → ⊥
     not_refused c line rest blocks is number why (too_long long) = absurd (omega (arith, long, All-head IsShort line rest is.short))
     not_refused c line rest blocks is number why (malformed n short answer) =
-        ok_not_err (sym (sym (ap (λ (a : Result (Option Block) ℕ). a >>= λ o. report_from t (behind_line t c.reading line) rest >>= λ x. Ok (onto_blocks o x.0, x.1)) answer) ∙ is.reads))
+        ok_not_err (sym (sym (ap (λ (a : Result (Option Block) ℕ). a >>= λ o. report_from t (behind_line t c.reading line) rest >>= λ x. Ok (with_first o x.0, x.1)) answer) ∙ is.reads))
     not_refused c line rest blocks is number why (faulty b place because short answer fault) =
         let on = reads_on t c.reading line rest (Some b) answer blocks s is.reads in
         cycle_not_faulty c.past b place because (next_cycle t past c.past on.0 b (is.order ∙ ap (λ l. in_order c.past ++ l) on.1) run) fault
@@ -386,8 +386,8 @@ fits_before_end : (t : Scenario) (p : List Block) (b : Block) (m : Option Summar
 fits_before_end t p b None fits = omega (arith, fits)
 fits_before_end t p b (Some s) fits = omega (arith, fits.0)
 
-pub run_on : (t : Scenario) (c : Checking) (ended : Option Block) (m : Option Summary) → IsRun t c.past → IsRight t c ended → FitsRun t (onto_blocks ended c.past) m →
-    IsRun t (onto_blocks ended c.past)
+pub run_on : (t : Scenario) (c : Checking) (ended : Option Block) (m : Option Summary) → IsRun t c.past → IsRight t c ended → FitsRun t (with_first ended c.past) m →
+    IsRun t (with_first ended c.past)
 run_on t c None m run right fits = run
 run_on t c (Some b) m run right fits = (omega (arith, fits_before_end t c.past b m fits, now_behind t c.past), right, run)
 
@@ -415,18 +415,18 @@ accepts_rest t c (line ∷ rest) cycles run fits comes =
     accepts_rest t behind rest cycles (run_on t c passed.ended behind.reading.summary run passed.right place) place (subst (λ (d : Checking). ComesTo t d rest (Ok cycles)) passed.is on.2) in
     record {
       past = more.past;
-      blocks = onto_blocks passed.ended more.blocks;
+      blocks = with_first passed.ended more.blocks;
       run = more.run;
       whole = more.whole;
       order = more.order ∙ back passed.ended more.blocks;
-      reads = ap (λ (a : Result (Option Block) ℕ). a >>= λ o. report_from t (behind_line t c.reading line) rest >>= λ x. Ok (onto_blocks o x.0, x.1)) passed.reads
+      reads = ap (λ (a : Result (Option Block) ℕ). a >>= λ o. report_from t (behind_line t c.reading line) rest >>= λ x. Ok (with_first o x.0, x.1)) passed.reads
           ∙ ap (onto_report passed.ended) more.reads;
       short = All-cons IsShort line rest passed.short more.short;
       count = more.count;
     })
     comes
   where
-    back : (o : Option Block) (bs : List Block) → in_order (onto_blocks o c.past) ++ bs ≡ in_order c.past ++ onto_blocks o bs
+    back : (o : Option Block) (bs : List Block) → in_order (with_first o c.past) ++ bs ≡ in_order c.past ++ with_first o bs
     back None bs = refl
     back (Some b) bs = sym (one_more c.past bs b)
 

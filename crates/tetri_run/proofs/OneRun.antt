@@ -6,7 +6,7 @@ use Rattle.tetri_claims.specs.Good.{IsHonest}
 use Rattle.tetri_claims.specs.Planned.{Planned}
 use Rattle.tetri_judge.specs.PlanOf.{planned}
 use Rattle.tetri_plan.specs.Chosen.{IsChosen}
-use Rattle.tetri_plan.proofs.ChoiceLaws.{chosen_plans_are_one}
+use Rattle.tetri_plan.proofs.PlanLaws.{chosen_plans_are_one}
 use Rattle.tetri_report.specs.Block.{Block}
 use Rattle.tetri_report.specs.BlockLines.{occurrences_in}
 use Rattle.tetri_space.specs.Total.{total_in}

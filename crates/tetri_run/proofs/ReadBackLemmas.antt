@@ -18,9 +18,7 @@ use Rattle.tetri_state.specs.Begin.{begin}
 use Rattle.tetri_state.specs.Known.{AreOfJobs}
 use Rattle.tetri_state.specs.Reached.{IsReached, between}
 use Rattle.tetri_state.specs.Snapshot.{Snapshot}
-use Rattle.tetri_state.proofs.InstanceLemmas.{instance_sound}
-use Rattle.tetri_state.proofs.KnownLemmas.{begun_bids, occurring_known}
-use Rattle.tetri_state.proofs.ReachedLemmas.{begin_reached, stands_begun, early_begun}
+use Rattle.tetri_state.proofs.StateLaws.{begin_reached, begun_bids, early_begun, instance_sound, occurring_known, stands_begun}
 use Rattle.tetri_strl.specs.declared.grants.Grant.{Grant}
 use Rattle.tetri_trace.specs.Scenario.{Scenario}
 use Rattle.tetri_trace.specs.Sound.{IsSound}

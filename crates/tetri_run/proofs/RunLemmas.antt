@@ -4,7 +4,7 @@ use Rattle.std.specs.Prelude.{Option, Some, None}
 use Rattle.std.proofs.lemmas.List.{append-nil}
 use Rattle.std.specs.Io.KnownBytes.{append_known}
 use Rattle.tetri_io.specs.Sink.{AppendsPart}
-use Rattle.tetri_io.proofs.Known.{append_known-append}
+use Rattle.tetri_io.proofs.TextLaws.{append_known-append}
 use Rattle.tetri_report.specs.Block.{Block}
 use Rattle.tetri_report.specs.Printable.{IsSummaryInRange}
 use Rattle.tetri_report.specs.Text.{summary_text}
@@ -19,9 +19,10 @@ use Rattle.tetri_strl.specs.declared.grants.Grant.{Grant}
 use Rattle.tetri_trace.specs.Scenario.{Scenario}
 use Rattle.tetri_run.specs.Cycle.{IsPlannedCycle}
 use Rattle.tetri_run.specs.Run.{IsPlannedRun, IsRun, optimal_cycles, plans_of, state_behind, summary_of, worth_of_run}
-use Rattle.tetri_run.specs.Progress.{RanAll, RanSlot, RanSlots, StoppedBetween, StoppedInSlot, StoppedInText, WroteRun, summary_at}
+use Rattle.tetri_run.specs.Progress.{RanAll, RanSlot, RanSlots, StoppedBetween, StoppedInSlot, StoppedInText, WroteRun}
+use Rattle.tetri_report.specs.Tally.{summary_at}
 use Rattle.tetri_run.specs.Telling.{AreTold, IsTold, NextText, cycle, summary}
-use Rattle.tetri_run.specs.declared.cycles.RunTally.{RunTally}
+use Rattle.tetri_report.specs.declared.tally.RunTally.{RunTally}
 use Rattle.tetri_run.specs.declared.slot.SlotTally.{SlotTally}
 use Rattle.tetri_run.specs.declared.telling.Telling.{Telling}
 use Rattle.tetri_state.specs.Planning.{instance_at}

@@ -1,5 +1,5 @@
 -- How a check goes on by a line.
-use Rattle.std.proofs.Common.{◌≡◌, ◌≢◌, ℕ, ◌+◌, ◌^◌, ◌<◌, ◌≤◌, ◌==◌, List, [], ◌∷◌, ◌++◌, length, map, drop, Bool, true, false, not, cond, nat_eq, refl, sym, ap, ◌∙◌, subst, arith, inl, inr, ◌⊎◌}
+use Rattle.std.proofs.Common.{◌≡◌, ◌≢◌, ℕ, ◌+◌, ◌^◌, ◌<◌, ◌≤◌, List, [], ◌∷◌, ◌++◌, length, map, drop, Bool, true, false, not, cond, nat_eq, refl, sym, ap, ◌∙◌, subst, arith, inl, inr, ◌⊎◌}
 use Rattle.std.specs.Prelude.{◌&&◌, ◌↔◌, Option, Some, None, Result, Ok, Err}
 use Rattle.tetri_cert.specs.declared.certificate.Certificate.{Certificate}
 use Rattle.tetri_cert.specs.declared.certificate.Certificate.TheVariants.{Tops, Tree}
@@ -8,9 +8,9 @@ use Rattle.tetri_judge.specs.Verdict.{IsFirstFailed}
 use Rattle.tetri_judge.specs.declared.verdict.Verdict.{Verdict}
 use Rattle.tetri_judge.specs.declared.verdict.Verdict.TheVariants as verdicts
 use Rattle.std.proofs.lemmas.Bool.Decides.{nat_tests}
-use Rattle.std.proofs.lemmas.List.{drop_all, length-append, length-map}
-use Rattle.tetri_io.specs.Lines.{line_of, lines_from, onto}
-use Rattle.tetri_io.proofs.Lines.{line_of-le, first_line}
+use Rattle.std.proofs.lemmas.List.{length-append, length-map}
+use Rattle.tetri_io.specs.Lines.{line_of}
+use Rattle.tetri_io.proofs.TextLaws.{line_of-le, first_line}
 use Rattle.tetri_base.specs.ResultSteps.{◌>>=◌}
 use Rattle.tetri_report.specs.Block.{Block, headed}
 use Rattle.tetri_report.specs.BlockLines.{certificate_lines, end_place, events}
@@ -22,15 +22,16 @@ use Rattle.tetri_judge.specs.declared.seen.Seen.TheVariants as seen
 use Rattle.tetri_judge.specs.declared.tree_walk.TreeWalk.{TreeWalk}
 use Rattle.tetri_report.specs.Answers as report
 use Rattle.tetri_report.specs.Line.{line_in}
-use Rattle.tetri_report.specs.Strips.{AnswersTold, BeginsBare, Telling, bare, block_told, certificate_with, ended_or_more, strip_behind, telling_of, told_answer, told_by}
+use Rattle.tetri_report.specs.Strips.{AnswersTold, BeginsBare, Telling, block_told, certificate_with, ended_or_more, strip_behind, telling_of, told_answer, told_by}
 use Rattle.tetri_report.specs.Strips as telling
 use Rattle.tetri_report.specs.declared.cycle.Head.{Head}
-use Rattle.tetri_report.proofs.ReportLaws.{begins_bare_first, begins_bare_on, certificate_is_told, line_is_told, strip_of_bare, told_of_bare}
+use Rattle.tetri_report.proofs.ReportLaws.{before_certificate, begins_bare_first, begins_bare_on, certificate_is_told, line_is_told, none_left, some_line, strip_of_bare, texts_from, told_of_bare}
 use Rattle.tetri_report.specs.declared.fault.ReportFault.{ReportFault}
 use Rattle.tetri_report.specs.declared.fault.ReportFault.TheVariants as faults
 use Rattle.tetri_state.specs.Begin.{begin}
 use Rattle.tetri_space.specs.Space.{Space, space}
-use Rattle.tetri_report.specs.Reading.{Reading, behind_line, block_before, end_answer, is_certified, line_answer, onto_blocks, opened, with_line, with_node, with_read}
+use Rattle.tetri_report.specs.Reading.{Reading, behind_line, block_before, end_answer, is_certified, line_answer, opened, with_line, with_node}
+use Rattle.tetri_base.specs.Lists.{with_first}
 use Rattle.tetri_report.specs.Reading as reading
 use Rattle.tetri_report.specs.declared.cycle.Summary.{Summary}
 use Rattle.tetri_report.specs.declared.line.ReportLine.{ReportLine}
@@ -38,7 +39,7 @@ use Rattle.tetri_report.specs.declared.line.ReportLine.TheVariants as lines
 use Rattle.tetri_report.specs.declared.line.Stage.{Stage}
 use Rattle.tetri_report.specs.declared.line.Stage.TheVariants as stages
 use Rattle.tetri_state.specs.Reached.{IsReached, begun, between}
-use Rattle.tetri_state.proofs.ReachedLemmas.{begin_reached}
+use Rattle.tetri_state.proofs.StateLaws.{begin_reached}
 use Rattle.tetri_state.specs.Snapshot.{Snapshot}
 use Rattle.tetri_trace.specs.Scenario.{Scenario}
 use Rattle.tetri_run.specs.Check.{Checking, ComesTo, EndsAs, FitsRun, IsInPlace, IsPassed, IsRefused, IsShort, checked_behind, faulty, first_behind, malformed, out_of_place, too_long}
@@ -358,25 +359,12 @@ text_read faults.NoMemory h e is = cc
 
 -- Tops are told where no certificate has begun.
 
-planned_uncertified : (g : Stage) → reading.is_planned g ≡ true → is_certified g ≡ false
-planned_uncertified stages.Planned e = refl
-planned_uncertified stages.Tree e = absurd (true_not_false e refl)
-planned_uncertified stages.Certified e = absurd (true_not_false e refl)
-planned_uncertified stages.Opened e = refl
-planned_uncertified stages.Begun e = refl
-planned_uncertified stages.Ends e = refl
-planned_uncertified stages.Cancels e = refl
-planned_uncertified stages.Fails e = refl
-planned_uncertified stages.Overs e = refl
-planned_uncertified stages.Expires e = refl
-planned_uncertified stages.Closed e = refl
-
 not_tops : (columns rows : ℕ) (b : Bool) (d : Block) → ended_or_more (cond b (Some d) None) ≡ telling.tops columns rows → ⊥
 not_tops columns rows true d e = absurd cc
 not_tops columns rows false d e = absurd cc
 
 told_tops : (r : Reading) (l : ReportLine) (columns rows : ℕ) → reading.may_follow r.stage l ≡ true → told_by r l ≡ telling.tops columns rows → is_certified r.stage ≡ false
-told_tops r (lines.Tops m n) columns rows fits e = planned_uncertified r.stage fits
+told_tops r (lines.Tops m n) columns rows fits e = before_certificate stages.Planned stages.Planned r.stage (omega arith) fits
 told_tops r (lines.Cycle number) columns rows fits e = absurd (not_tops columns rows (is_certified r.stage) r.block e)
 told_tops r (lines.Summary s) columns rows fits e = absurd (not_tops columns rows (is_certified r.stage) r.block e)
 told_tops r (lines.End piece) columns rows fits e = absurd cc
@@ -523,9 +511,9 @@ module _ (t : Scenario) (c : Checking) (p : Progress) (line : List ℕ) (head : 
 
 -- a line that was taken has its place, or is refused
 pub placed : (t : Scenario) (c : Checking) (line : List ℕ) (new : Progress) (number : ℕ) (taken : IsTaken t c line new) → number ≡ c.reading.lines + 1 →
-    (r : Result (Unit {0}) CheckHalt) → AnswersPlace r t (onto_blocks taken.ended c.past) new.strips.summary number → AnswersLine r t c new line
+    (r : Result (Unit {0}) CheckHalt) → AnswersPlace r t (with_first taken.ended c.past) new.strips.summary number → AnswersLine r t c new line
 placed t c line new number taken counted (Ok u) fits =
-    let place = subst (FitsRun t (onto_blocks taken.ended c.past)) (ap (λ (r : Reading). r.summary) taken.keeps.reading) fits in (
+    let place = subst (FitsRun t (with_first taken.ended c.past)) (ap (λ (r : Reading). r.summary) taken.keeps.reading) fits in (
       checked_behind t c line taken.ended,
       record { short = taken.short; ended = taken.ended; reads = taken.reads; right = taken.right; in_place = place; is = refl },
       record { keeps = taken.keeps; in_place = place },
@@ -534,7 +522,7 @@ placed t c line new number taken counted (Err h) misfits =
     subst (λ k. AnswersLine {U = Unit {0}} (Err k) t c new line) (sym misfits.0)
     (subst (λ n. IsRefused t c line n WrongEvents) (sym counted)
     (out_of_place taken.ended taken.short taken.reads taken.right
-    (λ place. misfits.1 (subst (FitsRun t (onto_blocks taken.ended c.past)) (sym (ap (λ (r : Reading). r.summary) taken.keeps.reading)) place))))
+    (λ place. misfits.1 (subst (FitsRun t (with_first taken.ended c.past)) (sym (ap (λ (r : Reading). r.summary) taken.keeps.reading)) place))))
 
 -- what taking a line refuses, the line refuses
 pub not_taken : (t : Scenario) (c : Checking) (line : List ℕ) (new : Progress) (h : CheckHalt) → AnswersTaken {U = Unit {0}} (Err h) t c new line → AnswersLine {U = Unit {0}} (Err h) t c new line
@@ -551,25 +539,6 @@ passed_lines t c d p q line at passed on =
     ∙ lines_more t c.reading line passed.ended passed.reads
     ∙ ap (λ (r : Reading). r.lines + 1) (sym at.keeps.reading)
 
-abbrev texts_from : ℕ → List ℕ → List (List ℕ)
-texts_from at bytes = map (λ l. l.0) (lines_from at bytes)
-
-abbrev HasFirst : List (List ℕ × ℕ) → Type 0
-HasFirst ls = (first : List ℕ × ℕ) × (others : List (List ℕ × ℕ)) × (ls ≡ first ∷ others)
-
--- where bytes are left, there is a line
-some_line : (at : ℕ) (xs : List ℕ) → 0 < length xs → HasFirst (lines_from at xs)
-some_line at [] h = absurd (omega arith)
-some_line at (x ∷ xs) h =
-    elim (x == 10) as (λ b. HasFirst (cond b (([], at + 1) ∷ lines_from (at + 1) xs) (onto (x ∷ []) (at + 1) (lines_from (at + 1) xs)))) [
-      | true ↦ (([], at + 1), lines_from (at + 1) xs, refl)
-      | false ↦ onto_some (lines_from (at + 1) xs)
-    ]
-  where
-    onto_some : (ls : List (List ℕ × ℕ)) → HasFirst (onto (x ∷ []) (at + 1) ls)
-    onto_some [] = ((x ∷ [], at + 1), [], refl)
-    onto_some (l ∷ ls) = (((x ∷ []) ++ l.0, l.1), ls, refl)
-
 -- the next line has too many bytes
 pub comes_too_long : (t : Scenario) (c : Checking) (p : Progress) (content : List ℕ) (offset number : ℕ) → IsAt t c p → number ≡ p.strips.lines + 1 →
     1048576 < length (line_of (drop offset content)) → ComesTo t c (texts_from offset (drop offset content)) (Err (number, LineTooLong))
@@ -580,9 +549,6 @@ comes_too_long t c p content offset number at counted long =
     (inl (subst (λ n. IsRefused t c found.0.0 n LineTooLong) (sym (counted ∙ ap (λ (r : Reading). r.lines + 1) at.keeps.reading)) (too_long (omega (arith, long, ap length first.bytes_are)))))
 
 -- no byte is left
-none_left : (content : List ℕ) (offset : ℕ) → length content ≤ offset → texts_from offset (drop offset content) ≡ []
-none_left content offset past = ap (texts_from offset) (drop_all offset content past)
-
 pub comes_to_end : (t : Scenario) (c : Checking) (content : List ℕ) (offset : ℕ) (outcome : Result ℕ (ℕ × Why)) → length content ≤ offset → EndsAs t c outcome →
     ComesTo t c (texts_from offset (drop offset content)) outcome
 comes_to_end t c content offset outcome past ends = subst (λ ls. ComesTo t c ls outcome) (sym (none_left content offset past)) ends

@@ -2,7 +2,8 @@
 use Rattle.std.specs.Prelude.{◌≡◌, ◌⊎◌, ◌<◌, ◌≤◌, ℕ, ◌+◌, List, [], ◌∷◌, length, map, All, Option, Some, None, Result, Ok, Err}
 use Rattle.tetri_io.specs.Lines.{lines_from}
 use Rattle.tetri_report.specs.Block.{Block}
-use Rattle.tetri_report.specs.Reading.{Reading, behind_line, end_answer, line_answer, onto_blocks, opened, report_in}
+use Rattle.tetri_report.specs.Reading.{Reading, behind_line, end_answer, line_answer, opened, report_in}
+use Rattle.tetri_base.specs.Lists.{with_first}
 use Rattle.tetri_report.specs.declared.cycle.Summary.{Summary}
 use Rattle.tetri_trace.specs.Scenario.{Scenario}
 use Rattle.tetri_run.specs.Cycle.{IsCycle}
@@ -50,7 +51,7 @@ first_behind c (Some b) = c.reading.lines + 1
 
 -- how far it has come behind a line, which ended this cycle, if it ended one
 abbrev pub checked_behind : Scenario → Checking → List ℕ → Option Block → Checking
-checked_behind t c line ended = record { past = onto_blocks ended c.past; first = first_behind c ended; reading = behind_line t c.reading line }
+checked_behind t c line ended = record { past = with_first ended c.past; first = first_behind c ended; reading = behind_line t c.reading line }
 
 -- the cycle that a line ended is one of the run
 abbrev pub IsRight : Scenario → Checking → Option Block → Type 0

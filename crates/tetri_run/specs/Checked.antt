@@ -30,7 +30,7 @@ use Rattle.tetri_trace.specs.Scenario.{Scenario}
 use Rattle.tetri_run.specs.Check.{Checking, FitsRun, IsInPlace, IsPassed, IsRefused, IsRight, IsShort, checked_behind}
 use Rattle.tetri_run.specs.Cycle.{IsCycle}
 use Rattle.tetri_run.specs.Faulty.{IsFaulty, why_of}
-use Rattle.tetri_run.specs.Progress.{summary_at}
+use Rattle.tetri_report.specs.Tally.{summary_at}
 use Rattle.tetri_run.specs.Run.{IsRun, optimal_count, optimal_cycles, state_behind, summary_of, worth_of_run}
 use Rattle.tetri_run.specs.declared.halt.CheckHalt.{CheckHalt}
 use Rattle.tetri_run.specs.declared.halt.CheckHalt.TheVariants.{Refused, ReadFault, NoMemory}
@@ -40,7 +40,7 @@ use Rattle.tetri_run.specs.declared.sight.Sight.TheVariants as sights
 use Rattle.tetri_run.specs.declared.sight.View.{View}
 use Rattle.tetri_run.specs.declared.slot.SlotTally.{SlotTally}
 use Rattle.tetri_run.specs.declared.check.Progress.{Progress}
-use Rattle.tetri_run.specs.declared.cycles.RunTally.{RunTally}
+use Rattle.tetri_report.specs.declared.tally.RunTally.{RunTally}
 use Rattle.tetri_run.specs.declared.why.Why.{Why}
 use Rattle.tetri_run.specs.declared.why.Why.TheVariants.{Malformed, WrongEvents}
 use Rattle.tetri_state.specs.Planning.{instance_at}

@@ -21,7 +21,7 @@ use Rattle.tetri_run.specs.Run.{IsPlannedRun, in_order, optimal_count, optimal_c
 use Rattle.tetri_run.specs.Telling.{AreTold, IsTold, NextText}
 use Rattle.tetri_run.specs.declared.slot.Ready.{Ready}
 use Rattle.tetri_run.specs.declared.slot.SlotTally.{SlotTally}
-use Rattle.tetri_run.specs.declared.cycles.RunTally.{RunTally}
+use Rattle.tetri_report.specs.declared.tally.RunTally.{RunTally}
 use Rattle.tetri_run.specs.declared.telling.Telling.{Telling}
 use Rattle.tetri_state.specs.Planning.{instance_at}
 
@@ -134,15 +134,3 @@ pub record RanAll (telling : Telling) (IsSuch : Scenario → List Block → Type
   pub text : List ℕ
   pub told : AreTold telling t past text
   pub written : now ≡ append_known before text
-
--- what is added up, as the numbers of a run
-abbrev pub summary_at : Snapshot → RunTally → Summary
-summary_at s tally = record {
-  cycles = s.now;
-  launched = length s.launched;
-  ended = length s.ended;
-  cancelled = length s.cancelled;
-  expired = length s.expired;
-  worth = tally.worth;
-  optimal = tally.optimal;
-}

@@ -1,5 +1,5 @@
 -- A run: one cycle a slot, from the opening state on. Lists of cycles have the last one first.
-use Rattle.std.specs.Prelude.{◌≡◌, ◌⊎◌, ◌<◌, Contains, ℕ, ◌+◌, List, [], ◌∷◌, ◌++◌, map, length}
+use Rattle.std.specs.Prelude.{◌⊎◌, ◌<◌, Contains, ℕ, ◌+◌, List, [], ◌∷◌, ◌++◌, map, length}
 use Rattle.tetri_space.specs.Space.{Space}
 use Rattle.tetri_strl.specs.declared.grants.Grant.{Grant}
 use Rattle.tetri_cert.specs.declared.plan_mark.PlanMark.{PlanMark}

@@ -10,11 +10,12 @@ ghost use Rattle.tetri_notice.specs.declared.fault.TraceWhy.{TraceWhy};
 ghost use Rattle.tetri_trace.specs.Sound.{IsSound};
 
 use crate::check::check_report;
-use crate::halt::{CheckHalt, Halt};
+use crate::halt::CheckHalt;
 use crate::status::Status;
 use std::alloc::{AllocError, Global};
 use std::fmt::Write;
 use tetri_io::{Shelf, Sink, send_all};
+use tetri_report::SendFault;
 use tetri_trace::Trace;
 
 #[tactic(auto, unfolding(crate::specs::Status::accepted_text))]
@@ -27,11 +28,11 @@ fn accepted_line(alloc: Global, cycles: u64) -> Result<String, AllocError>
 }
 
 // Writes that a report of so many cycles is accepted.
-fn write_accepted<K: Sink>(alloc: Global, cycles: u64, sink: &mut K) -> Result<(), Halt>
+fn write_accepted<K: Sink>(alloc: Global, cycles: u64, sink: &mut K) -> Result<(), SendFault>
     ensures ok { OnOk result (K.written sink.new ≡ append_known (K.written sink.old) (accepted_text cycles)) }
-    ensures failed { IsErrOf result Halt.WriteFault → AppendsPart (K.written sink.old) (K.written sink.new) (accepted_text cycles) }
-    ensures memory { IsErrOf result Halt.NoMemory → K.written sink.new ≡ K.written sink.old }
-    ensures write { IsErrOf result Halt.WriteFault → Rose (K.faults sink.old) (K.faults sink.new) }
+    ensures failed { IsErrOf result SendFault.Failed → AppendsPart (K.written sink.old) (K.written sink.new) (accepted_text cycles) }
+    ensures memory { IsErrOf result SendFault.NoMemory → K.written sink.new ≡ K.written sink.old }
+    ensures write { IsErrOf result SendFault.Failed → Rose (K.faults sink.old) (K.faults sink.new) }
     ensures later { K.faults sink.old ≤ K.faults sink.new }
 {
     let text = accepted_line(alloc, cycles)?;
@@ -65,8 +66,8 @@ pub(crate) fn check_trace<S: Shelf, K: Sink>(
     match check_report(alloc, trace, shelf, name) {
         Ok(cycles) => match write_accepted(alloc, cycles, sink) {
             Ok(()) => Status::Done,
-            Err(Halt::WriteFault) => Status::WriteFault,
-            Err(Halt::NoMemory) => Status::NoMemory,
+            Err(SendFault::Failed) => Status::WriteFault,
+            Err(SendFault::NoMemory) => Status::NoMemory,
         },
         Err(CheckHalt::Refused { line, why }) => Status::Refused { line, why },
         Err(CheckHalt::ReadFault) => Status::ReadFault,

@@ -13,7 +13,7 @@ use crate::top::status_of;
 use std::alloc::Global;
 use tetri_answers::admit_trace;
 use tetri_io::{Shelf, Sink};
-use tetri_parts::Stop;
+use tetri_report::SendFault;
 use tetri_trace::read_trace;
 
 /// Answers for each job that is pending in the first slot of the trace that a name holds whether it can be served together with those
@@ -49,8 +49,8 @@ pub fn run_admit<S: Shelf, K: Sink>(
     match read_trace(alloc, shelf, name) {
         Ok(trace) => match admit_trace(alloc, &trace, sink) {
             Ok(()) => Status::Done,
-            Err(Stop::Failed) => Status::WriteFault,
-            Err(Stop::NoMemory) => Status::NoMemory,
+            Err(SendFault::Failed) => Status::WriteFault,
+            Err(SendFault::NoMemory) => Status::NoMemory,
         },
         Err(fault) => status_of(fault),
     }

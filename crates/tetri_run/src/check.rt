@@ -11,13 +11,12 @@ ghost use Rattle.tetri_trace.specs.Scenario.{scenario};
 ghost use Rattle.tetri_trace.specs.Sound.{IsSound};
 
 use crate::cycle_check::check_cycle;
-use crate::cycles::{RunTally, summary_at};
 use crate::halt::CheckHalt;
 use crate::sight::{Sight, see_node, view_of};
 use crate::why::Why;
 use std::alloc::{AllocError, Global};
 use tetri_io::{Line, LineFault, LineReader, Shelf};
-use tetri_report::{Head, ReportFault, Strips, Told};
+use tetri_report::{Head, ReportFault, RunTally, Strips, Told, summary_at};
 use tetri_state::State;
 use tetri_trace::Trace;
 

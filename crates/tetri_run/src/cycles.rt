@@ -5,45 +5,22 @@ ghost use Rattle.tetri_advice.specs.Sitting.{seats};
 ghost use Rattle.tetri_algebra.specs.Counts.{Rose};
 ghost use Rattle.tetri_report.specs.Printable.{IsSummaryInRange};
 ghost use Rattle.tetri_run.specs.Advised.{IsAdvisedRun};
-ghost use Rattle.tetri_run.specs.Progress.{RanAll, StoppedBetween, StoppedInText, WroteRun, summary_at};
+ghost use Rattle.tetri_run.specs.Progress.{RanAll, StoppedBetween, StoppedInText, WroteRun};
 ghost use Rattle.tetri_run.specs.Status.{IsRunAnswer, IsSilent};
 ghost use Rattle.tetri_run.specs.declared.why.Why.{Why};
 ghost use Rattle.tetri_trace.specs.Scenario.{scenario};
 ghost use Rattle.tetri_trace.specs.Sound.{IsSound};
 ghost use Rattle.tetri_notice.specs.declared.fault.TraceWhy.{TraceWhy};
 
-use crate::halt::Halt;
 use crate::slot::run_slot;
 use crate::status::Status;
 use crate::telling::Telling;
 use std::alloc::Global;
 use tetri_advice::{Advisor, PanelOf};
 use tetri_io::{Sink, send_all};
-use tetri_report::{Summary, print_summary};
+use tetri_report::{RunTally, SendFault, Summary, print_summary, summary_at};
 use tetri_state::State;
 use tetri_trace::Trace;
-
-/// What is added up over cycles: what launched jobs are worth, and how many plans are optimal.
-#[derive(Clone, Copy, Debug)]
-pub(crate) struct RunTally {
-    pub(crate) worth: u128,
-    pub(crate) optimal: u64,
-}
-
-/// The run so far in numbers: its state, and what was added up over its cycles.
-pub(crate) fn summary_at(state: &State, tally: &RunTally) -> Summary
-    ensures { result ≡ summary_at state.entry.now tally.entry.now }
-{
-    Summary {
-        cycles: u64::from(state.now()),
-        launched: state.launched_count() as u64,
-        ended: state.ended_count() as u64,
-        cancelled: state.cancelled_count() as u64,
-        expired: state.expired_count() as u64,
-        worth: tally.worth,
-        optimal: tally.optimal,
-    }
-}
 
 // Runs all slots, from the opening state on, each once the panel was asked, and tells each.
 pub(crate) fn run_slots<K: Sink, A: Advisor>(
@@ -52,13 +29,13 @@ pub(crate) fn run_slots<K: Sink, A: Advisor>(
     sink: &mut K,
     panel: &mut PanelOf<A>,
     telling: Telling,
-) -> Result<Summary, Halt>
+) -> Result<Summary, SendFault>
     requires { IsSound (scenario trace.now) }
     ensures ok { IfOk result (λ summary. RanAll telling (IsAdvisedRun (seats A.says A.misses A.creed panel.old) panel.old.missed panel.new.missed) (scenario trace.entry.now) summary (K.written sink.old) (K.written sink.new)) }
     ensures small { IfOk result (λ summary. summary.worth < 2 ^ 127) }
-    ensures failed { IsErrOf result Halt.WriteFault → StoppedInText telling (IsAdvisedRun (seats A.says A.misses A.creed panel.old) panel.old.missed panel.new.missed) (scenario trace.entry.now) (K.written sink.old) (K.written sink.new) }
-    ensures memory { IsErrOf result Halt.NoMemory → StoppedBetween telling (IsAdvisedRun (seats A.says A.misses A.creed panel.old) panel.old.missed panel.new.missed) (scenario trace.entry.now) (K.written sink.old) (K.written sink.new) }
-    ensures write { IsErrOf result Halt.WriteFault → Rose (K.faults sink.old) (K.faults sink.new) }
+    ensures failed { IsErrOf result SendFault.Failed → StoppedInText telling (IsAdvisedRun (seats A.says A.misses A.creed panel.old) panel.old.missed panel.new.missed) (scenario trace.entry.now) (K.written sink.old) (K.written sink.new) }
+    ensures memory { IsErrOf result SendFault.NoMemory → StoppedBetween telling (IsAdvisedRun (seats A.says A.misses A.creed panel.old) panel.old.missed panel.new.missed) (scenario trace.entry.now) (K.written sink.old) (K.written sink.new) }
+    ensures write { IsErrOf result SendFault.Failed → Rose (K.faults sink.old) (K.faults sink.new) }
     ensures later { K.faults sink.old ≤ K.faults sink.new }
     ensures creeds { creeds_of (seats A.says A.misses A.creed panel.new) ≡ creeds_of (seats A.says A.misses A.creed panel.old) }
     ensures later_misses { panel.old.missed ≤ panel.new.missed }
@@ -100,12 +77,12 @@ fn write_run<K: Sink, A: Advisor>(
     sink: &mut K,
     panel: &mut PanelOf<A>,
     telling: Telling,
-) -> Result<(), Halt>
+) -> Result<(), SendFault>
     requires { IsSound (scenario trace.now) }
     ensures ok { OnOk result (WroteRun telling (IsAdvisedRun (seats A.says A.misses A.creed panel.old) panel.old.missed panel.new.missed) (scenario trace.entry.now) (K.written sink.old) (K.written sink.new)) }
-    ensures failed { IsErrOf result Halt.WriteFault → StoppedInText telling (IsAdvisedRun (seats A.says A.misses A.creed panel.old) panel.old.missed panel.new.missed) (scenario trace.entry.now) (K.written sink.old) (K.written sink.new) }
-    ensures memory { IsErrOf result Halt.NoMemory → StoppedBetween telling (IsAdvisedRun (seats A.says A.misses A.creed panel.old) panel.old.missed panel.new.missed) (scenario trace.entry.now) (K.written sink.old) (K.written sink.new) }
-    ensures write { IsErrOf result Halt.WriteFault → Rose (K.faults sink.old) (K.faults sink.new) }
+    ensures failed { IsErrOf result SendFault.Failed → StoppedInText telling (IsAdvisedRun (seats A.says A.misses A.creed panel.old) panel.old.missed panel.new.missed) (scenario trace.entry.now) (K.written sink.old) (K.written sink.new) }
+    ensures memory { IsErrOf result SendFault.NoMemory → StoppedBetween telling (IsAdvisedRun (seats A.says A.misses A.creed panel.old) panel.old.missed panel.new.missed) (scenario trace.entry.now) (K.written sink.old) (K.written sink.new) }
+    ensures write { IsErrOf result SendFault.Failed → Rose (K.faults sink.old) (K.faults sink.new) }
     ensures later { K.faults sink.old ≤ K.faults sink.new }
     ensures creeds { creeds_of (seats A.says A.misses A.creed panel.new) ≡ creeds_of (seats A.says A.misses A.creed panel.old) }
     ensures later_misses { panel.old.missed ≤ panel.new.missed }
@@ -142,7 +119,7 @@ pub(crate) fn run_told<K: Sink, A: Advisor>(
 {
     match write_run(alloc, trace, sink, panel, telling) {
         Ok(()) => Status::Done,
-        Err(Halt::WriteFault) => Status::WriteFault,
-        Err(Halt::NoMemory) => Status::NoMemory,
+        Err(SendFault::Failed) => Status::WriteFault,
+        Err(SendFault::NoMemory) => Status::NoMemory,
     }
 }

@@ -30,8 +30,8 @@ pub use laws::{
 };
 pub use load::run_load;
 pub use parts::run_parts;
-pub use spoken::{SayFault, say};
+pub use spoken::say;
 pub use status::Status;
 pub use tight::run_tight;
-pub use top::{run, run_check, run_plan};
+pub use top::{run, run_check, run_plan, status_of};
 pub use why::Why;

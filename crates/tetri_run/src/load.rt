@@ -13,14 +13,13 @@ ghost use Rattle.tetri_trace.specs.Sound.{IsSound};
 ghost use Rattle.tetri_notice.specs.declared.fault.TraceWhy.{TraceWhy};
 
 use crate::cycles::{run_slots, summary_is_in_range};
-use crate::halt::Halt;
 use crate::status::Status;
 use crate::telling::Telling;
 use std::alloc::{AllocError, Global};
 use tetri_advice::{Advisor, Panel, PanelOf};
 use tetri_io::{Failed, Sink, send_all};
 use tetri_make::make;
-use tetri_report::{Summary, print_summary};
+use tetri_report::{SendFault, Summary, print_summary};
 use tetri_trace::Trace;
 
 // A sink that keeps nothing of what is written to it, and tells nothing of it. No write to it fails.
@@ -54,8 +53,8 @@ fn count_run<A: Advisor>(
     let mut blocks = Unkept;
     match run_slots(alloc, trace, &mut blocks, panel, Telling::Report) {
         Ok(summary) => Ok(summary),
-        Err(Halt::NoMemory) => Err(AllocError),
-        Err(Halt::WriteFault) => unreachable!(),
+        Err(SendFault::NoMemory) => Err(AllocError),
+        Err(SendFault::Failed) => unreachable!(),
     }
 }
 
@@ -65,12 +64,12 @@ fn write_summary<K: Sink, A: Advisor>(
     trace: &Trace,
     sink: &mut K,
     panel: &mut PanelOf<A>,
-) -> Result<(), Halt>
+) -> Result<(), SendFault>
     requires { IsSound (scenario trace.now) }
     ensures ok { OnOk result (WroteSummary (IsAdvisedRun (seats A.says A.misses A.creed panel.old) panel.old.missed panel.new.missed) (scenario trace.entry.now) (K.written sink.old) (K.written sink.new)) }
-    ensures failed { IsErrOf result Halt.WriteFault → StoppedInSummary (IsAdvisedRun (seats A.says A.misses A.creed panel.old) panel.old.missed panel.new.missed) (scenario trace.entry.now) (K.written sink.old) (K.written sink.new) }
-    ensures memory { IsErrOf result Halt.NoMemory → K.written sink.new ≡ K.written sink.old }
-    ensures write { IsErrOf result Halt.WriteFault → Rose (K.faults sink.old) (K.faults sink.new) }
+    ensures failed { IsErrOf result SendFault.Failed → StoppedInSummary (IsAdvisedRun (seats A.says A.misses A.creed panel.old) panel.old.missed panel.new.missed) (scenario trace.entry.now) (K.written sink.old) (K.written sink.new) }
+    ensures memory { IsErrOf result SendFault.NoMemory → K.written sink.new ≡ K.written sink.old }
+    ensures write { IsErrOf result SendFault.Failed → Rose (K.faults sink.old) (K.faults sink.new) }
     ensures later { K.faults sink.old ≤ K.faults sink.new }
     ensures creeds { creeds_of (seats A.says A.misses A.creed panel.new) ≡ creeds_of (seats A.says A.misses A.creed panel.old) }
     ensures later_misses { panel.old.missed ≤ panel.new.missed }
@@ -106,8 +105,8 @@ fn run_counted<K: Sink, A: Advisor>(
 {
     match write_summary(alloc, trace, sink, panel) {
         Ok(()) => Status::Done,
-        Err(Halt::WriteFault) => Status::WriteFault,
-        Err(Halt::NoMemory) => Status::NoMemory,
+        Err(SendFault::Failed) => Status::WriteFault,
+        Err(SendFault::NoMemory) => Status::NoMemory,
     }
 }
 

@@ -12,7 +12,8 @@ use crate::status::Status;
 use crate::top::status_of;
 use std::alloc::Global;
 use tetri_io::{Shelf, Sink};
-use tetri_parts::{Stop, run_by_parts};
+use tetri_parts::run_by_parts;
+use tetri_report::SendFault;
 use tetri_trace::read_trace;
 
 /// Plans the trace that a name holds part by part and writes its report: each cycle by one send once it is planned, and then the summary
@@ -47,8 +48,8 @@ pub fn run_parts<S: Shelf, K: Sink>(
     match read_trace(alloc, shelf, name) {
         Ok(trace) => match run_by_parts(alloc, &trace, sink) {
             Ok(()) => Status::Done,
-            Err(Stop::Failed) => Status::WriteFault,
-            Err(Stop::NoMemory) => Status::NoMemory,
+            Err(SendFault::Failed) => Status::WriteFault,
+            Err(SendFault::NoMemory) => Status::NoMemory,
         },
         Err(fault) => status_of(fault),
     }

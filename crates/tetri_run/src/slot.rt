@@ -15,13 +15,13 @@ ghost use Rattle.tetri_state.specs.Reached.{IsReached, begun, between};
 ghost use Rattle.tetri_trace.specs.Scenario.{scenario};
 ghost use Rattle.tetri_trace.specs.Sound.{IsSound};
 
-use crate::halt::Halt;
 use crate::planner::{Told, told_cycle};
 use crate::telling::{Telling, told_text};
 use std::alloc::{AllocError, Global};
 use tetri_advice::{Advisor, PanelOf};
 use tetri_cert::PlanMark;
 use tetri_io::{Sink, send_all};
+use tetri_report::SendFault;
 use tetri_state::{Prepared, State, jobs_of_a_run_are_known};
 use tetri_trace::Trace;
 
@@ -106,7 +106,7 @@ pub(crate) fn run_slot<K: Sink, A: Advisor>(
     sink: &mut K,
     panel: &mut PanelOf<A>,
     telling: Telling,
-) -> Result<SlotTally, Halt>
+) -> Result<SlotTally, SendFault>
     requires sound { IsSound (scenario trace.now) }
     requires reached { IsReached (scenario trace.now) between state.old }
     requires in_run { state.old.now < (scenario trace.now).header.until }
@@ -114,10 +114,10 @@ pub(crate) fn run_slot<K: Sink, A: Advisor>(
         (scenario trace.entry.now) state.old state.new tally (K.written sink.old) (K.written sink.new)) }
     ensures most { IfOk result (λ tally. tally.optimal ≤ 1) }
     ensures small { IfOk result (λ tally. tally.worth < 2 ^ 64) }
-    ensures failed { IsErrOf result Halt.WriteFault → StoppedInSlot telling (IsAdvice (seats A.says A.misses A.creed panel.old) panel.old.missed (seats A.says A.misses A.creed panel.new) panel.new.missed)
+    ensures failed { IsErrOf result SendFault.Failed → StoppedInSlot telling (IsAdvice (seats A.says A.misses A.creed panel.old) panel.old.missed (seats A.says A.misses A.creed panel.new) panel.new.missed)
         (scenario trace.entry.now) state.old (K.written sink.old) (K.written sink.new) }
-    ensures memory { IsErrOf result Halt.NoMemory → K.written sink.new ≡ K.written sink.old }
-    ensures write { IsErrOf result Halt.WriteFault → Rose (K.faults sink.old) (K.faults sink.new) }
+    ensures memory { IsErrOf result SendFault.NoMemory → K.written sink.new ≡ K.written sink.old }
+    ensures write { IsErrOf result SendFault.Failed → Rose (K.faults sink.old) (K.faults sink.new) }
     ensures later { K.faults sink.old ≤ K.faults sink.new }
     ensures creeds { creeds_of (seats A.says A.misses A.creed panel.new) ≡ creeds_of (seats A.says A.misses A.creed panel.old) }
     ensures later_misses { panel.old.missed ≤ panel.new.missed }

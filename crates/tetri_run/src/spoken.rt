@@ -11,42 +11,9 @@ use crate::status::Status;
 use crate::why::Why;
 use std::alloc::{AllocError, Global};
 use std::fmt::Write;
-use tetri_io::{Failed, Sink, send_all};
+use tetri_io::{Sink, send_all};
+use tetri_report::SendFault;
 use tetri_trace::TraceWhy;
-use thiserror::Error;
-
-/// Why a status was not said.
-#[derive(Clone, Copy, Debug, PartialEq, Eq, Error)]
-pub enum SayFault {
-    /// A write failed, and was counted.
-    #[error("a write failed")]
-    Failed,
-    /// There is no memory for the line.
-    #[error("out of memory")]
-    NoMemory,
-}
-
-impl From<Failed> for SayFault {
-    ghost use Rattle.std.specs.Prelude.{◌≡◌};
-    ghost use Rattle.tetri_run.specs.declared.spoken.SayFault.TheVariants as fault;
-
-    ghost from_gives = { λ _ e. e ≡ fault.Failed };
-
-    fn from(_: Failed) -> Self {
-        SayFault::Failed
-    }
-}
-
-impl From<AllocError> for SayFault {
-    ghost use Rattle.std.specs.Prelude.{◌≡◌};
-    ghost use Rattle.tetri_run.specs.declared.spoken.SayFault.TheVariants as fault;
-
-    ghost from_gives = { λ _ e. e ≡ fault.NoMemory };
-
-    fn from(_: AllocError) -> Self {
-        SayFault::NoMemory
-    }
-}
 
 #[tactic(auto, unfolding(crate::specs::Status::bad_trace_words))]
 fn bad_trace_line(alloc: Global, line: u64, why: TraceWhy) -> Result<String, AllocError>
@@ -112,13 +79,13 @@ fn refused_line(alloc: Global, line: u64, why: Why) -> Result<String, AllocError
 
 /// Writes the line of a status, and nothing for `Done`. `Failed` comes only where the count of faults rose, and then a
 /// proper prefix was written.
-pub fn say<K: Sink>(alloc: Global, status: &Status, sink: &mut K) -> Result<(), SayFault>
+pub fn say<K: Sink>(alloc: Global, status: &Status, sink: &mut K) -> Result<(), SendFault>
     ensures ok { OnOk result (K.written sink.new ≡ append_known (K.written sink.old) (status_words status.entry.now)) }
-    ensures failed { IsErrOf result SayFault.Failed → Rose (K.faults sink.old) (K.faults sink.new) }
-    ensures part { IsErrOf result SayFault.Failed
+    ensures failed { IsErrOf result SendFault.Failed → Rose (K.faults sink.old) (K.faults sink.new) }
+    ensures part { IsErrOf result SendFault.Failed
         → AppendsPart (K.written sink.old) (K.written sink.new) (status_words status.entry.now) }
-    ensures memory { IsErrOf result SayFault.NoMemory → K.written sink.new ≡ K.written sink.old }
-    ensures numbered { IsErrOf result SayFault.NoMemory → NeedsMemory status.entry.now }
+    ensures memory { IsErrOf result SendFault.NoMemory → K.written sink.new ≡ K.written sink.old }
+    ensures numbered { IsErrOf result SendFault.NoMemory → NeedsMemory status.entry.now }
     ensures later { K.faults sink.old ≤ K.faults sink.new }
 {
     match status {

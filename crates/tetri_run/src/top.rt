@@ -142,7 +142,7 @@ pub fn run<S: Shelf, K: Sink>(
 }
 
 /// The status of a trace that is not read.
-pub(crate) fn status_of(fault: TraceFault) -> Status
+pub fn status_of(fault: TraceFault) -> Status
     ensures { result ≡ status_of fault }
 {
     match fault {

@@ -1,18 +1,16 @@
 -- No lawful allotment is worth more than the bound of a root.
-use Rattle.std.proofs.Common.{◌≡◌, ℕ, ◌-◌, ◌^◌, ◌<◌, ◌≤◌, inl, inr, List, length, refl, sym, subst, arith}
-use Rattle.std.specs.Prelude.{All, Option, Some, None, IfSome, min, pos, ◌≤ℤ◌}
+use Rattle.std.proofs.Common.{◌≡◌, ℕ, ◌-◌, ◌≤◌, inr, List, arith}
+use Rattle.std.specs.Prelude.{Option, Some, None, IfSome, pos, ◌≤ℤ◌}
 use Rattle.std.proofs.lemmas.Int.{ints}
-use lib.IntN.{ℤ}
 use Rattle.tetri_strl.specs.declared.grants.Grant.{Grant}
 use Rattle.tetri_claims.specs.Good.{BoundsEveryLawful}
 use Rattle.tetri_claims.specs.Laws.{ProgramsEarnLittle}
 use Rattle.tetri_compile.specs.Allotted.{point_of}
 use Rattle.tetri_compile.specs.Flat.{plain, program_of}
-use Rattle.tetri_cuts.specs.Cuts.{HasNoNegativeBound}
 use Rattle.tetri_cuts.specs.Tightening.{Bounds, IsUpperBound}
 use Rattle.tetri_cuts.specs.declared.tightening.Root.{Root}
 use Rattle.tetri_ip.specs.declared.programs.Program.{Program}
-use Rattle.tetri_ip.specs.Points.{IsFit, IsPoint, box_of, number_at, objective}
+use Rattle.tetri_ip.specs.Points.{IsPoint, box_of, objective}
 use Rattle.tetri_space.specs.Lawful.{IsLawful}
 use Rattle.tetri_space.specs.Sound.{IsSound}
 use Rattle.tetri_space.specs.Space.{Space}

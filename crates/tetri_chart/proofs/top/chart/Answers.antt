@@ -1,6 +1,6 @@
 use Rattle.std.proofs.Common.{◌∙◌, ⊎_elim, ap, refl, subst, inr, arith}
 use Rattle.tetri_trace.specs.Lines.{scenario_in}
-use Rattle.tetri_run.proofs.TopLemmas.{same_scenario}
+use Rattle.tetri_run.proofs.RunLaws.{same_scenario}
 use Rattle.tetri_run.specs.Check.{IsAccepted}
 use Rattle.tetri_chart.proofs.ChartLemmas.{chart_promised, check_promised, drawn, no_rise, rose_before}
 use Rattle.tetri_chart.proofs.top.chart.Goals as goal

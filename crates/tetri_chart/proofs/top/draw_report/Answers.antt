@@ -5,8 +5,8 @@ use Rattle.tetri_io.specs.Sink.{AppendsPart}
 use Rattle.tetri_run.specs.Run.{in_order, summary_of}
 use Rattle.tetri_trace.specs.Scenario.{scenario}
 use Rattle.tetri_drawing.specs.Svg.{AppendsFront, svg_text}
-use Rattle.tetri_drawing.specs.declared.stop.Stop.TheVariants.{Failed, NoMemory}
-use Rattle.tetri_drawing.proofs.SpanLemmas.{tells_pieces}
+use Rattle.tetri_report.specs.declared.send_fault.SendFault.TheVariants.{Failed, NoMemory}
+use Rattle.tetri_drawing.proofs.SpanLaws.{tells_pieces}
 use Rattle.tetri_chart.proofs.ChartLemmas.{may_all}
 use Rattle.tetri_chart.proofs.top.draw_report.Goals as goal
 

@@ -1,7 +1,7 @@
 use Rattle.std.proofs.Common.{◌++◌, ◌∙◌, List, ℕ, sym, ap, append_assoc, string_bytes}
 use Rattle.std.specs.Prelude.{flat_map}
 use Rattle.std.specs.List.{range_with_len}
-use Rattle.tetri_svg.proofs.RangeLemmas.{texts_more}
+use Rattle.tetri_base.proofs.ListLaws.{flat_map-next}
 use Rattle.tetri_drawing.specs.Ends.{slot_text}
 use Rattle.tetri_drawing.proofs.back.add_slots.Goals as goal
 
@@ -11,4 +11,4 @@ loop-slot-preserved c =
     let l = c.loop-slot in
     let before : List ℕ = string_bytes c.args.out.now in
     c.in_ok-add_slot.ensures ∙ ap (λ xs. xs ++ f l.slot) l.invariant ∙ append_assoc before (flat_map f (range_with_len 0 l.slot)) (f l.slot)
-    ∙ ap (λ xs. before ++ xs) (sym (texts_more f l.slot))
+    ∙ ap (λ xs. before ++ xs) (sym (flat_map-next f l.slot))

@@ -1,7 +1,7 @@
 use Rattle.std.proofs.Common.{◌++◌, ◌∙◌, List, ℕ, sym, ap, append_assoc, string_bytes}
 use Rattle.std.specs.Prelude.{flat_map}
 use Rattle.std.specs.List.{range_with_len}
-use Rattle.tetri_svg.proofs.RangeLemmas.{texts_more}
+use Rattle.tetri_base.proofs.ListLaws.{flat_map-next}
 use Rattle.tetri_trace.specs.Scenario.{scenario}
 use Rattle.tetri_drawing.specs.Ends.{name_by}
 use Rattle.tetri_drawing.proofs.front.add_names.Goals as goal
@@ -12,4 +12,4 @@ loop-node-preserved c =
     let l = c.loop-node in
     let before : List ℕ = string_bytes c.args.out.now in
     c.in_ok-add_name_at.ensures ∙ ap (λ xs. xs ++ f l.node) l.invariant ∙ append_assoc before (flat_map f (range_with_len 0 l.node)) (f l.node)
-    ∙ ap (λ xs. before ++ xs) (sym (texts_more f l.node))
+    ∙ ap (λ xs. before ++ xs) (sym (flat_map-next f l.node))

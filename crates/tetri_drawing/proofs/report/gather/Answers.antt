@@ -11,7 +11,8 @@ use Rattle.tetri_drawing.specs.Picture.{Picture}
 use Rattle.tetri_drawing.specs.RunSpans.{TellsPieces}
 use Rattle.tetri_drawing.specs.Runs.{IsLineStrange, IsLineTaken}
 use Rattle.tetri_drawing.proofs.SpanLemmas.{tells_pieces}
-use Rattle.tetri_drawing.proofs.GatherLemmas.{Follows, err_same, follows_first, follows_on, not_long, not_strange, not_unended, nothing_ahead, shows_all, texts_from}
+use Rattle.tetri_drawing.proofs.GatherLemmas.{Follows, err_same, follows_first, follows_on, not_long, not_strange, not_unended, nothing_ahead, shows_all}
+use Rattle.tetri_report.proofs.ReportLaws.{texts_from}
 use Rattle.tetri_drawing.proofs.report.gather.Goals as goal
 
 pub lines-preserved : goal.lines-preserved

@@ -3,7 +3,8 @@ use Rattle.std.specs.Prelude.{Some}
 use Rattle.tetri_io.specs.LineReader.{IsAhead, place}
 use Rattle.tetri_state.specs.Reached.{IsReached, between}
 use Rattle.tetri_trace.specs.Scenario.{scenario}
-use Rattle.tetri_drawing.proofs.GatherLemmas.{Follows, texts_from}
+use Rattle.tetri_drawing.proofs.GatherLemmas.{Follows}
+use Rattle.tetri_report.proofs.ReportLaws.{texts_from}
 use Rattle.tetri_drawing.proofs.report.gather.Given as goal
 
 abbrev pub invariant-lines : goal.invariant-lines

@@ -1,5 +1,5 @@
 use Rattle.std.proofs.Common.{◌∙◌, ap, length, refl}
-use Rattle.tetri_state.proofs.BeginLemmas.{len_is}
+use Rattle.tetri_state.proofs.StateLaws.{len_is}
 use Rattle.tetri_trace.specs.Scenario.{scenario}
 use Rattle.tetri_drawing.specs.Framing.{framed}
 use Rattle.tetri_drawing.specs.Picture.{Picture}

@@ -2,7 +2,7 @@ use Rattle.std.proofs.Common.{map, drop, All, ◌+◌, ◌∙◌, ap, subst, sym
 use Rattle.tetri_judge.specs.Wasted.{first_wasted, lesser}
 use Rattle.tetri_space.specs.Sound.{IsSoundBid}
 use Rattle.tetri_space.specs.Space.{bid, space}
-use Rattle.tetri_space.proofs.BidLemmas.{bid_has}
+use Rattle.tetri_space.proofs.InstanceLaws.{bid_has}
 use Rattle.tetri_judge.proofs.WastedLemmas.{lesser-assoc, next_wasted}
 use Rattle.tetri_judge.proofs.wasted.wasted_by_jobs.Goals as goal
 

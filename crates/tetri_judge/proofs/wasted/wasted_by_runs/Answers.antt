@@ -6,7 +6,7 @@ use Rattle.tetri_strl.specs.declared.grants.Grant.{Grant}
 use Rattle.tetri_strl.specs.Tree.{tree}
 use Rattle.tetri_space.specs.Sound.{IsSoundBid}
 use Rattle.tetri_space.specs.Space.{Bid, bid, space}
-use Rattle.tetri_space.proofs.BidLemmas.{bid_has}
+use Rattle.tetri_space.proofs.InstanceLaws.{bid_has}
 use Rattle.tetri_judge.proofs.WastedLemmas.{IsAtRun, before_next, none_here, rest_next, seen_more, some_here, waste_within}
 use Rattle.tetri_judge.proofs.wasted.wasted_by_runs.Goals as goal
 

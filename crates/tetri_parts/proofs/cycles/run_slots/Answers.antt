@@ -4,8 +4,8 @@ use Rattle.tetri_state.specs.Reached.{IsReached, between}
 use Rattle.tetri_state.specs.Snapshot.{Snapshot}
 use Rattle.tetri_trace.specs.Scenario.{scenario}
 use Rattle.tetri_parts.specs.Progress.{StoppedInSlot}
-use Rattle.tetri_parts.specs.declared.cycles.RunTally.{RunTally}
-use Rattle.tetri_parts.specs.declared.stop.Stop.TheVariants.{Failed}
+use Rattle.tetri_report.specs.declared.tally.RunTally.{RunTally}
+use Rattle.tetri_report.specs.declared.send_fault.SendFault.TheVariants.{Failed}
 use Rattle.tetri_parts.proofs.RunLemmas.{now_behind, one_more_slot, run_reaches, stopped_in_slot, summary_is}
 use Rattle.tetri_parts.proofs.cycles.run_slots.Goals as goal
 

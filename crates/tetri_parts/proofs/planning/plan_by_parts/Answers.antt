@@ -1,4 +1,4 @@
-use Rattle.std.proofs.Common.{◌≡◌, ◌∙◌, ◌++◌, List, ℕ, ap, sym, subst}
+use Rattle.std.proofs.Common.{◌∙◌, ◌++◌, List, ℕ, ap, sym, subst}
 use Rattle.std.specs.Prelude.{flat_map}
 use Rattle.tetri_strl.specs.declared.grants.Grant.{Grant}
 use Rattle.tetri_space.specs.Space.{space}

@@ -1,4 +1,4 @@
-use Rattle.std.proofs.Common.{◌≡◌, ◌∙◌, ◌<◌, ◌++◌, [], List, ℕ, length, map, ap, refl, sym, subst, slice_index_or}
+use Rattle.std.proofs.Common.{◌∙◌, ◌<◌, ◌++◌, [], List, ℕ, length, map, ap, refl, sym, subst, slice_index_or}
 use Rattle.tetri_base.specs.Lists.{has}
 use Rattle.tetri_claims.specs.Good.{IsGood}
 use Rattle.tetri_plan.specs.Chosen.{IsChosen}

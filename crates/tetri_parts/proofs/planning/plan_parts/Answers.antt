@@ -1,4 +1,4 @@
-use Rattle.std.proofs.Common.{◌≡◌, ◌∙◌, ◌<◌, ◌++◌, ◌+◌, List, ℕ, ap, length, arith}
+use Rattle.std.proofs.Common.{◌∙◌, ◌<◌, ◌++◌, ◌+◌, List, ℕ, ap, length, arith}
 use Rattle.tetri_space.specs.Space.{space}
 use Rattle.tetri_trace.specs.Scenario.{scenario}
 use Rattle.tetri_parts.proofs.PlanLemmas.{all_parts, one_more_part}

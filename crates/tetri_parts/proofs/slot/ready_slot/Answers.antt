@@ -1,8 +1,8 @@
-use Rattle.std.proofs.Common.{◌≡◌, ◌∙◌, ◌++◌, ◌<◌, List, ℕ, All, length, map, ap, refl, sym, subst}
+use Rattle.std.proofs.Common.{◌≡◌, ◌∙◌, ◌++◌, ◌<◌, List, ℕ, All, length, ap, refl, sym, subst}
 use Rattle.tetri_report.specs.Printable.{AreJobs}
 use Rattle.tetri_report.specs.Text.{events_text, launches_text}
 use Rattle.tetri_space.specs.Space.{Bid, Space, space}
-use Rattle.tetri_state.specs.Begin.{Occurrences, occurrences, occurring}
+use Rattle.tetri_state.specs.Begin.{occurrences, occurring}
 use Rattle.tetri_state.specs.Known.{AreOfJobs}
 use Rattle.tetri_state.specs.Launch.{launched_in, starts_now, worth_launched}
 use Rattle.tetri_state.specs.Planning.{IsCarry, instance_at, instance_of}

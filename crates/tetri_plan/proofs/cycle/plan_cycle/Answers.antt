@@ -1,11 +1,11 @@
-use Rattle.std.proofs.Common.{◌≡◌, ◌≤◌, ◌∙◌, List, All, subst, sym, ap, arith}
+use Rattle.std.proofs.Common.{◌≤◌, ◌∙◌, List, All, subst, sym, ap, arith}
 use Rattle.std.proofs.lemmas.List.Elements.{All-contains}
 use Rattle.tetri_strl.specs.declared.grants.Grant.{Grant}
 use Rattle.tetri_space.specs.Lawful.{IsLawful}
 use Rattle.tetri_space.specs.Space.{space}
 use Rattle.tetri_space.specs.Total.{total_in}
 use Rattle.tetri_advice.specs.Sitting.{seats}
-use Rattle.tetri_advice.proofs.SeatLaws.{creeds_asked, creeds_taught, given_lawful, heard_each, heard_given, nobody_gives}
+use Rattle.tetri_advice.proofs.AdviceLaws.{creeds_asked, creeds_taught, given_lawful, heard_each, heard_given, nobody_gives}
 use Rattle.tetri_plan.specs.Chosen.{kept}
 use Rattle.tetri_plan.proofs.KeptLemmas.{carried_worth, given_bounds}
 use Rattle.tetri_plan.proofs.cycle.plan_cycle.Goals as goal

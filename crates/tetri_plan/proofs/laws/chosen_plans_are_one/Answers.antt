@@ -1,4 +1,4 @@
-use Rattle.tetri_plan.proofs.ChoiceLaws.{chosen_plans_are_one}
+use Rattle.tetri_plan.proofs.ChoiceLemmas.{chosen_plans_are_one}
 use Rattle.tetri_plan.proofs.laws.chosen_plans_are_one.Goals as goal
 
 pub returns : goal.returns

@@ -1,10 +1,10 @@
 use mathlib.Core.Path.{fun_ext}
-use Rattle.std.proofs.Common.{◌≡◌, ◌∙◌, Bool, List, ap, subst, sym, rules, of_calls}
+use Rattle.std.proofs.Common.{◌≡◌, ◌∙◌, Bool, List, ap, subst, rules, of_calls}
 use Rattle.std.specs.List.Sorted.{IsStableBy}
 use Rattle.std.specs.Ordering.{is_lt, nat_cmp}
 use Rattle.std.proofs.lemmas.Fn.{always_returns_same}
 use Rattle.std.proofs.lemmas.Result.{IfOk-weaker}
-use Rattle.tetri_base.proofs.KeyOrderLaws.{test_last}
+use Rattle.tetri_base.proofs.OrderLaws.{test_last}
 use Rattle.tetri_strl.specs.declared.grants.Grant.{Grant}
 use Rattle.tetri_space.specs.Space.{space}
 use Rattle.tetri_space.specs.Trimmed.{all_trimmed}

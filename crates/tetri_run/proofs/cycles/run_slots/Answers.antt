@@ -7,8 +7,8 @@ use Rattle.tetri_state.specs.Snapshot.{Snapshot}
 use Rattle.tetri_trace.specs.Scenario.{scenario}
 use Rattle.tetri_run.specs.Advised.{IsAdvice, IsAdvisedRun}
 use Rattle.tetri_run.specs.Progress.{StoppedInSlot}
-use Rattle.tetri_run.specs.declared.cycles.RunTally.{RunTally}
-use Rattle.tetri_run.specs.declared.halt.Halt.TheVariants.{WriteFault, NoMemory}
+use Rattle.tetri_report.specs.declared.tally.RunTally.{RunTally}
+use Rattle.tetri_report.specs.declared.send_fault.SendFault.TheVariants.{Failed, NoMemory}
 use Rattle.tetri_run.proofs.AdvisedLemmas.{advised_run, all_sit, ran_on, slot_heard, still_behind, stop_heard, stopped_at_first}
 use Rattle.tetri_run.proofs.RunLemmas.{no_slots, now_behind, one_more_slot, run_of, run_reaches, stopped_between, stopped_in_slot, summary_is}
 use Rattle.tetri_run.proofs.cycles.run_slots.Goals as goal
@@ -45,7 +45,7 @@ returns-in_err-slot-clause-failed g c =
     let number : c.loop-number.number ≡ old.now = omega (arith, ap (λ (s : Snapshot). s.now) v.ran.state, now_behind t v.ran.past, v.ran.as_many) in
     let still : StillSit first old.now sits = subst (λ n. StillSit first n sits) number v.still in
     let in_run : old.now < t.header.until = omega (arith, number, c.loop-number-test.true) in
-    let stop : IsErrOf c.from_residual-in_err-slot.result WriteFault → StoppedInSlot c.args.telling (IsAdvice sits before sat' now) t old (g.K.Sink.written c.loop-number.sink) (g.K.Sink.written c.run_slot.new.sink) =
+    let stop : IsErrOf c.from_residual-in_err-slot.result Failed → StoppedInSlot c.args.telling (IsAdvice sits before sat' now) t old (g.K.Sink.written c.loop-number.sink) (g.K.Sink.written c.run_slot.new.sink) =
     search rules in
     let ran = ran_on c.args.telling t first start c.loop-number.number old c.loop-number.tally before now _ _ c.in_err-slot.ensures.later_misses v.ran in
     λ e. stopped_in_slot c.args.telling (Heard first start now) (IsAdvisedRun first start now) t (advised_run t c.requires first start now) c.loop-number.number old c.loop-number.tally

@@ -1,8 +1,7 @@
-use Rattle.std.proofs.Common.{sym, ap, subst, inl, inr, ⊎_elim}
+use Rattle.std.proofs.Common.{sym, subst, inl, inr, ⊎_elim}
 use Rattle.std.specs.Prelude.{Contains}
-use Rattle.tetri_report.specs.BlockLines.{occurrences_in}
 use Rattle.tetri_state.specs.Begin.{Occurrences, begin, named}
-use Rattle.tetri_state.specs.Reached.{begun, between}
+use Rattle.tetri_state.specs.Reached.{between}
 use Rattle.tetri_trace.specs.Scenario.{scenario}
 use Rattle.tetri_run.specs.Run.{state_behind}
 use Rattle.tetri_run.proofs.RunLemmas.{run_begins, run_reaches}

@@ -1,6 +1,6 @@
 use Rattle.std.proofs.Common.{◌≡◌, ◌∙◌, ap, sym, subst, ◌<◌, length, All}
 use Rattle.tetri_advice.specs.Sitting.{seats}
-use Rattle.tetri_advice.proofs.SeatLaws.{given_lawful}
+use Rattle.tetri_advice.proofs.AdviceLaws.{given_lawful}
 use Rattle.tetri_claims.specs.Good.{BoundsEveryLawful}
 use Rattle.tetri_report.specs.Block.{block}
 use Rattle.tetri_space.specs.Space.{Bid, Space, space}

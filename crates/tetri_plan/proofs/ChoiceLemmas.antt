@@ -14,8 +14,8 @@ use Rattle.tetri_search.proofs.SearchLaws.{earned_trees_are_one}
 use Rattle.tetri_claims.specs.Certified.{IsBoundOf, IsCutShort, IsOfKind, counted_nodes}
 use Rattle.tetri_claims.specs.Good.{IsHonest}
 use Rattle.tetri_claims.specs.Planned.{Planned}
-use Rattle.tetri_claims.proofs.CertifiedLemmas.{one_bound, says_same}
-use Rattle.tetri_plan.specs.Chosen.{IsChosen, IsEarnedFor, kept, searched}
+use Rattle.tetri_claims.proofs.ClaimLaws.{one_bound, says_same}
+use Rattle.tetri_plan.specs.Chosen.{IsEarnedFor, kept, searched}
 use Rattle.tetri_plan.specs.Laws.{ChosenPlansAreOne}
 use Rattle.tetri_plan.specs.Searched.{mark_below, mark_for}
 use Rattle.tetri_plan.proofs.PlanLemmas.{by_eq}

@@ -1,0 +1,3 @@
+-- Laws that crates above cite.
+pub use Rattle.tetri_run.proofs.RunLemmas.{run_plans}
+pub use Rattle.tetri_run.proofs.TopLemmas.{same_scenario}
