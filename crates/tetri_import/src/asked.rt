@@ -1,6 +1,6 @@
 // The command line.
 use clap::{Arg, ArgMatches, Command, Error, value_parser};
-use std::alloc::Global;
+use std::alloc::{AllocError, Global};
 use tetri_logs::{Format, seconds_in};
 use tetri_placing::{Options, Worth};
 use tetri_request::Class;
@@ -38,16 +38,9 @@ fn choice<'a>(alloc: Global, name: &'a str, words: &'a [&'a str], help: &'a str)
         .help(help)
 }
 
-/// The command line of the program.
-pub fn command<'a>(alloc: Global) -> Result<Command<'a>, Error> {
-    let format = Arg::new(alloc, "format")
-        .required(true)
-        .value_parser(["swf", "sacct"].as_slice());
-    let log = Arg::new(alloc, "log").required(true);
-    let command = Command::new(alloc, "tetri_import")
-        .about("Writes the trace of an accounting log")
-        .arg(format)?
-        .arg(log)?
+// With what is asked of the cluster and of its cycles.
+fn with_cycles<'a>(alloc: Global, command: Command<'a>) -> Result<Command<'a>, AllocError> {
+    command
         .arg(number(alloc, "slot", "seconds of a slot [default: 300]"))?
         .arg(number(
             alloc,
@@ -64,7 +57,12 @@ pub fn command<'a>(alloc: Global) -> Result<Command<'a>, Error> {
             "window",
             "slots in which leaves may start [default: 16]",
         ))?
-        .arg(number(alloc, "budget", "nodes of a search tree [default: 200]"))?
+        .arg(number(alloc, "budget", "nodes of a search tree [default: 200]"))
+}
+
+// With what is asked of the jobs: which are taken, how long they may wait, and what they are worth.
+fn with_jobs<'a>(alloc: Global, command: Command<'a>) -> Result<Command<'a>, AllocError> {
+    command
         .arg(number(
             alloc,
             "unit",
@@ -89,8 +87,20 @@ pub fn command<'a>(alloc: Global) -> Result<Command<'a>, Error> {
             "class",
             &["steady", "decay"],
             "whether waiting costs",
-        ))?;
-    Ok(command)
+        ))
+}
+
+/// The command line of the program.
+pub fn command<'a>(alloc: Global) -> Result<Command<'a>, Error> {
+    let format = Arg::new(alloc, "format")
+        .required(true)
+        .value_parser(["swf", "sacct"].as_slice());
+    let log = Arg::new(alloc, "log").required(true);
+    let command = Command::new(alloc, "tetri_import")
+        .about("Writes the trace of an accounting log")
+        .arg(format)?
+        .arg(log)?;
+    Ok(with_jobs(alloc, with_cycles(alloc, command)?)?)
 }
 
 fn number_of(matches: &ArgMatches, name: &str) -> Option<u32> {

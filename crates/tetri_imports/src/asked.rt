@@ -22,56 +22,22 @@ const PLAIN: Options = Options {
 fn with_word(options: Options, word: &str) -> Options {
     let (key, value) = word.split_once('=').unwrap_or((word, ""));
     let number = value.parse::<u32>().unwrap_or(0);
+    let mut options = options;
     match key {
-        "slot" => Options {
-            slot: number,
-            ..options
-        },
-        "processors" => Options {
-            processors: Some(number),
-            ..options
-        },
-        "nodes" => Options {
-            nodes: Some(number),
-            ..options
-        },
-        "window" => Options {
-            window: number,
-            ..options
-        },
-        "budget" => Options {
-            budget: number,
-            ..options
-        },
-        "unit" => Options {
-            unit: number,
-            ..options
-        },
-        "from" => Options {
-            from: Some(number),
-            ..options
-        },
-        "to" => Options {
-            to: Some(number),
-            ..options
-        },
-        "jobs" => Options {
-            jobs: Some(number),
-            ..options
-        },
-        "slack" => Options {
-            slack: number,
-            ..options
-        },
-        "worth" => Options {
-            worth: Worth::Job,
-            ..options
-        },
-        _ => Options {
-            class: Class::Decay,
-            ..options
-        },
+        "slot" => options.slot = number,
+        "processors" => options.processors = Some(number),
+        "nodes" => options.nodes = Some(number),
+        "window" => options.window = number,
+        "budget" => options.budget = number,
+        "unit" => options.unit = number,
+        "from" => options.from = Some(number),
+        "to" => options.to = Some(number),
+        "jobs" => options.jobs = Some(number),
+        "slack" => options.slack = number,
+        "worth" => options.worth = Worth::Job,
+        _ => options.class = Class::Decay,
     }
+    options
 }
 
 /// What words ask for.

@@ -11,18 +11,18 @@ use Rattle.tetri_base.specs.Lists.{Each}
 use Rattle.tetri_base.proofs.ListLaws.{none_from, range_from}
 use Rattle.tetri_cluster.specs.declared.cluster.NodeText.{NodeText}
 use Rattle.tetri_cluster.specs.Names.{differ, is_among, is_name}
-use Rattle.tetri_cluster.specs.Sets.{AreSets}
+use Rattle.tetri_cluster.specs.Sets.{AreSets, HaveNodesBelow, with_set}
 use Rattle.tetri_space.specs.Closed.{IsSoundClosure}
 use Rattle.tetri_space.specs.declared.closure.Closure.{Closure}
 use Rattle.tetri_trace.specs.declared.trace.Event.{Event}
 use Rattle.tetri_notice.specs.declared.header.Header.{Header}
 use Rattle.tetri_trace.specs.Scenario.{Scenario, Submission, job_names}
 use Rattle.tetri_trace.specs.Sound.{IsSound, IsSoundSubmission, arrival_at}
-use Rattle.tetri_trace.proofs.SoundLaws.{header_sound, with_job_sound, with_sets_sound}
+use Rattle.tetri_trace.proofs.TraceLaws.{header_sound, with_job_sound, with_sets_sound}
 use Rattle.tetri_make.specs.declared.drawing.Drawn.{Drawn}
-use Rattle.tetri_make.specs.Generated.{EVEN, EVERY, GPU, ODD, arriving, draws_in, generated, job_name, made_of, next, node_at, sets_with, spaced, state_at, with_arriving, with_set}
+use Rattle.tetri_make.specs.Generated.{EVEN, EVERY, GPU, ODD, arriving, draws_in, generated, job_name, made_of, next, node_at, sets_with, spaced, state_at, with_arriving}
 use Rattle.tetri_make.proofs.NodeLemmas.{nodes_differ, nodes_named}
-use Rattle.tetri_make.proofs.RequestLemmas.{AreWithin, IsDrawn, request_fits, sets_more, sets_within}
+use Rattle.tetri_make.proofs.RequestLemmas.{IsDrawn, request_fits, sets_more, sets_within}
 
 abbrev pub header : Header
 header = record { window = 4; budget = 16; until = 32; unit = 1 }
@@ -81,14 +81,14 @@ spaced_within first step count bound h k d lt =
     let within : k < count = omega (arith, lt, length-map-range_with_len (λ i. first + i * step) 0 count) in
     subst (λ n. n < bound) (sym (get_or-map-range_with_len (λ i. first + i * step) 0 count k k d within (omega arith))) (h k within)
 
-module _ (sets : List (List ℕ)) (before : AreWithin 8 sets) where
-  two_within : (first other : List ℕ) → All (λ n. n < 8) first → All (λ n. n < 8) other → AreWithin 8 (with_set (with_set sets first) other)
+module _ (sets : List (List ℕ)) (before : HaveNodesBelow 8 sets) where
+  two_within : (first other : List ℕ) → All (λ n. n < 8) first → All (λ n. n < 8) other → HaveNodesBelow 8 (with_set (with_set sets first) other)
   two_within first other h k = sets_within (with_set sets first) other 8 k (sets_within sets first 8 h before)
 
-  within_eight : (d : Drawn) → AreWithin 8 (sets_with sets d)
+  within_eight : (d : Drawn) → HaveNodesBelow 8 (sets_with sets d)
   within_eight d = by_shape d.shape
     where
-      by_shape : (shape : ℕ) → AreWithin 8 (sets_with sets (record d { shape = shape }))
+      by_shape : (shape : ℕ) → HaveNodesBelow 8 (sets_with sets (record d { shape = shape }))
       by_shape zero = two_within GPU EVERY (spaced_within 0 1 4 8 (λ i lt. omega arith)) (spaced_within 0 1 8 8 (λ i lt. omega arith))
       by_shape (suc zero) = two_within EVEN ODD (spaced_within 0 2 4 8 (λ i lt. omega arith)) (spaced_within 1 2 4 8 (λ i lt. omega arith))
       by_shape (suc (suc shape)) = sets_within sets EVERY 8 (spaced_within 0 1 8 8 (λ i lt. omega arith)) before
@@ -122,9 +122,9 @@ module _ (s : Scenario) (slot : ℕ) (d : Drawn) (made : IsMade s slot) (early :
   until_is : s.header.until ≡ 32
   until_is = ap (λ (h : Header). h.until) made.header_is
 
-  within : AreWithin (length s.nodes) (sets_with s.sets d)
-  within = subst (λ (ns : List NodeText). AreWithin (length ns) (sets_with s.sets d)) (sym made.nodes)
-      (within_eight s.sets (subst (λ (ns : List NodeText). AreWithin (length ns) s.sets) made.nodes made.sound.known_nodes) d)
+  within : HaveNodesBelow (length s.nodes) (sets_with s.sets d)
+  within = subst (λ (ns : List NodeText). HaveNodesBelow (length ns) (sets_with s.sets d)) (sym made.nodes)
+      (within_eight s.sets (subst (λ (ns : List NodeText). HaveNodesBelow (length ns) s.sets) made.nodes made.sound.known_nodes) d)
 
   more_sets_sound : IsSound t
   more_sets_sound = with_sets_sound s (sets_with s.sets d) made.sound are few within (more_with s.sets d)

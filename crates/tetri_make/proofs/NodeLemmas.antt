@@ -8,8 +8,8 @@ use Rattle.std.proofs.lemmas.List.Elements.{All-from_recursion}
 use Rattle.std.proofs.lemmas.List.FromFn.{get_or-map-range_with_len, length-map-range_with_len, map-range_with_len_more}
 use Rattle.tetri_cluster.specs.Cluster.{names_of}
 use Rattle.tetri_cluster.specs.Names.{differ, is_name}
-use Rattle.tetri_cluster.specs.Sets.{is_known, set_added}
-use Rattle.tetri_make.specs.Generated.{node_at, number_in, spaced, with_set}
+use Rattle.tetri_cluster.specs.Sets.{is_known, set_added, with_set, number_in}
+use Rattle.tetri_make.specs.Generated.{node_at, spaced}
 
 -- the name of a node whose number has one digit
 abbrev short_name : ℕ → List ℕ

@@ -7,14 +7,10 @@ use Rattle.std.proofs.lemmas.List.Kept.{AllPairs-cons}
 use Rattle.tetri_strl.specs.declared.expr.Leaf.{Leaf}
 use Rattle.tetri_strl.specs.Tree.{one}
 use Rattle.tetri_strl.specs.WellMade.{IsGoodLeaf}
-use Rattle.tetri_cluster.specs.Sets.{has_nodes, is_known}
+use Rattle.tetri_cluster.specs.Sets.{HaveNodesBelow, has_nodes, is_known, with_set, number_in}
 use Rattle.tetri_trace.specs.Sound.{IsExpressionOver}
 use Rattle.tetri_make.specs.declared.drawing.Drawn.{Drawn}
-use Rattle.tetri_make.specs.Generated.{EVEN, EVERY, GPU, ODD, either_of, exact_leaf, number_in, request_of, sets_with, with_set}
-
--- the sets have nodes below a number alone
-abbrev pub AreWithin : ℕ → List (List ℕ) → Type 0
-AreWithin count sets = All (All (λ n. n < count)) sets
+use Rattle.tetri_make.specs.Generated.{EVEN, EVERY, GPU, ODD, either_of, exact_leaf, request_of, sets_with}
 
 -- where a test passes, an element at its first place is there
 place_below : {X : Type 0} (p : X → Bool) (xs : List X) → list_any p xs ≡ true → position_or_len p xs < length xs
@@ -49,10 +45,10 @@ module _ (sets : List (List ℕ)) (nodes : List ℕ) where
       by_known true = omega arith
       by_known false = omega (arith, length-append sets (nodes ∷ []))
 
-  pub sets_within : (count : ℕ) → All (λ n. n < count) nodes → AreWithin count sets → AreWithin count (with_set sets nodes)
+  pub sets_within : (count : ℕ) → All (λ n. n < count) nodes → HaveNodesBelow count sets → HaveNodesBelow count (with_set sets nodes)
   sets_within count here before = by_known (is_known nodes sets)
     where
-      by_known : (b : Bool) → AreWithin count (cond b sets (sets ++ nodes ∷ []))
+      by_known : (b : Bool) → HaveNodesBelow count (cond b sets (sets ++ nodes ∷ []))
       by_known true = before
       by_known false = All-push (All (λ n. n < count)) sets nodes before here
 

@@ -1,9 +1,9 @@
 -- The trace that is made from a number.
 use Rattle.std.specs.Prelude.{ℕ, zero, suc, ◌+◌, ◌*◌, ◌/◌, ◌%◌, ◌-ℤ◌, pos, List, [], ◌∷◌, ◌++◌, map, if◌then◌else◌, nat_lt, codes, decimal, false, true}
-use Rattle.std.specs.List.{position_or_len, range_with_len}
+use Rattle.std.specs.List.{range_with_len}
 use Rattle.tetri_strl.specs.declared.expr.Leaf.{Leaf}
 use Rattle.tetri_strl.specs.Tree.{Tree, one, join, greatest, none, more}
-use Rattle.tetri_cluster.specs.Sets.{has_nodes, is_known}
+use Rattle.tetri_cluster.specs.Sets.{number_in, with_set}
 use Rattle.tetri_cluster.specs.declared.cluster.NodeText.{NodeText}
 use Rattle.tetri_trace.specs.Lines.{with_job}
 use Rattle.tetri_trace.specs.Scenario.{Scenario, Submission, strl, without_events}
@@ -54,14 +54,6 @@ node_at i = record {
   name = codes "n" ++ decimal i;
   tags = (if nat_lt i 4 then codes "gpu" ∷ [] else []) ++ (codes "r" ++ decimal (i % 2)) ∷ [];
 }
-
--- sets with another one last, where it is new
-abbrev pub with_set : List (List ℕ) → List ℕ → List (List ℕ)
-with_set sets nodes = if is_known nodes sets then sets else sets ++ nodes ∷ []
-
--- the number that a set has, or gets where it is new
-abbrev pub number_in : List (List ℕ) → List ℕ → ℕ
-number_in sets nodes = position_or_len (has_nodes nodes) sets
 
 -- sets with those that a job's request names, in order
 abbrev pub sets_with : List (List ℕ) → Drawn → List (List ℕ)

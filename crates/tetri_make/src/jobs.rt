@@ -26,64 +26,60 @@ pub(crate) fn request(
     ensures sets { IfOk result (λ _. sets.new ≡ sets_with sets.old drawn.now) }
     ensures are_sets { IfOk result (λ _. AreSets sets.new × (length sets.new ≤ 4096)) }
 {
-    let Drawn {
-        shape,
-        nodes,
-        slots,
-        worth,
-        ..
-    } = *drawn;
-    let worth = u64::from(worth);
-    match shape {
-        0 => {
-            let first = exact(
-                0,
-                number_of(alloc, sets, GPU)?,
-                (nodes, slots),
-                slot,
-                2 * worth,
-            );
-            let second = exact(
-                1,
-                number_of(alloc, sets, EVERY)?,
-                (nodes, slots + 1),
-                slot,
-                worth,
-            );
-            either(alloc, first, second)
-        }
-        1 => {
-            let first = exact(
-                0,
-                number_of(alloc, sets, EVEN)?,
-                (nodes, slots),
-                slot,
-                worth,
-            );
-            let second = exact(
-                1,
-                number_of(alloc, sets, ODD)?,
-                (nodes, slots),
-                slot + 1,
-                worth,
-            );
-            either(alloc, first, second)
-        }
-        _ => {
-            let worth = u64::from(nodes) * worth;
-            let leaf = exact(
-                0,
-                number_of(alloc, sets, EVERY)?,
-                (nodes, slots),
-                slot + 1,
-                worth,
-            );
-            Ok(Expr::One(Leaf {
-                linear: true,
-                ..leaf
-            }))
-        }
+    match drawn.shape {
+        0 => gpu_or_any(alloc, sets, slot, drawn),
+        1 => even_or_odd(alloc, sets, slot, drawn),
+        _ => any_share(alloc, sets, slot, drawn),
     }
+}
+
+// Nodes with the tag gpu, or any for a slot longer and half the worth.
+fn gpu_or_any(alloc: Global, sets: &mut Sets, slot: u32, drawn: &Drawn) -> Result<Expr, AllocError>
+    requires shape { drawn.now.shape ≡ 0 }
+    requires slots { drawn.now.slots ≤ 3 }
+    ensures tree { IfOk result (λ e. tree e ≡ request_of sets.old slot drawn.now) }
+    ensures sets { IfOk result (λ _. sets.new ≡ sets_with sets.old drawn.now) }
+    ensures are_sets { IfOk result (λ _. AreSets sets.new × (length sets.new ≤ 4096)) }
+{
+    let worth = u64::from(drawn.worth);
+    let gpu = number_of(alloc, sets, GPU)?;
+    let every = number_of(alloc, sets, EVERY)?;
+    let first = exact(0, gpu, (drawn.nodes, drawn.slots), slot, 2 * worth);
+    let second = exact(1, every, (drawn.nodes, drawn.slots + 1), slot, worth);
+    either(alloc, first, second)
+}
+
+// Nodes of even number now, or of odd number a slot later.
+fn even_or_odd(alloc: Global, sets: &mut Sets, slot: u32, drawn: &Drawn) -> Result<Expr, AllocError>
+    requires shape { drawn.now.shape ≡ 1 }
+    requires early { slot < 32 }
+    ensures tree { IfOk result (λ e. tree e ≡ request_of sets.old slot drawn.now) }
+    ensures sets { IfOk result (λ _. sets.new ≡ sets_with sets.old drawn.now) }
+    ensures are_sets { IfOk result (λ _. AreSets sets.new × (length sets.new ≤ 4096)) }
+{
+    let worth = u64::from(drawn.worth);
+    let even = number_of(alloc, sets, EVEN)?;
+    let odd = number_of(alloc, sets, ODD)?;
+    let first = exact(0, even, (drawn.nodes, drawn.slots), slot, worth);
+    let second = exact(1, odd, (drawn.nodes, drawn.slots), slot + 1, worth);
+    either(alloc, first, second)
+}
+
+// Any nodes a slot later, each with its share of the worth.
+fn any_share(alloc: Global, sets: &mut Sets, slot: u32, drawn: &Drawn) -> Result<Expr, AllocError>
+    requires shape { 2 ≤ drawn.now.shape }
+    requires early { slot < 32 }
+    ensures tree { IfOk result (λ e. tree e ≡ request_of sets.old slot drawn.now) }
+    ensures sets { IfOk result (λ _. sets.new ≡ sets_with sets.old drawn.now) }
+    ensures are_sets { IfOk result (λ _. AreSets sets.new × (length sets.new ≤ 4096)) }
+{
+    let worth = u64::from(drawn.nodes) * u64::from(drawn.worth);
+    let every = number_of(alloc, sets, EVERY)?;
+    let leaf = exact(0, every, (drawn.nodes, drawn.slots), slot + 1, worth);
+    Ok(Expr::One(Leaf {
+        linear: true,
+        ..leaf
+    }))
 }
 
 // A leaf that wants exactly so many nodes.

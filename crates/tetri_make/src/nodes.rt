@@ -2,8 +2,8 @@
 ghost use Rattle.std.specs.Prelude.{◌≡◌, ◌<◌, ◌≤◌, length, map, true, IfOk};
 ghost use Rattle.std.specs.List.{range_with_len};
 ghost use Rattle.tetri_cluster.specs.Names.{is_name};
-ghost use Rattle.tetri_cluster.specs.Sets.{AreSets};
-ghost use Rattle.tetri_make.specs.Generated.{node_at, number_in, spaced, with_set};
+ghost use Rattle.tetri_cluster.specs.Sets.{AreSets, with_set, number_in};
+ghost use Rattle.tetri_make.specs.Generated.{node_at, spaced};
 
 use std::alloc::{AllocError, Global};
 use tetri_cluster::{Cluster, Name, NameList, NodeSet, NodeText, Sets};

@@ -1,6 +1,6 @@
 // A text that is read by any name.
 ghost use Rattle.std.specs.Prelude.{◌≡◌, ◌-◌, length, min};
-ghost use Rattle.tetri_io.specs.Shelf.{Gives};
+ghost use Rattle.tetri_io.specs.Shelf.{IsReadAt};
 
 use tetri_io::{Failed, Shelf};
 
@@ -13,7 +13,7 @@ pub(crate) struct TextShelf<'a> {
 // Copies bytes of a text from an offset on to the front of a buffer.
 fn copy_from(text: &[u8], offset: u64, buf: &mut [u8]) -> usize
     ensures count { result ≡ min (length buf.old) (length text.now - offset) }
-    ensures bytes { Gives text.now offset result buf.new }
+    ensures bytes { IsReadAt text.now offset result buf.new }
 {
     let offset = offset as usize;
     if text.len() <= offset {

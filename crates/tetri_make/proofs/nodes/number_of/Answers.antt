@@ -1,6 +1,7 @@
 use Rattle.std.proofs.Common.{◌≡◌, ℕ, ◌+◌, ◌*◌, List, [], ◌∷◌, ◌++◌, ap, sym, subst, ◌∙◌, arith}
 use Rattle.std.specs.List.Sorted.{IsStrictlyIncreasing}
-use Rattle.tetri_make.specs.Generated.{number_in, spaced}
+use Rattle.tetri_make.specs.Generated.{spaced}
+use Rattle.tetri_cluster.specs.Sets.{number_in}
 use Rattle.tetri_make.proofs.NodeLemmas.{added_number, spaced_ascends, spaced_more}
 use Rattle.tetri_make.proofs.nodes.number_of.Goals as goal
 
