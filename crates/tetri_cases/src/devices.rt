@@ -13,18 +13,20 @@ fn words_and_limits(row: &str) -> (&str, &str) {
     row.split_once("; ").unwrap_or((row, ""))
 }
 
-// Whether a block of a text begins with the line: a cycle is a block, and an answer, and the last line.
+// The words with which a block of a text begins: a cycle is a block, and an answer, and the last line.
+const BLOCKS: [&str; 7] = [
+    "cycle ",
+    "summary ",
+    "admitted ",
+    "refused ",
+    "undecided ",
+    "deep ",
+    "booked ",
+];
+
 fn begins_block(line: &str) -> bool {
-    for word in [
-        "cycle ",
-        "summary ",
-        "admitted ",
-        "refused ",
-        "undecided ",
-        "deep ",
-        "booked ",
-    ] {
-        if line.starts_with(word) {
+    for word in &BLOCKS {
+        if line.starts_with(*word) {
             return true;
         }
     }
@@ -70,6 +72,32 @@ fn is_front(text: &str, behind: usize, written: &str) -> bool {
     behind <= text.len() && &text.as_bytes()[..behind] == written.as_bytes()
 }
 
+// What a run writes and says of which the read of a number is refused.
+fn run_without_read(
+    alloc: Global,
+    given: &Given,
+    service: &mut Service<'_>,
+    words: &str,
+    number: u64,
+) -> Result<Outcome, AllocError> {
+    service.reads.clear();
+    service.reads.push(number)?;
+    run_words(alloc, given, service, words)
+}
+
+// The same of a write.
+fn run_without_write(
+    alloc: Global,
+    given: &Given,
+    service: &mut Service<'_>,
+    words: &str,
+    number: u64,
+) -> Result<Outcome, AllocError> {
+    service.writes.clear();
+    service.writes.push(number)?;
+    run_words(alloc, given, service, words)
+}
+
 // What differs where each read of a run is refused in turn: the run ends with a read fault and has written nothing, until it has no
 // further read and ends as one of which none is refused.
 fn read_told(
@@ -80,9 +108,7 @@ fn read_told(
 ) -> Result<String, AllocError> {
     let whole = run_words(alloc, given, service, words)?;
     for number in 1..MOST {
-        service.reads.clear();
-        service.reads.push(number)?;
-        let outcome = run_words(alloc, given, service, words)?;
+        let outcome = run_without_read(alloc, given, service, words, number)?;
         if outcome.said.as_str() != "read fault" {
             return ended_told(alloc, &whole, &outcome, number);
         }
@@ -103,9 +129,7 @@ fn write_told(
     let width = service.write_most;
     let whole = run_words(alloc, given, service, words)?;
     for number in 1..MOST {
-        service.writes.clear();
-        service.writes.push(number)?;
-        let outcome = run_words(alloc, given, service, words)?;
+        let outcome = run_without_write(alloc, given, service, words, number)?;
         let text = whole.written.as_str();
         let behind = bytes_behind(text, width, number - 1);
         if outcome.said.as_str() != "write fault" {
@@ -139,6 +163,28 @@ fn ended_told(
     format!(in alloc; "each, then {}", last.said)
 }
 
+fn reads_told(
+    alloc: Global,
+    given: &Given,
+    advisors: &str,
+    row: &str,
+) -> Result<String, AllocError> {
+    let (words, limits) = words_and_limits(row);
+    let mut service = Service::of(alloc, advisors, limits)?;
+    read_told(alloc, given, &mut service, words)
+}
+
+fn writes_told(
+    alloc: Global,
+    given: &Given,
+    advisors: &str,
+    row: &str,
+) -> Result<String, AllocError> {
+    let (words, limits) = words_and_limits(row);
+    let mut service = Service::of(alloc, advisors, limits)?;
+    write_told(alloc, given, &mut service, words)
+}
+
 /// Rows `WORDS; LIMITS`: each read of the run of the words with these advisors is refused in turn.
 pub fn each_read(
     alloc: Global,
@@ -148,9 +194,7 @@ pub fn each_read(
     body: &str,
 ) -> Result<(), AllocError> {
     for row in body.lines() {
-        let (words, limits) = words_and_limits(row);
-        let mut service = Service::of(alloc, advisors, limits)?;
-        let found = read_told(alloc, given, &mut service, words)?;
+        let found = reads_told(alloc, given, advisors, row)?;
         tally.expect(row, found.as_str(), "each, then ")?;
     }
     Ok(())
@@ -165,9 +209,7 @@ pub fn each_write(
     body: &str,
 ) -> Result<(), AllocError> {
     for row in body.lines() {
-        let (words, limits) = words_and_limits(row);
-        let mut service = Service::of(alloc, advisors, limits)?;
-        let found = write_told(alloc, given, &mut service, words)?;
+        let found = writes_told(alloc, given, advisors, row)?;
         tally.expect(row, found.as_str(), "each, then ")?;
     }
     Ok(())
@@ -178,6 +220,18 @@ fn cut_told(alloc: Global, given: &mut Given, trace: &[u8]) -> Result<String, Al
     given.trace = String::from_str(alloc, str::from_utf8(trace).unwrap_or(""))?;
     let outcome = run_words(alloc, given, &Service::new(alloc, ""), "plan trace")?;
     format!(in alloc; "{}{}", outcome.written, outcome.said)
+}
+
+fn expect_cut(
+    alloc: Global,
+    given: &mut Given,
+    tally: &mut Tally,
+    trace: &[u8],
+    line: u64,
+) -> Result<(), AllocError> {
+    let found = cut_told(alloc, given, trace)?;
+    let wanted = format!(in alloc; "bad trace: line {line}: not-json")?;
+    tally.expect("a trace that is cut", found.as_str(), wanted.as_str())
 }
 
 // Whether the byte at this place is the last of its line.
@@ -200,9 +254,7 @@ pub fn each_cut(alloc: Global, given: &mut Given, tally: &mut Tally) -> Result<(
         if *byte == b'\n' {
             line = line.saturating_add(1);
         } else if !ends_line(bytes, place) {
-            let found = cut_told(alloc, given, &bytes[..place + 1])?;
-            let wanted = format!(in alloc; "bad trace: line {line}: not-json")?;
-            tally.expect("a trace that is cut", found.as_str(), wanted.as_str())?;
+            expect_cut(alloc, given, tally, &bytes[..place + 1], line)?;
         }
     }
     given.trace = whole;

@@ -95,6 +95,33 @@ fn said_of(alloc: Global, status: &Status) -> Result<String, AllocError> {
     }
 }
 
+fn shelf_of(alloc: Global, given: &Given, service: &Service<'_>) -> Result<MemShelf, AllocError> {
+    let mut shelf = MemShelf::new(alloc, service.read_most, &service.reads)?;
+    shelf.put("trace", given.trace.as_bytes())?;
+    shelf.put("report", given.report.as_bytes())?;
+    Ok(shelf)
+}
+
+fn outcome_of(alloc: Global, sink: &MemSink, status: &Status) -> Result<Outcome, AllocError> {
+    let written = text_of(alloc, sink.written())?;
+    let said = said_of(alloc, status)?;
+    Ok(Outcome { written, said })
+}
+
+// Runs the words with this panel.
+fn run_with(
+    alloc: Global,
+    given: &Given,
+    service: &Service<'_>,
+    words: &[String],
+    panel: &mut Panel,
+) -> Result<Outcome, AllocError> {
+    let mut shelf = shelf_of(alloc, given, service)?;
+    let mut sink = MemSink::new(alloc, service.write_most, service.room, &service.writes)?;
+    let status = run(alloc, words, &mut shelf, &mut sink, panel);
+    outcome_of(alloc, &sink, &status)
+}
+
 /// Runs the words with the advisors that are named, in this order: `deadline` and `worth`.
 pub fn run_words(
     alloc: Global,
@@ -104,29 +131,23 @@ pub fn run_words(
 ) -> Result<Outcome, AllocError> {
     let mut panel = Panel::new(alloc);
     for name in service.advisors.split(',') {
-        if name == "deadline" {
-            let one: Box<dyn Advisor> = Box::new(alloc, ByDeadline::new())?;
-            if panel.seat(one).is_err() {
-                return Err(AllocError);
+        let is_seated = match name {
+            "deadline" => {
+                let one: Box<dyn Advisor> = Box::new(alloc, ByDeadline::new())?;
+                panel.seat(one).is_ok()
             }
-        }
-        if name == "worth" {
-            let one: Box<dyn Advisor> = Box::new(alloc, ByWorth::new())?;
-            if panel.seat(one).is_err() {
-                return Err(AllocError);
+            "worth" => {
+                let one: Box<dyn Advisor> = Box::new(alloc, ByWorth::new())?;
+                panel.seat(one).is_ok()
             }
+            _ => true,
+        };
+        if !is_seated {
+            return Err(AllocError);
         }
     }
-    let mut shelf = MemShelf::new(alloc, service.read_most, &service.reads)?;
-    shelf.put("trace", given.trace.as_bytes())?;
-    shelf.put("report", given.report.as_bytes())?;
-    let mut sink = MemSink::new(alloc, service.write_most, service.room, &service.writes)?;
     let words = words_of(alloc, line)?;
-    let status = run(alloc, words.as_slice(), &mut shelf, &mut sink, &mut panel);
-    Ok(Outcome {
-        written: text_of(alloc, sink.written())?,
-        said: said_of(alloc, &status)?,
-    })
+    run_with(alloc, given, service, words.as_slice(), &mut panel)
 }
 
 // What a run with these advisors writes and says, one behind the other.
@@ -220,6 +241,32 @@ pub fn forged(
     Ok(())
 }
 
+// Adds a text with `|` for a line feed.
+fn add_barred(out: &mut String, text: &str) -> Result<(), AllocError> {
+    for line in text.split_inclusive('\n') {
+        match line.strip_suffix('\n') {
+            Some(line) => write!(out, "{line}|")?,
+            None => out.push_str(line)?,
+        }
+    }
+    Ok(())
+}
+
+// What a run of `WORDS; WORD NUMBER; ..` says and writes.
+fn failing_told(
+    alloc: Global,
+    given: &Given,
+    advisors: &str,
+    how: &str,
+) -> Result<String, AllocError> {
+    let (words, limits) = how.split_once("; ").unwrap_or((how, ""));
+    let service = Service::of(alloc, advisors, limits)?;
+    let outcome = run_words(alloc, given, &service, words)?;
+    let mut found = format!(in alloc; "{}; ", outcome.said)?;
+    add_barred(&mut found, outcome.written.as_str())?;
+    Ok(found)
+}
+
 /// Rows `WORDS; WORD NUMBER; .. => SAID; WRITTEN`: what a run of the words with these advisors says and writes, with `|` for a line
 /// feed, where reads and writes of these numbers fail.
 pub fn failing(
@@ -231,54 +278,51 @@ pub fn failing(
 ) -> Result<(), AllocError> {
     for row in body.lines() {
         let (how, wanted) = halves(row);
-        let (words, limits) = how.split_once("; ").unwrap_or((how, ""));
-        let service = Service::of(alloc, advisors, limits)?;
-        let outcome = run_words(alloc, given, &service, words)?;
-        let mut found = format!(in alloc; "{}; ", outcome.said)?;
-        for line in outcome.written.as_str().split_inclusive('\n') {
-            match line.strip_suffix('\n') {
-                Some(line) => write!(found, "{line}|")?,
-                None => found.push_str(line)?,
-            }
-        }
+        let found = failing_told(alloc, given, advisors, how)?;
         tally.expect(row, found.as_str(), wanted)?;
     }
     Ok(())
 }
 
+const FIELDS: [Field; 25] = [
+    Field::Nodes,
+    Field::Window,
+    Field::Budget,
+    Field::Until,
+    Field::Unit,
+    Field::Closures,
+    Field::At,
+    Field::Arrive,
+    Field::Cancel,
+    Field::Drain,
+    Field::Undrain,
+    Field::Fail,
+    Field::Late,
+    Field::Strl,
+    Field::Ask,
+    Field::K,
+    Field::Set,
+    Field::Dur,
+    Field::Value,
+    Field::Deadline,
+    Field::Prefer,
+    Field::PreferSet,
+    Field::PreferDur,
+    Field::Class,
+    Field::Elastic,
+];
+
+// What is said of a field that is missing.
+fn missing_told(alloc: Global, field: Field) -> Result<String, AllocError> {
+    let why = TraceWhy::MissingField(field);
+    said_of(alloc, &Status::BadTrace { line: 1, why })
+}
+
 /// What is said where there is no memory, and then of each field that may be missing, one in each line.
 pub fn words(alloc: Global, tally: &mut Tally, body: &str) -> Result<(), AllocError> {
-    let fields = [
-        Field::Nodes,
-        Field::Window,
-        Field::Budget,
-        Field::Until,
-        Field::Unit,
-        Field::Closures,
-        Field::At,
-        Field::Arrive,
-        Field::Cancel,
-        Field::Drain,
-        Field::Undrain,
-        Field::Fail,
-        Field::Late,
-        Field::Strl,
-        Field::Ask,
-        Field::K,
-        Field::Set,
-        Field::Dur,
-        Field::Value,
-        Field::Deadline,
-        Field::Prefer,
-        Field::PreferSet,
-        Field::PreferDur,
-        Field::Class,
-        Field::Elastic,
-    ];
     let mut found = said_of(alloc, &Status::NoMemory)?;
-    for field in fields {
-        let why = TraceWhy::MissingField(field);
-        let line = said_of(alloc, &Status::BadTrace { line: 1, why })?;
+    for field in &FIELDS {
+        let line = missing_told(alloc, *field)?;
         write!(found, "\n{line}")?;
     }
     tally.expect("words", found.as_str(), body)
@@ -303,14 +347,20 @@ fn status_of(number: u8) -> Status {
     }
 }
 
+// The exit number of a status, with what goes to the sink of errors.
+fn ending_told(alloc: Global, status: &Status) -> Result<String, AllocError> {
+    let mut errors = MemSink::new(alloc, 7, 1000, &[])?;
+    let exit = conclude(alloc, status, &mut errors);
+    let said = text_of(alloc, errors.written())?;
+    format!(in alloc; "{exit} {}", said.as_str().trim_end_matches('\n'))
+}
+
 /// The exit number of each status with what goes to the sink of errors then, one in each line.
 pub fn endings(alloc: Global, tally: &mut Tally, body: &str) -> Result<(), AllocError> {
     let mut found = String::new(alloc);
     for number in 0u8..7 {
-        let mut errors = MemSink::new(alloc, 7, 1000, &[])?;
-        let exit = conclude(alloc, &status_of(number), &mut errors);
-        let said = text_of(alloc, errors.written())?;
-        write!(found, "{exit} {}\n", said.as_str().trim_end_matches('\n'))?;
+        let line = ending_told(alloc, &status_of(number))?;
+        write!(found, "{line}\n")?;
     }
     tally.expect("endings", found.as_str().trim_end_matches('\n'), body)
 }

@@ -3,6 +3,52 @@ use crate::{devices, runs};
 use std::alloc::{AllocError, Global};
 use tetri_tables::{Given, Tally, expand_text, sections_of};
 
+// A plan whose report has repetitions.
+fn made_plan(
+    alloc: Global,
+    given: &mut Given,
+    tally: &mut Tally,
+    advisors: &str,
+    body: &str,
+) -> Result<(), AllocError> {
+    let body = expand_text(alloc, body)?;
+    let body = body.as_str().trim_end_matches('\n');
+    runs::plan(alloc, given, tally, advisors, body)
+}
+
+// The same of what a run of the words writes.
+fn made_run(
+    alloc: Global,
+    given: &Given,
+    tally: &mut Tally,
+    words: &str,
+    body: &str,
+) -> Result<(), AllocError> {
+    let body = expand_text(alloc, body)?;
+    let body = body.as_str().trim_end_matches('\n');
+    runs::made(alloc, given, tally, words, body)
+}
+
+fn judge_faults(
+    alloc: Global,
+    given: &mut Given,
+    tally: &mut Tally,
+    word: &str,
+    more: &str,
+    body: &str,
+) -> Result<(), AllocError> {
+    match word {
+        "forged" => runs::forged(alloc, given, tally, body),
+        "failing" => runs::failing(alloc, given, tally, more, body),
+        "each read" => devices::each_read(alloc, given, tally, more, body),
+        "each write" => devices::each_write(alloc, given, tally, more, body),
+        "each cut" => devices::each_cut(alloc, given, tally),
+        "words" => runs::words(alloc, tally, body),
+        "endings" => runs::endings(alloc, tally, body),
+        _ => tally.expect("a section", word, "a known kind"),
+    }
+}
+
 fn judge_section(
     alloc: Global,
     given: &mut Given,
@@ -16,36 +62,12 @@ fn judge_section(
     let (word, more) = kind.split_once(": ").unwrap_or((kind, ""));
     match word {
         "plan" => runs::plan(alloc, given, tally, more, body),
-        "made plan" => {
-            let body = expand_text(alloc, body)?;
-            runs::plan(
-                alloc,
-                given,
-                tally,
-                more,
-                body.as_str().trim_end_matches('\n'),
-            )
-        }
-        "made parts" => {
-            let body = expand_text(alloc, body)?;
-            let body = body.as_str().trim_end_matches('\n');
-            runs::made(alloc, given, tally, "parts trace", body)
-        }
-        "made admit" => {
-            let body = expand_text(alloc, body)?;
-            let body = body.as_str().trim_end_matches('\n');
-            runs::made(alloc, given, tally, "admit trace", body)
-        }
+        "made plan" => made_plan(alloc, given, tally, more, body),
+        "made parts" => made_run(alloc, given, tally, "parts trace", body),
+        "made admit" => made_run(alloc, given, tally, "admit trace", body),
         "no plan" => runs::no_plan(alloc, given, tally, more),
         "check" => runs::check(alloc, given, tally, more),
-        "forged" => runs::forged(alloc, given, tally, body),
-        "failing" => runs::failing(alloc, given, tally, more, body),
-        "each read" => devices::each_read(alloc, given, tally, more, body),
-        "each write" => devices::each_write(alloc, given, tally, more, body),
-        "each cut" => devices::each_cut(alloc, given, tally),
-        "words" => runs::words(alloc, tally, body),
-        "endings" => runs::endings(alloc, tally, body),
-        _ => tally.expect("a section", kind, "a known kind"),
+        _ => judge_faults(alloc, given, tally, word, more, body),
     }
 }
 

@@ -7,6 +7,8 @@ use crate::reading::{number_in, point_in, row_in, weights_in};
 use std::alloc::{AllocError, Global};
 use tetri_cuts::{CutFault, Tight, breaks, cut, tighten};
 use tetri_ip::{Program, Row, Weight};
+use tetri_num::Past;
+use tetri_tables::debug_text;
 
 fn row_told(out: &mut String, row: &Row) -> Result<(), AllocError> {
     for term in &row.terms {
@@ -41,6 +43,15 @@ fn cut_told(alloc: Global, p: &Program, text: &str) -> Result<String, AllocError
     Ok(out)
 }
 
+fn past_told(alloc: Global, past: &Past) -> Result<String, AllocError> {
+    let op = debug_text(alloc, &past.op)?;
+    let (left, right) = (past.left, past.right);
+    format!(in alloc;
+        "past {op} {}/{} {}/{}",
+        left.num, left.den, right.num, right.den
+    )
+}
+
 fn breaks_told(alloc: Global, text: &str) -> Result<String, AllocError> {
     let (row, point) = text.split_once(" by ").unwrap_or((text, ""));
     let row = row_in(alloc, row)?;
@@ -50,13 +61,7 @@ fn breaks_told(alloc: Global, text: &str) -> Result<String, AllocError> {
     }
     match breaks(&row, &point) {
         Ok(broken) => format!(in alloc; "{broken}"),
-        Err(past) => {
-            let (left, right) = (past.left, past.right);
-            format!(in alloc;
-                "past {:?} {}/{} {}/{}",
-                past.op, left.num, left.den, right.num, right.den
-            )
-        }
+        Err(past) => past_told(alloc, &past),
     }
 }
 

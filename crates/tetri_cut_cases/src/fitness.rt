@@ -1,8 +1,8 @@
 // Whether what a table gives is what the calls require.
 ghost use Rattle.std.specs.Prelude.{◌≡◌, ℕ, ◌+◌, ◌<◌, ◌^◌, ◌-ℤ◌, All, length, true};
-ghost use Rattle.tetri_ip.specs.ColumnIndex.{WeightsAscend};
-ghost use Rattle.tetri_ip.specs.Points.{AreWithin, IsBelow, IsFit, IsFitRow, IsWithin, column_at, cost_reach, number_at, reach, right_of, size_at, term_at, terms_of};
-ghost use Rattle.tetri_ip.specs.Weighed.{AreNotNegative, AreOfRows};
+ghost use Rattle.tetri_ip.specs.Points.{NumbersWithin, IsBelow, IsFit, IsFitRow, column_at, cost_reach, number_at, reach, right_of, size_at, term_at, terms_of};
+ghost use Rattle.tetri_algebra.specs.Range.{IsWithin};
+ghost use Rattle.tetri_ip.specs.Weighed.{AreNotNegative, AreOfRows, WeightsAscend};
 ghost use Rattle.tetri_cuts.specs.Cuts.{HasNoNegativeBound};
 
 use tetri_ip::{Program, Row, Term, Weight};
@@ -105,9 +105,9 @@ fn are_columns(p: &Program) -> bool
     requires upper { length p.now.upper.items ≡ length p.now.costs.items }
     ensures lower { result ≡ true → HasNoNegativeBound p.now }
     ensures ordered { result ≡ true → IsBelow (length p.now.costs.items) p.now.lower.items p.now.upper.items }
-    ensures costs_within { result ≡ true → AreWithin p.now.costs.items }
-    ensures lower_within { result ≡ true → AreWithin p.now.lower.items }
-    ensures upper_within { result ≡ true → AreWithin p.now.upper.items }
+    ensures costs_within { result ≡ true → NumbersWithin p.now.costs.items }
+    ensures lower_within { result ≡ true → NumbersWithin p.now.lower.items }
+    ensures upper_within { result ≡ true → NumbersWithin p.now.upper.items }
     ensures widths { result ≡ true → (k : ℕ) → k < length p.now.costs.items → IsWithin (number_at p.now.upper.items k -ℤ number_at p.now.lower.items k) }
 {
     for k in 0..p.costs.len() {

@@ -1,5 +1,5 @@
 // Programs, rows, weights and points of texts.
-ghost use Rattle.tetri_num.specs.Range.{IsWithin};
+ghost use Rattle.tetri_algebra.specs.Range.{IsWithin};
 
 use std::alloc::{AllocError, Global};
 use tetri_ip::{Program, Row, Term, Weight};

@@ -10,12 +10,14 @@ ghost use Rattle.tetri_trace.specs.Scenario.{scenario};
 ghost use Rattle.tetri_trace.specs.Sound.{IsSound};
 
 use std::alloc::{AllocError, Global};
-use tetri_advice::{Advisor, PanelOf};
-use tetri_plan::plan_cycle;
+use tetri_advice::{Advice, Advisor, PanelOf};
+use tetri_plan::{Plan, plan_cycle};
 use tetri_space::Instance;
 use tetri_state::State;
 use tetri_strl::Allotment;
-use tetri_tables::{Tally, expand_text, grants_in, grants_told, halves, launch, plan_of};
+use tetri_tables::{
+    Tally, add_debug, expand_text, grants_in, grants_told, halves, launch, plan_of,
+};
 use tetri_trace::Trace;
 
 /// Who sits: how many, the strikes of each in seating order, and how often one was missed.
@@ -36,6 +38,16 @@ fn heard_told(out: &mut String, heard: &[bool]) -> Result<(), AllocError> {
     Ok(())
 }
 
+fn advice_told(alloc: Global, advice: &Advice) -> Result<String, AllocError> {
+    let mut out = String::new(alloc);
+    heard_told(&mut out, &advice.heard)?;
+    for given in &advice.given {
+        let grants = grants_told(alloc, given.as_slice())?;
+        write!(out, " [{grants}]")?;
+    }
+    Ok(out)
+}
+
 // Asks the panel, and tells who was heard and which lists were given.
 fn consulted<A: Advisor>(
     alloc: Global,
@@ -45,13 +57,7 @@ fn consulted<A: Advisor>(
     requires { IsSoundSpace (space inst.now) }
 {
     let advice = panel.consult(alloc, inst)?;
-    let mut out = String::new(alloc);
-    heard_told(&mut out, &advice.heard)?;
-    for given in &advice.given {
-        let grants = grants_told(alloc, given.as_slice())?;
-        write!(out, " [{grants}]")?;
-    }
-    Ok(out)
+    advice_told(alloc, &advice)
 }
 
 // Teaches the panel these grants, and tells who sits then.
@@ -68,6 +74,21 @@ fn taught<A: Advisor>(
     seats_told(alloc, panel)
 }
 
+fn add_numbers(out: &mut String, plan: &Plan) -> Result<(), AllocError> {
+    write!(out, "{} {} {} ", plan.low, plan.value, plan.bound)?;
+    add_debug(out, &plan.mark)?;
+    write!(out, " {} ", plan.nodes)
+}
+
+fn plan_told(alloc: Global, plan: &Plan) -> Result<String, AllocError> {
+    let mut out = String::new(alloc);
+    add_numbers(&mut out, plan)?;
+    heard_told(&mut out, &plan.heard)?;
+    let grants = grants_told(alloc, plan.grants.as_slice())?;
+    write!(out, " [{grants}]")?;
+    Ok(out)
+}
+
 // Plans the cycle with the panel, and tells of the plan.
 fn planned<A: Advisor>(
     alloc: Global,
@@ -82,12 +103,7 @@ fn planned<A: Advisor>(
 {
     let budget = budget.parse::<u32>().unwrap_or(1);
     let plan = plan_cycle(alloc, inst, carry, panel, budget)?;
-    let (low, value, bound) = (plan.low, plan.value, plan.bound);
-    let mut out = format!(in alloc; "{low} {value} {bound} {:?} {} ", plan.mark, plan.nodes)?;
-    heard_told(&mut out, &plan.heard)?;
-    let grants = grants_told(alloc, plan.grants.as_slice())?;
-    write!(out, " [{grants}]")?;
-    Ok(out)
+    plan_told(alloc, &plan)
 }
 
 fn told<A: Advisor>(
@@ -111,6 +127,25 @@ fn told<A: Advisor>(
     }
 }
 
+fn expect_row<A: Advisor>(
+    alloc: Global,
+    tally: &mut Tally,
+    inst: &Instance,
+    carry: &Allotment,
+    panel: &mut PanelOf<A>,
+    row: &str,
+) -> Result<(), AllocError>
+    requires sound { IsSoundSpace (space inst.now) }
+    requires lawful { IsLawful (space inst.now) carry.now }
+    requires thrifty { IsThriftyForAll (space inst.now) carry.now }
+{
+    let (what, wanted) = halves(row);
+    let what = expand_text(alloc, what)?;
+    let found = told(alloc, inst, carry, panel, what.as_str())?;
+    let wanted = expand_text(alloc, wanted)?;
+    tally.expect(row, found.as_str(), wanted.as_str())
+}
+
 // The rows of a cycle but for those of its plan.
 fn expect_rows<A: Advisor>(
     alloc: Global,
@@ -125,12 +160,8 @@ fn expect_rows<A: Advisor>(
     requires thrifty { IsThriftyForAll (space inst.now) carry.now }
 {
     for row in rows.lines() {
-        let (what, wanted) = halves(row);
-        if !what.starts_with("plan ") {
-            let what = expand_text(alloc, what)?;
-            let found = told(alloc, inst, carry, panel, what.as_str())?;
-            let wanted = expand_text(alloc, wanted)?;
-            tally.expect(row, found.as_str(), wanted.as_str())?;
+        if !row.starts_with("plan ") {
+            expect_row(alloc, tally, inst, carry, panel, row)?;
         }
     }
     Ok(())

@@ -1,7 +1,7 @@
 // What runs write.
 use std::alloc::{AllocError, Global};
 use tetri_io::{MemShelf, MemSink};
-use tetri_run::{Status, run_check};
+use tetri_run::{run_check, say};
 use tetri_tables::Tally;
 
 // The text of bytes.
@@ -12,16 +12,20 @@ fn text_of(alloc: Global, bytes: &[u8]) -> Result<String, AllocError> {
     }
 }
 
-// What a check of the report against the trace writes, and how it ends where it is not done.
-fn checked(alloc: Global, trace: &str, report: &[u8]) -> Result<String, AllocError> {
+fn shelf_of(alloc: Global, trace: &str, report: &[u8]) -> Result<MemShelf, AllocError> {
     let mut shelf = MemShelf::new(alloc, 4000, &[])?;
     shelf.put("trace", trace.as_bytes())?;
     shelf.put("report", report)?;
+    Ok(shelf)
+}
+
+// What a check of the report against the trace writes, and what is said where it is not done.
+fn checked(alloc: Global, trace: &str, report: &[u8]) -> Result<String, AllocError> {
+    let mut shelf = shelf_of(alloc, trace, report)?;
     let mut sink = MemSink::new(alloc, 7, 1000, &[])?;
-    match run_check(alloc, "trace", "report", &mut shelf, &mut sink) {
-        Status::Done => text_of(alloc, sink.written()),
-        status => format!(in alloc; "{status:?}"),
-    }
+    let status = run_check(alloc, "trace", "report", &mut shelf, &mut sink);
+    let _ = say(alloc, &status, &mut sink);
+    text_of(alloc, sink.written())
 }
 
 // What a check writes of a report that it accepts.

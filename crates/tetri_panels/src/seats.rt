@@ -21,12 +21,95 @@ pub enum Trial<'a> {
     Run(&'a str),
 }
 
+// An advisor that a line names.
+#[derive(Drop)]
+enum Named {
+    Deadline,
+    Worth,
+    Repeat,
+    UntoldDeadline,
+    UntoldWorth,
+    ForgetfulDeadline(Vec<bool>),
+    ForgetfulWorth(Vec<bool>),
+    Scripted(Scripted),
+    Nobody,
+}
+
+// The advisor of a line that goes on with turns or steps.
+fn advisor_by_turns(alloc: Global, word: &str, more: &str) -> Result<Named, AllocError> {
+    match word {
+        "forgetful deadline" => Ok(Named::ForgetfulDeadline(turns_in(alloc, more)?)),
+        "forgetful worth" => Ok(Named::ForgetfulWorth(turns_in(alloc, more)?)),
+        "taught" | "asked" => {
+            let steps = steps_in(alloc, more)?;
+            let one = Scripted::new(alloc, steps, word == "asked")?;
+            Ok(Named::Scripted(one))
+        }
+        _ => Ok(Named::Nobody),
+    }
+}
+
+fn advisor_of(alloc: Global, line: &str) -> Result<Named, AllocError> {
+    let (word, more) = line.split_once(": ").unwrap_or((line, ""));
+    match word {
+        "deadline" => Ok(Named::Deadline),
+        "worth" => Ok(Named::Worth),
+        "repeat" => Ok(Named::Repeat),
+        "untold deadline" => Ok(Named::UntoldDeadline),
+        "untold worth" => Ok(Named::UntoldWorth),
+        _ => advisor_by_turns(alloc, word, more),
+    }
+}
+
 // Boxes an advisor and seats it; whether there was a seat.
 macro_rules! seated {
     ($panel:ident, $alloc:ident, $one:expr) => {{
         let one: Box<dyn Advisor> = Box::new($alloc, $one)?;
         $panel.seat(one).is_ok()
     }};
+}
+
+fn try_rows(
+    alloc: Global,
+    tally: &mut Tally,
+    trace: &str,
+    panel: &mut Panel,
+    rows: &str,
+) -> Result<(), AllocError> {
+    match answer(alloc, trace.as_bytes())? {
+        Ok(trace) => cycles(alloc, tally, &trace, panel, rows),
+        Err(_) => tally.expect("a trace", "refused", "read"),
+    }
+}
+
+// Whether the whole trace is planned, and its report written.
+fn is_planned(
+    alloc: Global,
+    trace: &str,
+    panel: &mut Panel,
+    sink: &mut MemSink,
+) -> Result<bool, AllocError> {
+    let mut shelf = MemShelf::new(alloc, 64, &[])?;
+    shelf.put("trace", trace.as_bytes())?;
+    match run_plan(alloc, "trace", &mut shelf, sink, panel) {
+        Status::Done => Ok(true),
+        _ => Ok(false),
+    }
+}
+
+fn try_run(
+    alloc: Global,
+    tally: &mut Tally,
+    trace: &str,
+    panel: &mut Panel,
+    report: &str,
+) -> Result<(), AllocError> {
+    let mut sink = MemSink::new(alloc, 7, 4_000_000, &[])?;
+    if !is_planned(alloc, trace, panel, &mut sink)? {
+        return tally.expect(trace, "another end", "done");
+    }
+    let sits = seats_told(alloc, panel)?;
+    expect_report(alloc, tally, trace, sink.written(), sits.as_str(), report)
 }
 
 /// Seats an advisor for each line of the text, and tries the panel on the trace. The advisors are `deadline`, `worth`, `repeat`,
@@ -41,47 +124,27 @@ pub fn try_panel(
 ) -> Result<(), AllocError> {
     let mut panel = Panel::new(alloc);
     for line in seats.lines() {
-        let (word, more) = line.split_once(": ").unwrap_or((line, ""));
-        let is_seated = match word {
-            "deadline" => seated!(panel, alloc, ByDeadline::new()),
-            "worth" => seated!(panel, alloc, ByWorth::new()),
-            "repeat" => seated!(panel, alloc, Repeat::new(alloc)),
-            "untold deadline" => seated!(panel, alloc, Untold::new(ByDeadline::new())),
-            "untold worth" => seated!(panel, alloc, Untold::new(ByWorth::new())),
-            "forgetful deadline" => {
-                let turns = turns_in(alloc, more)?;
+        let is_seated = match advisor_of(alloc, line)? {
+            Named::Deadline => seated!(panel, alloc, ByDeadline::new()),
+            Named::Worth => seated!(panel, alloc, ByWorth::new()),
+            Named::Repeat => seated!(panel, alloc, Repeat::new(alloc)),
+            Named::UntoldDeadline => seated!(panel, alloc, Untold::new(ByDeadline::new())),
+            Named::UntoldWorth => seated!(panel, alloc, Untold::new(ByWorth::new())),
+            Named::ForgetfulDeadline(turns) => {
                 seated!(panel, alloc, Forgetful::new(ByDeadline::new(), turns))
             }
-            "forgetful worth" => {
-                let turns = turns_in(alloc, more)?;
+            Named::ForgetfulWorth(turns) => {
                 seated!(panel, alloc, Forgetful::new(ByWorth::new(), turns))
             }
-            "taught" | "asked" => {
-                let steps = steps_in(alloc, more)?;
-                let one = Scripted::new(alloc, steps, word == "asked")?;
-                seated!(panel, alloc, one)
-            }
-            _ => false,
+            Named::Scripted(one) => seated!(panel, alloc, one),
+            Named::Nobody => false,
         };
         if !is_seated {
             tally.expect(line, "no seat", "a seat")?;
         }
     }
     match trial {
-        Trial::Rows(rows) => match answer(alloc, trace.as_bytes())? {
-            Ok(trace) => cycles(alloc, tally, &trace, &mut panel, rows),
-            Err(_) => tally.expect("a trace", "refused", "read"),
-        },
-        Trial::Run(report) => {
-            let mut shelf = MemShelf::new(alloc, 64, &[])?;
-            shelf.put("trace", trace.as_bytes())?;
-            let mut sink = MemSink::new(alloc, 7, 4_000_000, &[])?;
-            let status = run_plan(alloc, "trace", &mut shelf, &mut sink, &mut panel);
-            if status != Status::Done {
-                return tally.expect(trace, "another end", "done");
-            }
-            let sits = seats_told(alloc, &panel)?;
-            expect_report(alloc, tally, trace, sink.written(), sits.as_str(), report)
-        }
+        Trial::Rows(rows) => try_rows(alloc, tally, trace, &mut panel, rows),
+        Trial::Run(report) => try_run(alloc, tally, trace, &mut panel, report),
     }
 }

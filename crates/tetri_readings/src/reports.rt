@@ -4,8 +4,8 @@ ghost use Rattle.std.specs.Prelude.{◌≤◌, ◌+◌};
 use std::alloc::{AllocError, Global};
 use tetri_cert::{Certificate, print_onto};
 use tetri_report::{Blocks, Cycle, ReportFault};
-use tetri_state::PieceId;
-use tetri_tables::{Given, Tally, answer, halves, replaced};
+use tetri_state::{Happened, PieceId};
+use tetri_tables::{Given, Tally, add_debug, answer, debug_text, halves, replaced};
 use tetri_trace::Trace;
 
 fn add_pieces(out: &mut String, word: &str, pieces: &[PieceId]) -> Result<(), AllocError> {
@@ -20,6 +20,19 @@ fn add_jobs(out: &mut String, word: &str, jobs: &[u32]) -> Result<(), AllocError
         write!(out, " {word} {job}")?;
     }
     Ok(())
+}
+
+fn add_happened(out: &mut String, happened: &Happened) -> Result<(), AllocError> {
+    add_pieces(out, "end", &happened.ended)?;
+    add_jobs(out, "cancel", &happened.cancelled)?;
+    add_jobs(out, "fail", &happened.failed)?;
+    add_pieces(out, "over", &happened.over)?;
+    add_jobs(out, "expire", &happened.expired)
+}
+
+fn add_plan(out: &mut String, cycle: &Cycle) -> Result<(), AllocError> {
+    let (value, bound, mark, nodes) = (cycle.value, cycle.bound, cycle.mark, cycle.nodes);
+    write!(out, " plan {value} {bound} {mark} {nodes}")
 }
 
 fn add_grants(out: &mut String, cycle: &Cycle) -> Result<(), AllocError> {
@@ -44,32 +57,95 @@ fn add_certificate(
     Ok(())
 }
 
-// What a cycle says, by the numbers of jobs and nodes.
+// Adds what a cycle says, by the numbers of jobs and nodes.
+fn add_cycle(alloc: Global, out: &mut String, cycle: &Cycle) -> Result<(), AllocError> {
+    write!(out, "cycle {}", cycle.number)?;
+    add_happened(out, &cycle.happened)?;
+    add_plan(out, cycle)?;
+    add_grants(out, cycle)?;
+    add_certificate(alloc, out, &cycle.certificate)?;
+    add_jobs(out, "launch", &cycle.launched)
+}
+
 fn cycle_told(alloc: Global, cycle: &Cycle) -> Result<String, AllocError> {
-    let mut out = format!(in alloc; "cycle {}", cycle.number)?;
-    add_pieces(&mut out, "end", &cycle.happened.ended)?;
-    add_jobs(&mut out, "cancel", &cycle.happened.cancelled)?;
-    add_jobs(&mut out, "fail", &cycle.happened.failed)?;
-    add_pieces(&mut out, "over", &cycle.happened.over)?;
-    add_jobs(&mut out, "expire", &cycle.happened.expired)?;
-    let (value, bound, mark, nodes) = (cycle.value, cycle.bound, cycle.mark, cycle.nodes);
-    write!(out, " plan {value} {bound} {mark} {nodes}")?;
-    add_grants(&mut out, cycle)?;
-    add_certificate(alloc, &mut out, &cycle.certificate)?;
-    add_jobs(&mut out, "launch", &cycle.launched)?;
+    let mut out = String::new(alloc);
+    add_cycle(alloc, &mut out, cycle)?;
     Ok(out)
 }
 
-// What one line more answers.
-fn told(alloc: Global, trace: &Trace, blocks: &mut Blocks, line: &str) -> Result<String, AllocError>
+/// What one line more answers.
+pub fn fed(trace: &Trace, blocks: &mut Blocks, line: &str) -> Result<Option<Cycle>, ReportFault>
+    requires { blocks.old.lines ≤ 100000 }
+    ensures { blocks.new.lines ≤ blocks.old.lines + 1 }
+{
+    blocks.feed(trace, line.as_bytes())
+}
+
+fn told(alloc: Global, answer: Result<Option<Cycle>, ReportFault>) -> Result<String, AllocError> {
+    match answer {
+        Ok(Some(cycle)) => cycle_told(alloc, &cycle),
+        Ok(None) => String::from_str(alloc, "-"),
+        Err(fault) => debug_text(alloc, &fault),
+    }
+}
+
+fn expect_line(
+    alloc: Global,
+    tally: &mut Tally,
+    trace: &Trace,
+    blocks: &mut Blocks,
+    row: &str,
+) -> Result<(), AllocError>
     requires { blocks.old.lines ≤ 1000 }
     ensures { blocks.new.lines ≤ blocks.old.lines + 1 }
 {
-    match blocks.feed(trace, line.as_bytes()) {
-        Ok(Some(cycle)) => cycle_told(alloc, &cycle),
-        Ok(None) => String::from_str(alloc, "-"),
-        Err(fault) => format!(in alloc; "{fault:?}"),
+    let (line, wanted) = row.split_once(" => ").unwrap_or((row, ""));
+    let found = told(alloc, fed(trace, blocks, line))?;
+    tally.expect(row, found.as_str(), wanted)
+}
+
+// The report behind these rows; none where a row stands behind the summary.
+fn report_of(
+    alloc: Global,
+    tally: &mut Tally,
+    trace: &Trace,
+    rows: &str,
+) -> Result<Option<Blocks>, AllocError> {
+    let mut blocks = Blocks::new(alloc);
+    let mut count = 0u64;
+    for row in rows.lines() {
+        if count == 1000 || blocks.summary().is_some() {
+            tally.expect(row, "a summary", "none so far")?;
+            return Ok(None);
+        }
+        count += 1;
+        expect_line(alloc, tally, trace, &mut blocks, row)?;
     }
+    Ok(Some(blocks))
+}
+
+// The summary as it is read, and as the whole answers it.
+fn end_told(alloc: Global, blocks: Blocks) -> Result<String, AllocError> {
+    let summary = blocks.summary();
+    let end = blocks.finish();
+    let mut out = debug_text(alloc, &summary)?;
+    out.push_str(" ")?;
+    add_debug(&mut out, &end)?;
+    Ok(out)
+}
+
+fn expect_report(
+    alloc: Global,
+    tally: &mut Tally,
+    trace: &Trace,
+    body: &str,
+) -> Result<(), AllocError> {
+    let (rows, last) = body.rsplit_once('\n').unwrap_or(("", body));
+    let Some(blocks) = report_of(alloc, tally, trace, rows)? else {
+        return Ok(());
+    };
+    let found = end_told(alloc, blocks)?;
+    tally.expect("the end", found.as_str(), last)
 }
 
 /// Rows `LINE => TOLD`, the lines of one report over the trace: a cycle once it is whole, and `-` before. The last row is
@@ -80,25 +156,17 @@ pub fn lines(
     tally: &mut Tally,
     body: &str,
 ) -> Result<(), AllocError> {
-    let Ok(trace) = answer(alloc, given.trace.as_bytes())? else {
-        return tally.expect("a trace", "refused", "read");
-    };
-    let (rows, last) = body.rsplit_once('\n').unwrap_or(("", body));
-    let mut blocks = Blocks::new(alloc);
-    let mut count = 0u64;
-    for row in rows.lines() {
-        let (line, wanted) = row.split_once(" => ").unwrap_or((row, ""));
-        if count == 1000 || blocks.summary().is_some() {
-            return tally.expect(row, "a summary", "none so far");
-        }
-        count += 1;
-        let found = told(alloc, &trace, &mut blocks, line)?;
-        tally.expect(row, found.as_str(), wanted)?;
+    match answer(alloc, given.trace.as_bytes())? {
+        Ok(trace) => expect_report(alloc, tally, &trace, body),
+        Err(_) => tally.expect("a trace", "refused", "read"),
     }
-    let summary = blocks.summary();
-    let end = blocks.finish();
-    let found = format!(in alloc; "{summary:?} {end:?}")?;
-    tally.expect("the end", found.as_str(), last)
+}
+
+fn refusal_told(alloc: Global, fault: ReportFault) -> Result<String, AllocError> {
+    match fault {
+        ReportFault::Malformed(line) => format!(in alloc; "{line}"),
+        ReportFault::NoMemory => String::from_str(alloc, "no memory"),
+    }
 }
 
 // Where a report is refused, whose lines stand between slashes.
@@ -110,7 +178,7 @@ fn refusal(alloc: Global, trace: &Trace, report: &str) -> Result<String, AllocEr
             return String::from_str(alloc, "too many lines");
         }
         count += 1;
-        if let Err(fault) = blocks.feed(trace, line.as_bytes()) {
+        if let Err(fault) = fed(trace, &mut blocks, line) {
             return refusal_told(alloc, fault);
         }
     }
@@ -120,11 +188,20 @@ fn refusal(alloc: Global, trace: &Trace, report: &str) -> Result<String, AllocEr
     }
 }
 
-fn refusal_told(alloc: Global, fault: ReportFault) -> Result<String, AllocError> {
-    match fault {
-        ReportFault::Malformed(line) => format!(in alloc; "{line}"),
-        ReportFault::NoMemory => String::from_str(alloc, "no memory"),
+fn expect_changes(
+    alloc: Global,
+    tally: &mut Tally,
+    trace: &Trace,
+    report: &str,
+    body: &str,
+) -> Result<(), AllocError> {
+    for row in body.lines() {
+        let (change, wanted) = halves(row);
+        let report = replaced(alloc, report, change)?;
+        let found = refusal(alloc, trace, report.as_str())?;
+        tally.expect(row, found.as_str(), wanted)?;
     }
+    Ok(())
 }
 
 /// Rows `OLD => NEW => LINE`: where the report is refused with OLD replaced, or `read`. Its lines stand between slashes.
@@ -134,15 +211,9 @@ pub fn changed_reports(
     tally: &mut Tally,
     body: &str,
 ) -> Result<(), AllocError> {
-    let Ok(trace) = answer(alloc, given.trace.as_bytes())? else {
-        return tally.expect("a trace", "refused", "read");
-    };
     let report = given.report.as_str().trim_end_matches('\n');
-    for row in body.lines() {
-        let (change, wanted) = halves(row);
-        let report = replaced(alloc, report, change)?;
-        let found = refusal(alloc, &trace, report.as_str())?;
-        tally.expect(row, found.as_str(), wanted)?;
+    match answer(alloc, given.trace.as_bytes())? {
+        Ok(trace) => expect_changes(alloc, tally, &trace, report, body),
+        Err(_) => tally.expect("a trace", "refused", "read"),
     }
-    Ok(())
 }

@@ -1,17 +1,22 @@
 // Traces that are read, and that are refused at their first faulty line.
 use std::alloc::{AllocError, Global};
-use tetri_tables::{Given, Tally, answer, expand, halves, replaced, tell_expr, worded};
-use tetri_trace::{Trace, TraceFault, Work, job_of};
+use tetri_cluster::{Cluster, Sets};
+use tetri_tables::{Given, Tally, add_debug, answer, expand, halves, replaced, tell_expr};
+use tetri_trace::{Event, Job, Trace, TraceFault, TraceWhy, Work, job_of};
+
+// The number of a line, and what is wrong there.
+fn cause_told(alloc: Global, line: u64, why: TraceWhy) -> Result<String, AllocError> {
+    let mut out = format!(in alloc; "{line}: ")?;
+    why.print_onto(&mut out)?;
+    Ok(out)
+}
 
 // The words of a fault: its line and its cause.
 fn fault_told(alloc: Global, fault: TraceFault) -> Result<String, AllocError> {
     match fault {
-        TraceFault::Bad { line, why } => {
-            let why = format!(in alloc; "{why:?}")?;
-            let words = worded(alloc, why.as_str())?;
-            format!(in alloc; "{line}: {words}")
-        }
-        _ => format!(in alloc; "{fault:?}"),
+        TraceFault::Bad { line, why } => cause_told(alloc, line, why),
+        TraceFault::Read => String::from_str(alloc, "read fault"),
+        TraceFault::NoMemory => String::from_str(alloc, "no memory"),
     }
 }
 
@@ -20,6 +25,23 @@ fn told(alloc: Global, content: &[u8]) -> Result<String, AllocError> {
         Ok(_) => String::from_str(alloc, "read"),
         Err(fault) => fault_told(alloc, fault),
     }
+}
+
+// The header, the job, or the line itself.
+fn line_of<'t>(given: &'t Given, text: &'t str) -> &'t str {
+    match text.trim() {
+        "H" => given.header.as_str(),
+        "J" => given.job.as_str(),
+        line => line,
+    }
+}
+
+fn content_of(alloc: Global, given: &Given, lines: &str) -> Result<String, AllocError> {
+    let mut content = String::new(alloc);
+    for part in lines.split('/') {
+        write!(content, "{}\n", line_of(given, part))?;
+    }
+    Ok(content)
 }
 
 /// Rows `LINES => TOLD`: what is told of these lines, with ` / ` between them, where H is the header and J the job.
@@ -31,19 +53,17 @@ pub fn first_faults(
 ) -> Result<(), AllocError> {
     for row in body.lines() {
         let (lines, wanted) = halves(row);
-        let mut content = String::new(alloc);
-        for part in lines.split('/') {
-            let line = match part.trim() {
-                "H" => given.header.as_str(),
-                "J" => given.job.as_str(),
-                other => other,
-            };
-            write!(content, "{line}\n")?;
-        }
+        let content = content_of(alloc, given, lines)?;
         let found = told(alloc, content.as_bytes())?;
         tally.expect(row, found.as_str(), wanted)?;
     }
     Ok(())
+}
+
+// What is told of a header and a job.
+fn both_told(alloc: Global, header: &str, job: &str) -> Result<String, AllocError> {
+    let content = format!(in alloc; "{header}\n{job}\n")?;
+    told(alloc, content.as_bytes())
 }
 
 /// Rows `OLD => NEW => TOLD`: what is told of the header, with OLD replaced, and the job.
@@ -56,8 +76,7 @@ pub fn changed_headers(
     for row in body.lines() {
         let (change, wanted) = halves(row);
         let header = replaced(alloc, given.header.as_str(), change)?;
-        let content = format!(in alloc; "{header}\n{}\n", given.job)?;
-        let found = told(alloc, content.as_bytes())?;
+        let found = both_told(alloc, header.as_str(), given.job.as_str())?;
         tally.expect(row, found.as_str(), wanted)?;
     }
     Ok(())
@@ -73,8 +92,7 @@ pub fn changed_jobs(
     for row in body.lines() {
         let (change, wanted) = halves(row);
         let job = replaced(alloc, given.job.as_str(), change)?;
-        let content = format!(in alloc; "{}\n{job}\n", given.header)?;
-        let found = told(alloc, content.as_bytes())?;
+        let found = both_told(alloc, given.header.as_str(), job.as_str())?;
         tally.expect(row, found.as_str(), wanted)?;
     }
     Ok(())
@@ -91,44 +109,87 @@ pub fn contents(alloc: Global, tally: &mut Tally, body: &str) -> Result<(), Allo
     Ok(())
 }
 
-fn tell_nodes(out: &mut String, trace: &Trace) -> Result<(), AllocError> {
-    write!(out, "{:?}\nnodes", trace.header)?;
-    for node in 0..trace.cluster.count() {
-        write!(out, " {}", trace.cluster.name_of(node).text())?;
+fn tell_names(out: &mut String, cluster: &Cluster) -> Result<(), AllocError> {
+    out.push_str("\nnodes")?;
+    for node in 0..cluster.count() {
+        write!(out, " {}", cluster.name_of(node).text())?;
     }
-    for set in 0..trace.sets.len() {
-        let nodes = trace.sets.nodes_of(set).as_slice();
+    Ok(())
+}
+
+fn tell_sets(out: &mut String, sets: &Sets) -> Result<(), AllocError> {
+    for set in 0..sets.len() {
+        let nodes = sets.nodes_of(set).as_slice();
         write!(out, "\nset {nodes:?}")?;
     }
     Ok(())
 }
 
-fn tell_jobs(out: &mut String, trace: &Trace) -> Result<(), AllocError> {
+fn tell_work(out: &mut String, work: &Work) -> Result<(), AllocError> {
+    match work {
+        Work::Strl(e) => tell_expr(out, e),
+        Work::Asked(ask) => add_debug(out, ask),
+    }
+}
+
+fn tell_job(out: &mut String, job: &Job) -> Result<(), AllocError> {
+    let name = job.name.text();
+    write!(out, "\njob {name} at {} late {} ", job.arrival, job.late)?;
+    tell_work(out, &job.work)
+}
+
+fn tell_event(out: &mut String, event: &Event) -> Result<(), AllocError> {
+    write!(out, "\n{} ", event.at)?;
+    add_debug(out, &event.what)
+}
+
+fn tell_trace(out: &mut String, trace: &Trace) -> Result<(), AllocError> {
+    add_debug(out, &trace.header)?;
+    tell_names(out, &trace.cluster)?;
+    tell_sets(out, &trace.sets)?;
     for job in trace.jobs.as_slice() {
-        let name = job.name.text();
-        write!(out, "\njob {name} at {} late {} ", job.arrival, job.late)?;
-        match &job.work {
-            Work::Strl(e) => tell_expr(out, e)?,
-            Work::Asked(ask) => write!(out, "{ask:?}")?,
-        }
+        tell_job(out, job)?;
     }
     for event in &trace.events {
-        write!(out, "\n{} {:?}", event.at, event.what)?;
+        tell_event(out, event)?;
     }
     Ok(())
 }
 
+fn trace_told(alloc: Global, trace: &Trace) -> Result<String, AllocError> {
+    let mut out = String::new(alloc);
+    tell_trace(&mut out, trace)?;
+    Ok(out)
+}
+
 /// The text is what the trace says, by the numbers of nodes, sets and jobs.
 pub fn read(alloc: Global, given: &Given, tally: &mut Tally, body: &str) -> Result<(), AllocError> {
-    let mut found = String::new(alloc);
-    match answer(alloc, given.trace.as_bytes())? {
-        Ok(trace) => {
-            tell_nodes(&mut found, &trace)?;
-            tell_jobs(&mut found, &trace)?;
-        }
-        Err(fault) => found = fault_told(alloc, fault)?,
-    }
+    let found = match answer(alloc, given.trace.as_bytes())? {
+        Ok(trace) => trace_told(alloc, &trace)?,
+        Err(fault) => fault_told(alloc, fault)?,
+    };
     tally.expect("a trace", found.as_str(), body)
+}
+
+fn job_told(alloc: Global, trace: &Trace, name: &str) -> Result<String, AllocError> {
+    match job_of(trace, name.as_bytes()) {
+        Some(job) => format!(in alloc; "{job}"),
+        None => String::from_str(alloc, "none"),
+    }
+}
+
+fn expect_jobs(
+    alloc: Global,
+    tally: &mut Tally,
+    trace: &Trace,
+    body: &str,
+) -> Result<(), AllocError> {
+    for row in body.lines() {
+        let (name, wanted) = halves(row);
+        let found = job_told(alloc, trace, name)?;
+        tally.expect(row, found.as_str(), wanted)?;
+    }
+    Ok(())
 }
 
 /// Rows `NAME => NUMBER`: the number of the job of the trace that has the name.
@@ -138,16 +199,8 @@ pub fn found_jobs(
     tally: &mut Tally,
     body: &str,
 ) -> Result<(), AllocError> {
-    let Ok(trace) = answer(alloc, given.trace.as_bytes())? else {
-        return tally.expect("a trace", "refused", "read");
-    };
-    for row in body.lines() {
-        let (name, wanted) = halves(row);
-        let found = match job_of(&trace, name.as_bytes()) {
-            Some(job) => format!(in alloc; "{job}")?,
-            None => String::from_str(alloc, "none")?,
-        };
-        tally.expect(row, found.as_str(), wanted)?;
+    match answer(alloc, given.trace.as_bytes())? {
+        Ok(trace) => expect_jobs(alloc, tally, &trace, body),
+        Err(_) => tally.expect("a trace", "refused", "read"),
     }
-    Ok(())
 }

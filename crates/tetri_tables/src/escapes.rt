@@ -15,31 +15,31 @@ fn digit(byte: u8) -> u8
 
 const BLANKS: [u8; 1000] = [b' '; 1000];
 
-// The bytes of an escape, put in, and what stands behind it. An escape is b, n, t, r or x with two digits.
-fn put_escape<'t>(out: &mut Vec<u8>, text: &'t [u8]) -> Result<&'t [u8], AllocError> {
+// Puts in the byte that two digits behind an x say, and gives what stands behind them.
+fn put_digits<'t>(out: &mut Vec<u8>, text: &'t [u8]) -> Result<&'t [u8], AllocError> {
     match text {
-        [b'b', rest @ ..] => {
-            out.extend_from_slice(&BLANKS)?;
-            Ok(rest)
-        }
-        [b'n', rest @ ..] => {
-            out.push(b'\n')?;
-            Ok(rest)
-        }
-        [b't', rest @ ..] => {
-            out.push(b'\t')?;
-            Ok(rest)
-        }
-        [b'r', rest @ ..] => {
-            out.push(b'\r')?;
-            Ok(rest)
-        }
-        [b'x', high, low, rest @ ..] => {
+        [_, high, low, rest @ ..] => {
             out.push(16 * digit(*high) + digit(*low))?;
             Ok(rest)
         }
         _ => Ok(text),
     }
+}
+
+// The bytes of an escape, put in, and what stands behind it. An escape is b, n, t, r or x with two digits.
+fn put_escape<'t>(out: &mut Vec<u8>, text: &'t [u8]) -> Result<&'t [u8], AllocError> {
+    let Some((letter, rest)) = text.split_first() else {
+        return Ok(text);
+    };
+    match *letter {
+        b'b' => out.extend_from_slice(&BLANKS)?,
+        b'n' => out.push(b'\n')?,
+        b't' => out.push(b'\t')?,
+        b'r' => out.push(b'\r')?,
+        b'x' => return put_digits(out, text),
+        _ => return Ok(text),
+    }
+    Ok(rest)
 }
 
 fn put_escaped(out: &mut Vec<u8>, text: &str) -> Result<(), AllocError> {

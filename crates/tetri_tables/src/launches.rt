@@ -14,7 +14,7 @@ use crate::grants::{grants_in, grants_told};
 use crate::tallies::{Tally, halves};
 use std::alloc::{AllocError, Global};
 use tetri_space::{Instance, lawful};
-use tetri_state::State;
+use tetri_state::{Prepared, State};
 use tetri_strl::{Allotment, waste};
 use tetri_trace::Trace;
 
@@ -41,6 +41,22 @@ pub fn plan_of(rows: &str) -> (&str, &str) {
     ("", "[]")
 }
 
+// Expects these jobs to be launched, and the last plan to be the text of the grants.
+fn expect_launch(
+    alloc: Global,
+    tally: &mut Tally,
+    prepared: &Prepared,
+    grants: &str,
+    text: &str,
+    wanted: &str,
+) -> Result<(), AllocError> {
+    let launched = format!(in alloc; "{:?}", prepared.launched())?;
+    let wanted = expand_text(alloc, wanted)?;
+    tally.expect(grants, launched.as_str(), wanted.as_str())?;
+    let kept = grants_told(alloc, prepared.grants().as_slice())?;
+    tally.expect("the last plan", kept.as_str(), text)
+}
+
 /// Launches what these grants plan, and expects these jobs to be launched; both may have repetitions. Grants that are not lawful, or not thrifty, are told as a
 /// difference, and end the table.
 pub fn launch(
@@ -65,11 +81,7 @@ pub fn launch(
         return Err(AllocError);
     }
     let prepared = state.prepare(alloc, trace, inst, &plan)?;
-    let launched = format!(in alloc; "{:?}", prepared.launched())?;
-    let wanted = expand_text(alloc, wanted)?;
-    tally.expect(grants, launched.as_str(), wanted.as_str())?;
-    let kept = grants_told(alloc, prepared.grants().as_slice())?;
-    tally.expect("the last plan", kept.as_str(), text.as_str())?;
+    expect_launch(alloc, tally, &prepared, grants, text.as_str(), wanted)?;
     state.apply(prepared);
     Ok(())
 }

@@ -3,20 +3,20 @@
 
 mod edits;
 mod escapes;
-mod faults;
 mod grants;
 mod launches;
 mod readings;
 mod sections;
 mod tallies;
+mod texts;
 mod trees;
 
 pub use edits::{edited, replaced};
 pub use escapes::{expand, expand_text};
-pub use faults::worded;
 pub use grants::{grants_in, grants_told, nodes_told};
 pub use launches::{launch, plan_of};
 pub use readings::answer;
 pub use sections::{Given, sections_of};
 pub use tallies::{Tally, halves};
-pub use trees::tell_expr;
+pub use texts::{add_debug, debug_text, text_of};
+pub use trees::{expr_told, tell_expr};

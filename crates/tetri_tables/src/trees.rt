@@ -1,5 +1,5 @@
 // Expressions by the numbers of their leaves and sets.
-use std::alloc::AllocError;
+use std::alloc::{AllocError, Global};
 use tetri_strl::{Expr, Leaf};
 
 fn tell_leaf(out: &mut String, leaf: &Leaf) -> Result<(), AllocError> {
@@ -48,4 +48,11 @@ pub fn tell_expr(out: &mut String, e: &Expr) -> Result<(), AllocError> {
             write!(out, ", {least})")
         }
     }
+}
+
+/// What an expression says, as text.
+pub fn expr_told(alloc: Global, e: &Expr) -> Result<String, AllocError> {
+    let mut out = String::new(alloc);
+    tell_expr(&mut out, e)?;
+    Ok(out)
 }

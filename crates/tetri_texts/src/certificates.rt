@@ -2,17 +2,19 @@
 use std::alloc::{AllocError, Global};
 use tetri_base::Items;
 use tetri_cert::{Certificate, Mark, count_nodes, print, print_mark, read_mark};
-use tetri_tables::{Tally, expand, expand_text};
+use tetri_tables::{Tally, expand, expand_text, text_of};
+
+fn mark_told(alloc: Global, mark: &Mark) -> Result<String, AllocError> {
+    let mut out = String::new(alloc);
+    print_mark(&mut out, mark)?;
+    String::from_str(alloc, out.as_str().trim_end_matches('\n'))
+}
 
 // The mark of a line as it prints, or why there is none.
 fn told(alloc: Global, line: &[u8]) -> Result<String, AllocError> {
     match read_mark(alloc, line) {
-        Ok(mark) => {
-            let mut out = String::new(alloc);
-            print_mark(&mut out, &mark)?;
-            String::from_str(alloc, out.as_str().trim_end_matches('\n'))
-        }
-        Err(fault) => format!(in alloc; "{fault}"),
+        Ok(mark) => mark_told(alloc, &mark),
+        Err(fault) => text_of(alloc, &fault),
     }
 }
 
@@ -36,15 +38,25 @@ pub fn no_marks(alloc: Global, tally: &mut Tally, body: &str) -> Result<(), Allo
     Ok(())
 }
 
+fn mark_in(alloc: Global, line: &str) -> Option<Mark> {
+    read_mark(alloc, line.as_bytes()).ok()
+}
+
 fn marks_in(alloc: Global, lines: &str) -> Result<Items<Mark>, AllocError> {
     let mut marks = Items::new(alloc);
     for line in lines.lines() {
-        match read_mark(alloc, line.as_bytes()) {
-            Ok(mark) => marks.push(mark)?,
-            Err(_) => {}
+        if let Some(mark) = mark_in(alloc, line) {
+            marks.push(mark)?;
         }
     }
     Ok(marks)
+}
+
+// The tree of these marks as it prints.
+fn tree_told(alloc: Global, marks: Items<Mark>) -> Result<String, AllocError> {
+    let text = print(alloc, &Certificate::Tree(marks))?;
+    let text = str::from_utf8(&text).unwrap_or("");
+    String::from_str(alloc, text.trim_end_matches('\n'))
 }
 
 /// The lines are those of a tree with so many nodes other than rests, and print so.
@@ -57,7 +69,6 @@ pub fn certificate(
     let marks = marks_in(alloc, body)?;
     let count = format!(in alloc; "{}", count_nodes(marks.as_slice()))?;
     tally.expect(body, count.as_str(), nodes)?;
-    let text = print(alloc, &Certificate::Tree(marks))?;
-    let text = str::from_utf8(&text).unwrap_or("");
-    tally.expect("a tree", text.trim_end_matches('\n'), body)
+    let text = tree_told(alloc, marks)?;
+    tally.expect("a tree", text.as_str(), body)
 }

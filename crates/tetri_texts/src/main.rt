@@ -3,6 +3,7 @@
 #![tactic(auto)]
 
 mod certificates;
+mod clusters;
 mod contents;
 mod names;
 mod sets;

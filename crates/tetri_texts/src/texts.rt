@@ -1,20 +1,49 @@
 // Texts by their first faults, and expressions that are printed and read back.
 ghost use Rattle.std.specs.Prelude.{◌≤◌};
 
+use crate::clusters::cluster_of;
 use std::alloc::{AllocError, Global};
 use tetri_cluster::Cluster;
 use tetri_parse::{ClusterReader, ParseFault, print_expr};
-use tetri_tables::{Given, Tally, answer, expand, expand_text, halves, tell_expr, worded};
+use tetri_strl::Expr;
+use tetri_tables::{Given, Tally, expand, expand_text, expr_told, halves};
 
 /// The words of a fault: how many bytes stand before it, and its cause.
 pub fn fault_told(alloc: Global, fault: ParseFault) -> Result<String, AllocError> {
     match fault {
-        ParseFault::At { offset, fault } => {
-            let fault = format!(in alloc; "{fault:?}")?;
-            let words = worded(alloc, fault.as_str())?;
-            format!(in alloc; "{offset} {words}")
-        }
+        ParseFault::At { offset, fault } => format!(in alloc; "{offset} {}", fault.words()),
         ParseFault::NoMemory => String::from_str(alloc, "no memory"),
+    }
+}
+
+// The unit and the arrival under which texts are read.
+#[derive(Clone, Copy)]
+struct Limits {
+    unit: u64,
+    arrival: u32,
+}
+
+impl Limits {
+    // Those of a text as `1 0`, which also stand where it is empty.
+    fn of(text: &str) -> Limits {
+        let (unit, arrival) = text.split_once(' ').unwrap_or(("1", "0"));
+        Limits {
+            unit: unit.parse::<u64>().unwrap_or(0),
+            arrival: arrival.parse::<u32>().unwrap_or(0),
+        }
+    }
+
+    // What is read of a text, where there are such a unit and such an arrival.
+    fn read(
+        self,
+        alloc: Global,
+        reader: &mut ClusterReader,
+        text: &[u8],
+    ) -> Option<Result<Expr, ParseFault>> {
+        if self.unit == 0 || 1_000_000 < self.unit || 10_000 < self.arrival {
+            return None;
+        }
+        Some(reader.read_expr(alloc, text, self.unit, self.arrival))
     }
 }
 
@@ -22,21 +51,55 @@ pub fn fault_told(alloc: Global, fault: ParseFault) -> Result<String, AllocError
 fn told(
     alloc: Global,
     reader: &mut ClusterReader,
-    unit: u64,
-    arrival: u32,
+    limits: Limits,
     text: &[u8],
 ) -> Result<String, AllocError> {
-    if unit == 0 || 1_000_000 < unit || 10_000 < arrival {
-        return String::from_str(alloc, "no such unit or arrival");
+    match limits.read(alloc, reader, text) {
+        Some(Ok(e)) => expr_told(alloc, &e),
+        Some(Err(fault)) => fault_told(alloc, fault),
+        None => String::from_str(alloc, "no such unit or arrival"),
     }
-    match reader.read_expr(alloc, text, unit, arrival) {
-        Ok(e) => {
-            let mut out = String::new(alloc);
-            tell_expr(&mut out, &e)?;
-            Ok(out)
-        }
-        Err(fault) => fault_told(alloc, fault),
+}
+
+// What is read of a text over these nodes, which are given back.
+fn text_told(
+    alloc: Global,
+    cluster: Cluster,
+    limits: Limits,
+    text: &[u8],
+) -> Result<(String, Cluster), AllocError> {
+    let mut reader = ClusterReader::new(alloc, cluster);
+    let found = told(alloc, &mut reader, limits, text)?;
+    let (cluster, _) = reader.into_parts();
+    Ok((found, cluster))
+}
+
+fn expect_found(
+    alloc: Global,
+    tally: &mut Tally,
+    row: &str,
+    found: &str,
+    wanted: &str,
+) -> Result<(), AllocError> {
+    if wanted == "read" && found.contains("nCk(") {
+        return tally.expect(row, "read", wanted);
     }
+    let wanted = expand_text(alloc, wanted)?;
+    tally.expect(row, found, wanted.as_str())
+}
+
+fn expect_text(
+    alloc: Global,
+    tally: &mut Tally,
+    cluster: Cluster,
+    limits: Limits,
+    row: &str,
+) -> Result<Cluster, AllocError> {
+    let (text, wanted) = halves(row);
+    let text = expand(alloc, text)?;
+    let (found, cluster) = text_told(alloc, cluster, limits, &text)?;
+    expect_found(alloc, tally, row, found.as_str(), wanted)?;
+    Ok(cluster)
 }
 
 /// Rows `TEXT => TOLD`: what a text says over the nodes of the trace, or its fault; `read` is any expression. Behind the
@@ -48,31 +111,17 @@ pub fn texts(
     limits: &str,
     body: &str,
 ) -> Result<(), AllocError> {
-    let Ok(trace) = answer(alloc, given.trace.as_bytes())? else {
-        return tally.expect("a trace", "refused", "read");
+    let Some(mut cluster) = cluster_of(alloc, given, tally)? else {
+        return Ok(());
     };
-    let (unit, arrival) = limits.split_once(' ').unwrap_or(("1", "0"));
-    let unit = unit.parse::<u64>().unwrap_or(0);
-    let arrival = arrival.parse::<u32>().unwrap_or(0);
-    let mut cluster = trace.cluster;
+    let limits = Limits::of(limits);
     for row in body.lines() {
-        let (text, wanted) = halves(row);
-        let text = expand(alloc, text)?;
-        let mut reader = ClusterReader::new(alloc, cluster);
-        let found = told(alloc, &mut reader, unit, arrival, &text)?;
-        let (same, _) = reader.into_parts();
-        cluster = same;
-        if wanted == "read" && found.as_str().contains("nCk(") {
-            tally.expect(row, "read", wanted)?;
-        } else {
-            let wanted = expand_text(alloc, wanted)?;
-            tally.expect(row, found.as_str(), wanted.as_str())?;
-        }
+        cluster = expect_text(alloc, tally, cluster, limits, row)?;
     }
     Ok(())
 }
 
-// The text of what a text says, for a job of this arrival, and the cluster back.
+// The text of what a text says, for a job of this arrival, and the nodes back.
 fn printed(
     alloc: Global,
     text: &[u8],
@@ -90,7 +139,24 @@ fn printed(
     Ok((text, cluster))
 }
 
-fn expect_printed(
+// Notes how a text is printed, and gives what is printed, with the nodes.
+fn expect_print(
+    alloc: Global,
+    tally: &mut Tally,
+    cluster: Cluster,
+    row: &str,
+    text: &[u8],
+    arrival: u32,
+) -> Result<(Vec<u8>, Cluster), AllocError>
+    requires { arrival ≤ 10000 }
+{
+    let (text, cluster) = printed(alloc, text, arrival, cluster)?;
+    let wanted = expand_text(alloc, halves(row).1)?;
+    tally.expect(row, str::from_utf8(&text).unwrap_or(""), wanted.as_str())?;
+    Ok((text, cluster))
+}
+
+fn expect_prints(
     alloc: Global,
     tally: &mut Tally,
     cluster: Cluster,
@@ -99,12 +165,9 @@ fn expect_printed(
 ) -> Result<Cluster, AllocError>
     requires { arrival ≤ 10000 }
 {
-    let (text, wanted) = halves(row);
-    let wanted = expand_text(alloc, wanted)?;
-    let (once, cluster) = printed(alloc, &expand(alloc, text)?, arrival, cluster)?;
-    let (twice, cluster) = printed(alloc, &once, arrival, cluster)?;
-    tally.expect(row, str::from_utf8(&once).unwrap_or(""), wanted.as_str())?;
-    tally.expect(row, str::from_utf8(&twice).unwrap_or(""), wanted.as_str())?;
+    let text = expand(alloc, halves(row).0)?;
+    let (once, cluster) = expect_print(alloc, tally, cluster, row, &text, arrival)?;
+    let (_twice, cluster) = expect_print(alloc, tally, cluster, row, &once, arrival)?;
     Ok(cluster)
 }
 
@@ -116,14 +179,13 @@ pub fn printed_texts(
     tally: &mut Tally,
     body: &str,
 ) -> Result<(), AllocError> {
-    let Ok(trace) = answer(alloc, given.trace.as_bytes())? else {
-        return tally.expect("a trace", "refused", "read");
+    let Some(mut cluster) = cluster_of(alloc, given, tally)? else {
+        return Ok(());
     };
-    let mut cluster = trace.cluster;
     for row in body.lines() {
-        for arrival in [0, 7, 10_000] {
-            cluster = expect_printed(alloc, tally, cluster, row, arrival)?;
-        }
+        cluster = expect_prints(alloc, tally, cluster, row, 0)?;
+        cluster = expect_prints(alloc, tally, cluster, row, 7)?;
+        cluster = expect_prints(alloc, tally, cluster, row, 10_000)?;
     }
     Ok(())
 }

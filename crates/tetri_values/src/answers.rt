@@ -5,9 +5,11 @@ ghost use Rattle.tetri_space.specs.Space.{space};
 use std::alloc::{AllocError, Global};
 use tetri_reserve::{Answer, admit, answers_are_true, totals_count_wanted_jobs};
 use tetri_space::Instance;
+use tetri_tables::add_debug;
 
 fn add_answer(out: &mut String, answer: &Answer) -> Result<(), AllocError> {
-    write!(out, "{:?} {}", answer.kind, answer.job)?;
+    add_debug(out, &answer.kind)?;
+    write!(out, " {}", answer.job)?;
     if let Some(plan) = &answer.plan {
         write!(out, " {}/{}", plan.value, plan.bound)?;
     }

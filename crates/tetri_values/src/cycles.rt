@@ -39,13 +39,17 @@ fn jobs_told(out: &mut String, word: &str, jobs: &[u32]) -> Result<(), AllocErro
     Ok(())
 }
 
+fn add_happened(out: &mut String, happened: &Happened) -> Result<(), AllocError> {
+    pieces_told(out, "end", &happened.ended)?;
+    jobs_told(out, "cancel", &happened.cancelled)?;
+    jobs_told(out, "fail", &happened.failed)?;
+    pieces_told(out, "over", &happened.over)?;
+    jobs_told(out, "expire", &happened.expired)
+}
+
 fn happened_told(alloc: Global, happened: &Happened) -> Result<String, AllocError> {
     let mut out = String::new(alloc);
-    pieces_told(&mut out, "end", &happened.ended)?;
-    jobs_told(&mut out, "cancel", &happened.cancelled)?;
-    jobs_told(&mut out, "fail", &happened.failed)?;
-    pieces_told(&mut out, "over", &happened.over)?;
-    jobs_told(&mut out, "expire", &happened.expired)?;
+    add_happened(&mut out, happened)?;
     Ok(out)
 }
 
@@ -64,6 +68,22 @@ fn told(alloc: Global, inst: &Instance, seen: &Seen, what: &str) -> Result<Strin
     }
 }
 
+fn expect_row(
+    alloc: Global,
+    tally: &mut Tally,
+    inst: &Instance,
+    seen: &Seen,
+    row: &str,
+) -> Result<(), AllocError>
+    requires { IsSoundSpace (space inst.now) }
+{
+    let (what, wanted) = halves(row);
+    let what = expand_text(alloc, what)?;
+    let found = told(alloc, inst, seen, what.as_str())?;
+    let wanted = expand_text(alloc, wanted)?;
+    tally.expect(row, found.as_str(), wanted.as_str())
+}
+
 // The rows of a cycle but for those of its plan.
 fn expect_rows(
     alloc: Global,
@@ -75,12 +95,8 @@ fn expect_rows(
     requires { IsSoundSpace (space inst.now) }
 {
     for row in rows.lines() {
-        let (what, wanted) = halves(row);
-        if !what.starts_with("plan") {
-            let what = expand_text(alloc, what)?;
-            let found = told(alloc, inst, seen, what.as_str())?;
-            let wanted = expand_text(alloc, wanted)?;
-            tally.expect(row, found.as_str(), wanted.as_str())?;
+        if !row.starts_with("plan") {
+            expect_row(alloc, tally, inst, seen, row)?;
         }
     }
     Ok(())
@@ -110,17 +126,15 @@ fn cycle(
 }
 
 fn piece_told(alloc: Global, state: &State, place: usize) -> Result<String, AllocError> {
-    match state.piece(place) {
-        Some(piece) => {
-            let nodes = piece.nodes.as_slice();
-            let (started, expected, real) = (piece.started, piece.expected, piece.real);
-            format!(in alloc;
-                "{} {} {nodes:?} {started} {expected} {real}",
-                piece.job, piece.leaf
-            )
-        }
-        None => String::from_str(alloc, "none"),
-    }
+    let Some(piece) = state.piece(place) else {
+        return String::from_str(alloc, "none");
+    };
+    let nodes = piece.nodes.as_slice();
+    let (started, expected, real) = (piece.started, piece.expected, piece.real);
+    format!(in alloc;
+        "{} {} {nodes:?} {started} {expected} {real}",
+        piece.job, piece.leaf
+    )
 }
 
 fn state_told(alloc: Global, state: &State, what: &str) -> Result<String, AllocError> {

@@ -8,7 +8,7 @@ use tetri_strl::{
     Expr, aligned, copy_expr, copy_grants, idle_leaves, prune, thrifty_grants_start_together,
     top_in, trim, waste, waste_among, worth, worth_among,
 };
-use tetri_tables::{Tally, answer, expand, expand_text, grants_in, grants_told, halves, tell_expr};
+use tetri_tables::{Tally, answer, expand, expand_text, expr_told, grants_in, grants_told, halves};
 
 // The job whose grants count.
 const JOB: u32 = 1;
@@ -35,15 +35,35 @@ fn waste_told(alloc: Global, e: &Expr, grants: &str) -> Result<String, AllocErro
     format!(in alloc; "{place:?}")
 }
 
-fn expr_told(alloc: Global, e: Option<Expr>) -> Result<String, AllocError> {
-    match e {
-        Some(e) => {
-            let mut out = String::new(alloc);
-            tell_expr(&mut out, &e)?;
-            Ok(out)
-        }
+fn copy_told(alloc: Global, e: &Expr) -> Result<String, AllocError> {
+    let copy = copy_expr(alloc, e)?;
+    expr_told(alloc, &copy)
+}
+
+// What is left of an expression in the slots of a text.
+fn left_told(alloc: Global, e: &Expr, slots: &str) -> Result<String, AllocError>
+    requires { IsWellMade (tree e.now) }
+{
+    let (from, to) = slots_in(slots);
+    match prune(alloc, e, from, to)? {
+        Some(left) => expr_told(alloc, &left),
         None => String::from_str(alloc, "none"),
     }
+}
+
+fn top_told(alloc: Global, e: &Expr, slots: &str) -> Result<String, AllocError>
+    requires { IsWellMade (tree e.now) }
+{
+    let (from, to) = slots_in(slots);
+    format!(in alloc; "{}", top_in(e, from, to))
+}
+
+fn idle_told(alloc: Global, e: &Expr, grants: &str) -> Result<String, AllocError>
+    requires { IsWellMade (tree e.now) }
+{
+    let a = grants_in(alloc, grants)?;
+    let idle = idle_leaves(alloc, e, JOB, a.as_slice())?;
+    format!(in alloc; "{idle:?}")
 }
 
 fn slots_in(text: &str) -> (u32, u32) {
@@ -65,19 +85,15 @@ fn told(alloc: Global, e: &Expr, what: &str) -> Result<String, AllocError>
     requires { IsWellMade (tree e.now) }
 {
     let (word, rest) = what.split_once(' ').unwrap_or((what, ""));
-    let (from, to) = slots_in(rest);
     match word {
         "worth" => worth_told(alloc, e, rest),
-        "top" => format!(in alloc; "{}", top_in(e, from, to)),
+        "top" => top_told(alloc, e, rest),
         "aligned" => format!(in alloc; "{}", aligned(e)),
-        "copy" => expr_told(alloc, Some(copy_expr(alloc, e)?)),
-        "left" => expr_told(alloc, prune(alloc, e, from, to)?),
+        "copy" => copy_told(alloc, e),
+        "left" => left_told(alloc, e, rest),
         "waste" => waste_told(alloc, e, rest),
         "trim" => trimmed_told(alloc, e, rest),
-        "idle" => {
-            let a = grants_in(alloc, rest)?;
-            format!(in alloc; "{:?}", idle_leaves(alloc, e, JOB, a.as_slice())?)
-        }
+        "idle" => idle_told(alloc, e, rest),
         _ => String::from_str(alloc, "no such word"),
     }
 }

@@ -1,9 +1,9 @@
 // Fractions, divisors and multiples.
-ghost use Rattle.tetri_num.specs.Range.{IsWithin};
+ghost use Rattle.tetri_algebra.specs.Range.{IsWithin};
 
 use std::alloc::{AllocError, Global};
 use tetri_num::{Frac, Past, gcd, lcm};
-use tetri_tables::{Tally, halves};
+use tetri_tables::{Tally, debug_text, halves};
 
 fn number(text: &str) -> i128
     ensures { IsWithin result }
@@ -17,26 +17,41 @@ fn fraction(text: &str) -> Frac {
     Frac::new(number(num), number(den).max(1))
 }
 
-fn fraction_told(out: &mut String, x: Frac) -> Result<(), AllocError> {
-    write!(out, "{}/{}", x.num, x.den)
+fn fraction_told(alloc: Global, x: Frac) -> Result<String, AllocError> {
+    format!(in alloc; "{}/{}", x.num, x.den)
+}
+
+fn past_told(alloc: Global, past: &Past) -> Result<String, AllocError> {
+    let op = debug_text(alloc, &past.op)?;
+    let left = fraction_told(alloc, past.left)?;
+    let right = fraction_told(alloc, past.right)?;
+    format!(in alloc; "past {op} {left} {right}")
 }
 
 fn answer_told(alloc: Global, answer: Result<Frac, Past>) -> Result<String, AllocError> {
-    let mut out = String::new(alloc);
     match answer {
-        Ok(x) => fraction_told(&mut out, x)?,
-        Err(past) => {
-            write!(out, "past {:?} ", past.op)?;
-            fraction_told(&mut out, past.left)?;
-            out.push_str(" ")?;
-            fraction_told(&mut out, past.right)?;
-        }
+        Ok(x) => fraction_told(alloc, x),
+        Err(past) => past_told(alloc, &past),
     }
-    Ok(out)
 }
 
-fn quotient(x: Frac, y: Frac) -> Option<Result<Frac, Past>> {
-    if y.num == 0 { None } else { Some(x.div(y)) }
+fn quotient_told(alloc: Global, x: Frac, y: Frac) -> Result<String, AllocError> {
+    if y.num == 0 {
+        return String::from_str(alloc, "no divisor");
+    }
+    answer_told(alloc, x.div(y))
+}
+
+// What is told of two whole numbers.
+fn of_numbers(alloc: Global, word: &str, left: i128, right: i128) -> Result<String, AllocError>
+    requires left { IsWithin left }
+    requires right { IsWithin right }
+{
+    match word {
+        "gcd" => format!(in alloc; "{}", gcd(left, right)),
+        "lcm" => format!(in alloc; "{:?}", lcm(left.max(1), right.max(1))),
+        _ => String::from_str(alloc, "no such word"),
+    }
 }
 
 fn of_two(alloc: Global, word: &str, left: &str, right: &str) -> Result<String, AllocError> {
@@ -45,15 +60,17 @@ fn of_two(alloc: Global, word: &str, left: &str, right: &str) -> Result<String, 
         "add" => answer_told(alloc, x.add(y)),
         "sub" => answer_told(alloc, x.sub(y)),
         "mul" => answer_told(alloc, x.mul(y)),
-        "div" => {
-            match quotient(x, y) {
-                Some(answer) => answer_told(alloc, answer),
-                None => String::from_str(alloc, "no divisor"),
-            }
-        }
-        "compare" => format!(in alloc; "{:?}", x.compare(y)),
-        "gcd" => format!(in alloc; "{}", gcd(number(left), number(right))),
-        "lcm" => format!(in alloc; "{:?}", lcm(number(left).max(1), number(right).max(1))),
+        "div" => quotient_told(alloc, x, y),
+        "compare" => debug_text(alloc, &x.compare(y)),
+        _ => of_numbers(alloc, word, number(left), number(right)),
+    }
+}
+
+fn of_one(alloc: Global, word: &str, text: &str) -> Result<String, AllocError> {
+    match word {
+        "new" => fraction_told(alloc, fraction(text)),
+        "floor" => format!(in alloc; "{}", fraction(text).floor()),
+        "whole" => fraction_told(alloc, Frac::whole(number(text))),
         _ => String::from_str(alloc, "no such word"),
     }
 }
@@ -62,15 +79,7 @@ fn told(alloc: Global, what: &str) -> Result<String, AllocError> {
     let (word, rest) = what.split_once(' ').unwrap_or((what, ""));
     match rest.split_once(' ') {
         Some((left, right)) => of_two(alloc, word, left, right),
-        None => {
-            let x = fraction(rest);
-            match word {
-                "new" => answer_told(alloc, Ok(x)),
-                "floor" => format!(in alloc; "{}", x.floor()),
-                "whole" => answer_told(alloc, Ok(Frac::whole(number(rest)))),
-                _ => String::from_str(alloc, "no such word"),
-            }
-        }
+        None => of_one(alloc, word, rest),
     }
 }
 

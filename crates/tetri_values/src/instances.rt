@@ -8,7 +8,7 @@ use tetri_space::{
     Instance, Partitions, Unlawful, available, find_partitions, free, lawful, tops,
     tops_bound_every_lawful_total, total,
 };
-use tetri_tables::{grants_in, nodes_told, tell_expr};
+use tetri_tables::{add_debug, grants_in, nodes_told, tell_expr};
 
 fn two_numbers(text: &str) -> (u32, u32) {
     let (first, second) = text.split_once(' ').unwrap_or((text, ""));
@@ -18,10 +18,16 @@ fn two_numbers(text: &str) -> (u32, u32) {
     )
 }
 
+fn unlawful_told(alloc: Global, unlawful: &Unlawful) -> Result<String, AllocError> {
+    let mut out = format!(in alloc; "{} ", unlawful.grant)?;
+    add_debug(&mut out, &unlawful.rule)?;
+    Ok(out)
+}
+
 fn lawful_told(alloc: Global, answer: Result<(), Unlawful>) -> Result<String, AllocError> {
     match answer {
         Ok(()) => String::from_str(alloc, "lawful"),
-        Err(unlawful) => format!(in alloc; "{} {:?}", unlawful.grant, unlawful.rule),
+        Err(unlawful) => unlawful_told(alloc, &unlawful),
     }
 }
 
@@ -50,14 +56,41 @@ fn available_told(
 }
 
 fn offer_told(alloc: Global, inst: &Instance, place: u32) -> Result<String, AllocError> {
-    match inst.jobs.get(place as usize) {
-        Some(offer) => {
-            let mut out = format!(in alloc; "{} ", offer.job)?;
-            tell_expr(&mut out, &offer.expr)?;
-            Ok(out)
-        }
-        None => String::from_str(alloc, "none"),
-    }
+    let Some(offer) = inst.jobs.get(place as usize) else {
+        return String::from_str(alloc, "none");
+    };
+    let mut out = format!(in alloc; "{} ", offer.job)?;
+    tell_expr(&mut out, &offer.expr)?;
+    Ok(out)
+}
+
+fn tops_told(alloc: Global, inst: &Instance) -> Result<String, AllocError>
+    requires { IsSound (space inst.now) }
+{
+    tops_bound_every_lawful_total(inst);
+    format!(in alloc; "{}", tops(inst))
+}
+
+fn total_told(alloc: Global, inst: &Instance, grants: &str) -> Result<String, AllocError>
+    requires { IsSound (space inst.now) }
+{
+    let a = grants_in(alloc, grants)?;
+    format!(in alloc; "{}", total(inst, &a))
+}
+
+// Whether grants are lawful.
+fn tested(alloc: Global, inst: &Instance, grants: &str) -> Result<String, AllocError>
+    requires { IsSound (space inst.now) }
+{
+    let a = grants_in(alloc, grants)?;
+    lawful_told(alloc, lawful(inst, &a))
+}
+
+fn partitions_told(alloc: Global, inst: &Instance) -> Result<String, AllocError>
+    requires { IsSound (space inst.now) }
+{
+    let parts = find_partitions(alloc, inst)?;
+    groups_told(alloc, &parts)
 }
 
 /// What is told of an instance: `offer PLACE` with its job, `free NODE SLOT`, `tops`, `total GRANTS`, `lawful GRANTS`,
@@ -69,22 +102,10 @@ pub fn told(alloc: Global, inst: &Instance, word: &str, rest: &str) -> Result<St
     match word {
         "offer" => offer_told(alloc, inst, first),
         "free" => format!(in alloc; "{}", free(inst, first, second)),
-        "tops" => {
-            tops_bound_every_lawful_total(inst);
-            format!(in alloc; "{}", tops(inst))
-        }
-        "total" => {
-            let a = grants_in(alloc, rest)?;
-            format!(in alloc; "{}", total(inst, &a))
-        }
-        "lawful" => {
-            let a = grants_in(alloc, rest)?;
-            lawful_told(alloc, lawful(inst, &a))
-        }
-        "partitions" => {
-            let parts = find_partitions(alloc, inst)?;
-            groups_told(alloc, &parts)
-        }
+        "tops" => tops_told(alloc, inst),
+        "total" => total_told(alloc, inst, rest),
+        "lawful" => tested(alloc, inst, rest),
+        "partitions" => partitions_told(alloc, inst),
         "available" => available_told(alloc, inst, first, second),
         _ => programs::told(alloc, inst, word, rest),
     }

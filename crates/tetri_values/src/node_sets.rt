@@ -3,7 +3,7 @@ ghost use Rattle.std.specs.Prelude.{◌≡◌, ◌∷◌, [], ◌<◌, IfOk};
 
 use std::alloc::{AllocError, Global};
 use tetri_cluster::{NodeSet, Sets};
-use tetri_tables::Tally;
+use tetri_tables::{Tally, debug_text};
 
 fn pair(alloc: Global, first: u32, second: u32) -> Result<NodeSet, AllocError>
     ensures { IfOk result (λ set. set ≡ first ∷ second ∷ []) }
@@ -17,7 +17,7 @@ fn found(alloc: Global, sets: &mut Sets, first: u32, second: u32) -> Result<Stri
         return String::from_str(alloc, "not ascending");
     }
     let answer = sets.find_or_add(pair(alloc, first, second)?);
-    format!(in alloc; "{answer:?}")
+    debug_text(alloc, &answer)
 }
 
 fn expect_found(

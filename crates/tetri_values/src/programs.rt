@@ -6,13 +6,14 @@ ghost use Rattle.tetri_space.specs.Space.{space};
 use std::alloc::{AllocError, Global};
 use tetri_assign::assign;
 use tetri_base::Items;
-use tetri_cert::{Mark, Walk, bound, objective_at, read_mark};
-use tetri_compile::{Compiled, compile, counts_of, size};
-use tetri_ip::{Program, Region, Weight, holds_point};
-use tetri_num::{Frac, Past};
+use tetri_cert::{Mark, TreeFault, Walk, bound, objective_at, read_mark};
+use tetri_compile::{Compiled, Taken, compile, counts_of, size};
+use tetri_ip::{Program, Region, Row, Weight, holds_point};
+use tetri_num::{Frac, Past, Place};
 use tetri_simplex::{Full, Outcome, Sparse, dual_run, run_on};
 use tetri_space::{Instance, Partitions, find_partitions};
-use tetri_tables::grants_told;
+use tetri_strl::Allotment;
+use tetri_tables::{add_debug, debug_text, grants_told};
 
 fn weights_told(out: &mut String, weights: &[Weight]) -> Result<(), AllocError> {
     for weight in weights {
@@ -21,33 +22,52 @@ fn weights_told(out: &mut String, weights: &[Weight]) -> Result<(), AllocError> 
     Ok(())
 }
 
+// Adds a point, with its multiplier and its weights by row.
+fn add_best(
+    out: &mut String,
+    point: &[Frac],
+    q: i128,
+    weights: &[Weight],
+) -> Result<(), AllocError> {
+    out.push_str("best")?;
+    for x in point {
+        write!(out, " {}/{}", x.num, x.den)?;
+    }
+    write!(out, " by {q} of")?;
+    weights_told(out, weights)
+}
+
+fn add_cut(out: &mut String, q: i128, weights: &[Weight]) -> Result<(), AllocError> {
+    write!(out, "cut by {q} of")?;
+    weights_told(out, weights)
+}
+
+fn add_empty(out: &mut String, weights: &[Weight]) -> Result<(), AllocError> {
+    out.push_str("empty of")?;
+    weights_told(out, weights)
+}
+
+fn add_past(out: &mut String, place: &Place) -> Result<(), AllocError> {
+    out.push_str("past ")?;
+    add_debug(out, &place.kind)?;
+    write!(out, " {} {} {}", place.step, place.row, place.column)
+}
+
+fn add_outcome(out: &mut String, outcome: &Outcome) -> Result<(), AllocError> {
+    match outcome {
+        Outcome::Best { point, q, weights } => add_best(out, point, *q, weights),
+        Outcome::Cut { q, weights } => add_cut(out, *q, weights),
+        Outcome::Empty { weights } => add_empty(out, weights),
+        Outcome::Past(place) => add_past(out, place),
+        Outcome::Long => out.push_str("long"),
+    }
+}
+
 /// The text of how a dual run ends: a best point, or that it is cut, each with its multiplier and its weights by row, that the
 /// region is empty, with weights, or where a number left the range.
-pub fn outcome_told(alloc: Global, outcome: Outcome) -> Result<String, AllocError> {
+pub fn outcome_told(alloc: Global, outcome: &Outcome) -> Result<String, AllocError> {
     let mut out = String::new(alloc);
-    match outcome {
-        Outcome::Best { point, q, weights } => {
-            out.push_str("best")?;
-            for x in &point {
-                write!(out, " {}/{}", x.num, x.den)?;
-            }
-            write!(out, " by {q} of")?;
-            weights_told(&mut out, &weights)?;
-        }
-        Outcome::Cut { q, weights } => {
-            write!(out, "cut by {q} of")?;
-            weights_told(&mut out, &weights)?;
-        }
-        Outcome::Empty { weights } => {
-            out.push_str("empty of")?;
-            weights_told(&mut out, &weights)?;
-        }
-        Outcome::Past(place) => {
-            let (step, row, column) = (place.step, place.row, place.column);
-            write!(out, "past {:?} {step} {row} {column}", place.kind)?;
-        }
-        Outcome::Long => out.push_str("long")?,
-    }
+    add_outcome(&mut out, outcome)?;
     Ok(out)
 }
 
@@ -62,15 +82,43 @@ fn earned(p: &Program, point: &[Frac]) -> Result<Frac, Past> {
     Ok(sum)
 }
 
-// What the best point of a dual run earns.
-fn best_told(alloc: Global, p: &Program, outcome: Outcome) -> Result<String, AllocError> {
-    let Outcome::Best { point, .. } = outcome else {
-        return outcome_told(alloc, outcome);
-    };
-    match earned(p, &point) {
+fn earned_told(alloc: Global, p: &Program, point: &[Frac]) -> Result<String, AllocError> {
+    match earned(p, point) {
         Ok(worth) => format!(in alloc; "best {}/{}", worth.num, worth.den),
         Err(_) => String::from_str(alloc, "past"),
     }
+}
+
+// What the best point of a dual run earns.
+fn best_told(alloc: Global, p: &Program, outcome: &Outcome) -> Result<String, AllocError> {
+    match outcome {
+        Outcome::Best { point, .. } => earned_told(alloc, p, point),
+        _ => outcome_told(alloc, outcome),
+    }
+}
+
+fn run_of_itself(alloc: Global, p: &Program, r: &Region, best: u64) -> Result<String, AllocError>
+    requires fit { IsFit p.now }
+    requires in_box { IsInBox p.now (bounds_of r.now) }
+{
+    let outcome = dual_run(alloc, p, r, best)?;
+    outcome_told(alloc, &outcome)
+}
+
+fn run_on_full(alloc: Global, p: &Program, r: &Region, best: u64) -> Result<String, AllocError>
+    requires fit { IsFit p.now }
+    requires in_box { IsInBox p.now (bounds_of r.now) }
+{
+    let outcome = run_on::<Full>(alloc, p, r, best)?;
+    outcome_told(alloc, &outcome)
+}
+
+fn run_on_sparse(alloc: Global, p: &Program, r: &Region, best: u64) -> Result<String, AllocError>
+    requires fit { IsFit p.now }
+    requires in_box { IsInBox p.now (bounds_of r.now) }
+{
+    let outcome = run_on::<Sparse>(alloc, p, r, best)?;
+    outcome_told(alloc, &outcome)
 }
 
 /// How a dual run over a region ends, whatever holds its dictionaries: the three runs where they differ.
@@ -78,26 +126,28 @@ pub fn run_told(alloc: Global, p: &Program, r: &Region, best: u64) -> Result<Str
     requires fit { IsFit p.now }
     requires in_box { IsInBox p.now (bounds_of r.now) }
 {
-    let run = outcome_told(alloc, dual_run(alloc, p, r, best)?)?;
-    let full = outcome_told(alloc, run_on::<Full>(alloc, p, r, best)?)?;
-    let sparse = outcome_told(alloc, run_on::<Sparse>(alloc, p, r, best)?)?;
+    let run = run_of_itself(alloc, p, r, best)?;
+    let full = run_on_full(alloc, p, r, best)?;
+    let sparse = run_on_sparse(alloc, p, r, best)?;
     if run.as_str() == full.as_str() && run.as_str() == sparse.as_str() {
         return Ok(run);
     }
     format!(in alloc; "{run}, full {full}, sparse {sparse}")
 }
 
-fn row_told(alloc: Global, p: &Program, row: usize) -> Result<String, AllocError> {
-    let mut out = String::new(alloc);
-    match p.rows.get(row) {
-        Some(row) => {
-            for term in &row.terms {
-                write!(out, "{}:{} ", term.column, term.by)?;
-            }
-            write!(out, "at most {}", row.right)?;
-        }
-        None => out.push_str("none")?,
+fn add_row(out: &mut String, row: &Row) -> Result<(), AllocError> {
+    for term in &row.terms {
+        write!(out, "{}:{} ", term.column, term.by)?;
     }
+    write!(out, "at most {}", row.right)
+}
+
+fn row_told(alloc: Global, p: &Program, row: usize) -> Result<String, AllocError> {
+    let Some(row) = p.rows.get(row) else {
+        return String::from_str(alloc, "none");
+    };
+    let mut out = String::new(alloc);
+    add_row(&mut out, row)?;
     Ok(out)
 }
 
@@ -118,6 +168,27 @@ fn point_in(alloc: Global, text: &str) -> Result<Vec<i128>, AllocError> {
     Ok(point)
 }
 
+fn add_taken(out: &mut String, counts: &[Taken]) -> Result<(), AllocError> {
+    for taken in counts {
+        let (job, leaf, part, nodes) = (taken.job, taken.leaf, taken.part, taken.nodes);
+        write!(out, "{job} {leaf} takes {nodes} of {part}; ")?;
+    }
+    Ok(())
+}
+
+fn values_told(
+    alloc: Global,
+    taken: &[Taken],
+    earned: i128,
+    a: &Allotment,
+) -> Result<String, AllocError> {
+    let mut out = String::new(alloc);
+    add_taken(&mut out, taken)?;
+    let grants = grants_told(alloc, a.as_slice())?;
+    write!(out, "earns {earned}; {grants}")?;
+    Ok(out)
+}
+
 // What a point takes, what it earns, and what is assigned to it, where the numbers are a point.
 fn point_told(alloc: Global, inst: &Instance, text: &str) -> Result<String, AllocError>
     requires { IsSound (space inst.now) }
@@ -133,27 +204,59 @@ fn point_told(alloc: Global, inst: &Instance, text: &str) -> Result<String, Allo
     if point.len() != c.program.costs.len() || !holds_point(&c.program, &whole, &point) {
         return String::from_str(alloc, "no point");
     }
-    let mut out = String::new(alloc);
-    for taken in &counts_of(alloc, &c, &point)? {
-        let (job, leaf, part, nodes) = (taken.job, taken.leaf, taken.part, taken.nodes);
-        write!(out, "{job} {leaf} takes {nodes} of {part}; ")?;
-    }
-    write!(out, "earns {}; ", objective_at(&c.program, &point))?;
+    let taken = counts_of(alloc, &c, &point)?;
+    let earned = objective_at(&c.program, &point);
     let a = assign(alloc, inst, &parts, &c, &point)?;
-    let grants = grants_told(alloc, a.as_slice())?;
-    out.push_str(grants.as_str())?;
-    Ok(out)
+    values_told(alloc, &taken, earned, &a)
+}
+
+fn mark_in(alloc: Global, line: &str) -> Option<Mark> {
+    read_mark(alloc, line.as_bytes()).ok()
 }
 
 fn marks_in(alloc: Global, text: &str) -> Result<Items<Mark>, AllocError> {
     let mut marks = Items::new(alloc);
     for line in text.split('|') {
-        match read_mark(alloc, line.as_bytes()) {
-            Ok(mark) => marks.push(mark)?,
-            Err(_) => {}
+        if let Some(mark) = mark_in(alloc, line) {
+            marks.push(mark)?;
         }
     }
     Ok(marks)
+}
+
+// The bound of marks that come one by one, unless there are too many.
+fn walked(
+    alloc: Global,
+    p: &Program,
+    marks: &[Mark],
+) -> Result<Option<Result<u64, TreeFault>>, AllocError>
+    requires { IsFit p.now }
+{
+    let mut walk = Walk::new(alloc, p)?;
+    let mut count = 0u64;
+    for mark in marks {
+        if count == 1000 {
+            return Ok(None);
+        }
+        count += 1;
+        walk.feed(alloc, p, mark)?;
+    }
+    Ok(Some(walk.end()))
+}
+
+// Both bounds where they differ.
+fn bounds_told(
+    alloc: Global,
+    whole: Result<u64, TreeFault>,
+    walked: Result<u64, TreeFault>,
+) -> Result<String, AllocError> {
+    if whole == walked {
+        return debug_text(alloc, &whole);
+    }
+    let mut out = debug_text(alloc, &whole)?;
+    out.push_str(" ")?;
+    add_debug(&mut out, &walked)?;
+    Ok(out)
 }
 
 // The bound of marks, once as a whole and once as they come one by one.
@@ -162,20 +265,36 @@ fn bound_told(alloc: Global, p: &Program, text: &str) -> Result<String, AllocErr
 {
     let marks = marks_in(alloc, text)?;
     let whole = bound(alloc, p, marks.as_slice());
-    let mut walk = Walk::new(alloc, p)?;
-    let mut count = 0u64;
-    for mark in marks.as_slice() {
-        if count == 1000 {
-            return String::from_str(alloc, "too many marks");
-        }
-        count += 1;
-        walk.feed(alloc, p, mark)?;
+    match walked(alloc, p, marks.as_slice())? {
+        Some(walked) => bounds_told(alloc, whole, walked),
+        None => String::from_str(alloc, "too many marks"),
     }
-    let walked = walk.end();
-    if whole == walked {
-        format!(in alloc; "{whole:?}")
-    } else {
-        format!(in alloc; "{whole:?} {walked:?}")
+}
+
+fn dual_told(alloc: Global, p: &Program, best: &str) -> Result<String, AllocError>
+    requires { IsFit p.now }
+{
+    let whole = Region::whole(alloc, p)?;
+    run_told(alloc, p, &whole, best.parse::<u64>().unwrap_or(0))
+}
+
+fn relaxed_told(alloc: Global, p: &Program) -> Result<String, AllocError>
+    requires { IsFit p.now }
+{
+    let whole = Region::whole(alloc, p)?;
+    let outcome = dual_run(alloc, p, &whole, 0)?;
+    best_told(alloc, p, &outcome)
+}
+
+// What is told of a program that is searched.
+fn searched_told(alloc: Global, p: &Program, word: &str, rest: &str) -> Result<String, AllocError>
+    requires { IsFit p.now }
+{
+    match word {
+        "bound" => bound_told(alloc, p, rest),
+        "dual" => dual_told(alloc, p, rest),
+        "relaxed" => relaxed_told(alloc, p),
+        _ => String::from_str(alloc, "no such word"),
     }
 }
 
@@ -189,18 +308,7 @@ fn of_program(alloc: Global, c: &Compiled, word: &str, rest: &str) -> Result<Str
         "rows" => format!(in alloc; "{}", c.program.rows.len()),
         "row" => row_told(alloc, &c.program, rest.parse::<usize>().unwrap_or(0)),
         "counts" => counts_told(alloc, c),
-        "bound" => bound_told(alloc, &c.program, rest),
-        "dual" => {
-            let whole = Region::whole(alloc, &c.program)?;
-            let best = rest.parse::<u64>().unwrap_or(0);
-            run_told(alloc, &c.program, &whole, best)
-        }
-        "relaxed" => {
-            let whole = Region::whole(alloc, &c.program)?;
-            let outcome = dual_run(alloc, &c.program, &whole, 0)?;
-            best_told(alloc, &c.program, outcome)
-        }
-        _ => String::from_str(alloc, "no such word"),
+        _ => searched_told(alloc, &c.program, word, rest),
     }
 }
 

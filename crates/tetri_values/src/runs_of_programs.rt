@@ -1,11 +1,12 @@
 // Regions that are weighed and dual runs, of programs that no trace gives.
 ghost use Rattle.std.specs.Prelude.{◌≡◌, length, IfOk};
 ghost use Rattle.tetri_ip.specs.Points.{IsFit, IsInBox, bounds_of};
+ghost use Rattle.tetri_ip.specs.Weighed.{AreOfRows};
 
 use crate::programs::run_told;
 use std::alloc::{AllocError, Global};
-use tetri_ip::{ColumnIndex, Program, Region, Row, Term, Weight, holds_point, weigh, weigh_by};
-use tetri_tables::Tally;
+use tetri_ip::{Program, Region, Row, Term, Weight, holds_point, weigh, weigh_over};
+use tetri_tables::{Tally, add_debug};
 
 const TOP: i128 = i128::MAX;
 
@@ -86,51 +87,86 @@ fn impossible(alloc: Global) -> Result<Program, AllocError>
     })
 }
 
+fn add_weighed(
+    out: &mut String,
+    p: &Program,
+    r: &Region,
+    q: i128,
+    weights: &[Weight],
+) -> Result<(), AllocError>
+    requires fit { IsFit p.now }
+    requires in_box { IsInBox p.now (bounds_of r.now) }
+    requires rows { AreOfRows p.now weights.now }
+{
+    out.push_str(" ")?;
+    add_debug(out, &weigh(p, r, q, weights))
+}
+
+fn add_all_weighed(out: &mut String, p: &Program, r: &Region) -> Result<(), AllocError>
+    requires fit { IsFit p.now }
+    requires in_box { IsInBox p.now (bounds_of r.now) }
+    requires rows { length p.now.rows.items ≡ 2 }
+{
+    add_weighed(out, p, r, 1, &[])?;
+    add_weighed(out, p, r, 1, &[Weight { row: 0, by: 1 }])?;
+    add_weighed(out, p, r, 1, &[Weight { row: 1, by: 2 }])?;
+    add_weighed(out, p, r, 1, &[Weight { row: 1, by: -1 }])?;
+    add_weighed(out, p, r, 0, &[Weight { row: 0, by: TOP }])?;
+    add_weighed(out, p, r, TOP, &[])
+}
+
 fn weighed_told(alloc: Global) -> Result<String, AllocError> {
     let (p, _low_side) = linked(alloc)?;
     let whole = Region::whole(alloc, &p)?;
     let mut out = format!(in alloc; "{:?} {:?}", whole.lower, whole.upper)?;
-    write!(out, " {:?}", weigh(&p, &whole, 1, &[]))?;
-    write!(
-        out,
-        " {:?}",
-        weigh(&p, &whole, 1, &[Weight { row: 0, by: 1 }])
-    )?;
-    write!(
-        out,
-        " {:?}",
-        weigh(&p, &whole, 1, &[Weight { row: 1, by: 2 }])
-    )?;
-    write!(
-        out,
-        " {:?}",
-        weigh(&p, &whole, 1, &[Weight { row: 1, by: -1 }])
-    )?;
-    write!(
-        out,
-        " {:?}",
-        weigh(&p, &whole, 0, &[Weight { row: 0, by: TOP }])
-    )?;
-    write!(out, " {:?}", weigh(&p, &whole, TOP, &[]))?;
+    add_all_weighed(&mut out, &p, &whole)?;
     Ok(out)
 }
 
-fn weighed_by_told(alloc: Global) -> Result<String, AllocError> {
+fn add_weighed_over(
+    out: &mut String,
+    p: &Program,
+    r: &Region,
+    q: i128,
+    weights: &[Weight],
+    factors: &mut [i128],
+) -> Result<(), AllocError>
+    requires fit { IsFit p.now }
+    requires in_box { IsInBox p.now (bounds_of r.now) }
+    requires rows { AreOfRows p.now weights.now }
+    requires length { length factors.old ≡ length p.now.costs.items }
+{
+    out.push_str(" ")?;
+    add_debug(out, &weigh_over(p, r, q, weights, factors))
+}
+
+fn add_all_weighed_over(
+    out: &mut String,
+    p: &Program,
+    r: &Region,
+    factors: &mut [i128],
+) -> Result<(), AllocError>
+    requires fit { IsFit p.now }
+    requires in_box { IsInBox p.now (bounds_of r.now) }
+    requires rows { length p.now.rows.items ≡ 2 }
+    requires length { length factors.old ≡ length p.now.costs.items }
+{
+    add_weighed_over(out, p, r, 1, &[], factors)?;
+    add_weighed_over(out, p, r, 1, &[Weight { row: 0, by: 1 }], factors)?;
+    add_weighed_over(out, p, r, 1, &[Weight { row: 1, by: 2 }], factors)?;
+    let both = [Weight { row: 0, by: 1 }, Weight { row: 1, by: 1 }];
+    add_weighed_over(out, p, r, 1, &both, factors)?;
+    add_weighed_over(out, p, r, 1, &[Weight { row: 1, by: -1 }], factors)?;
+    add_weighed_over(out, p, r, 0, &[Weight { row: 0, by: TOP }], factors)?;
+    add_weighed_over(out, p, r, TOP, &[], factors)
+}
+
+fn weighed_over_told(alloc: Global) -> Result<String, AllocError> {
     let (p, _low_side) = linked(alloc)?;
     let whole = Region::whole(alloc, &p)?;
-    let index = ColumnIndex::new(alloc, &p)?;
-    let mut out = format!(in alloc; "{:?}", weigh_by(&index, &p, &whole, 1, &[]))?;
-    let first = Weight { row: 0, by: 1 };
-    write!(out, " {:?}", weigh_by(&index, &p, &whole, 1, &[first]))?;
-    let second = Weight { row: 1, by: 2 };
-    write!(out, " {:?}", weigh_by(&index, &p, &whole, 1, &[second]))?;
-    let both = [Weight { row: 0, by: 1 }, Weight { row: 1, by: 1 }];
-    write!(out, " {:?}", weigh_by(&index, &p, &whole, 1, &both))?;
-    let below = Weight { row: 1, by: -1 };
-    write!(out, " {:?}", weigh_by(&index, &p, &whole, 1, &[below]))?;
-    let top = Weight { row: 0, by: TOP };
-    write!(out, " {:?}", weigh_by(&index, &p, &whole, 0, &[top]))?;
-    write!(out, " {:?}", weigh_by(&index, &p, &whole, TOP, &[]))?;
+    let mut factors = vec![in alloc; 0i128; p.costs.len()]?;
+    let mut out = String::from_str(alloc, "by rows")?;
+    add_all_weighed_over(&mut out, &p, &whole, factors.as_mut_slice())?;
     Ok(out)
 }
 
@@ -148,9 +184,9 @@ pub fn weighed(alloc: Global, tally: &mut Tally) -> Result<(), AllocError> {
     let found = weighed_told(alloc)?;
     let wanted = "[0, 0] [1, 3] Ok(6) Ok(7) Ok(6) Err(Negative(1)) Err(Past(0)) Err(Past(1))";
     tally.expect("weighed", found.as_str(), wanted)?;
-    let found = weighed_by_told(alloc)?;
-    let wanted = "Ok(6) Ok(7) Ok(6) Ok(7) Err(Negative(1)) Err(Past(0)) Err(Past(1))";
-    tally.expect("weighed by columns", found.as_str(), wanted)?;
+    let found = weighed_over_told(alloc)?;
+    let wanted = "by rows Ok(6) Ok(7) Ok(6) Ok(7) Err(Negative(1)) Err(Past(0)) Err(Past(1))";
+    tally.expect("weighed", found.as_str(), wanted)?;
     let found = points_told(alloc)?;
     tally.expect("points", found.as_str(), "true false false")
 }

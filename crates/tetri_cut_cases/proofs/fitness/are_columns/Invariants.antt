@@ -1,6 +1,7 @@
 use Rattle.std.proofs.Common.{ℕ, ◌<◌}
 use Rattle.std.specs.Prelude.{pos, ◌≤ℤ◌, ◌-ℤ◌}
-use Rattle.tetri_ip.specs.Points.{IsWithin, number_at}
+use Rattle.tetri_ip.specs.Points.{number_at}
+use Rattle.tetri_algebra.specs.Range.{IsWithin}
 use Rattle.tetri_cut_cases.proofs.fitness.are_columns.Given as goal
 
 abbrev pub invariant-loop-k : goal.invariant-loop-k

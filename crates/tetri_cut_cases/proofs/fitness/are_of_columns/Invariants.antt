@@ -1,5 +1,6 @@
 use Rattle.std.proofs.Common.{ℕ, ◌<◌}
-use Rattle.tetri_ip.specs.Points.{IsWithin, column_at, term_at}
+use Rattle.tetri_ip.specs.Points.{column_at, term_at}
+use Rattle.tetri_algebra.specs.Range.{IsWithin}
 use Rattle.tetri_cut_cases.proofs.fitness.are_of_columns.Given as goal
 
 abbrev pub invariant-loop-term : goal.invariant-loop-term

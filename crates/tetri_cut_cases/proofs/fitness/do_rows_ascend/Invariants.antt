@@ -1,5 +1,5 @@
 use Rattle.std.proofs.Common.{ℕ, ◌<◌}
-use Rattle.tetri_ip.specs.ColumnIndex.{weight_at}
+use Rattle.tetri_ip.specs.Weighed.{weight_at}
 use Rattle.tetri_cut_cases.proofs.fitness.do_rows_ascend.Given as goal
 
 abbrev pub invariant-loop-k : goal.invariant-loop-k

@@ -4,7 +4,7 @@ use Rattle.std.proofs.lemmas.List.Elements.{All-more}
 use Rattle.tetri_strl.specs.Thrifty.{IsThriftyFor}
 use Rattle.tetri_space.specs.Sound.{IsSoundBid}
 use Rattle.tetri_space.specs.Space.{Bid, bid, space}
-use Rattle.tetri_space.proofs.BidLemmas.{bid_has}
+use Rattle.tetri_space.proofs.InstanceLaws.{bid_has}
 use Rattle.tetri_tables.proofs.launches.is_thrifty.Goals as goal
 
 none_is : {X : Type 0} (o : Option X) → is_some o ≡ false → o ≡ None
