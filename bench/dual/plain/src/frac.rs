@@ -79,6 +79,12 @@ fn quotient(a: i128, by: i128) -> i128 {
 }
 
 impl Frac {
+    /// In lowest terms, over a denominator above 0.
+    pub fn new(num: i128, den: i128) -> Frac {
+        let g = gcd(num, den);
+        Frac { num: quotient(num, g), den: quotient(den, g) }
+    }
+
     pub fn whole(num: i128) -> Frac {
         Frac { num, den: 1 }
     }

@@ -1,16 +1,20 @@
 //! The program tetri_simplex_bench in plain Rust: the same programs, rules and output.
 //!
-//! `plain full|sparse|general SIDE KINDS` runs a square of columns, `plain full|sparse|general FILE` the
-//! program of a file by bench/dual/cycle. `general` is sparse rows without the short ways for 1 and -1. `plain bound ..` runs
+//! `plain full|sparse|general|whole|mirror SIDE KINDS` runs a square of columns, `plain full|sparse|general|whole|mirror FILE` the
+//! program of a file by bench/dual/cycle. `general` is sparse rows without the short ways for 1 and -1, `whole` rows of whole numbers as the proved
+//! program has them, and `mirror` the same with one row for a column's variable and the slack of its bound. `plain bound ..` runs
 //! the full table and writes how often a row leaves the bound of rows of whole numbers, and how often one comes back.
-//! `plain sparse|general tree FILE TREE` makes the runs of the nodes of a search of that program, whose lines
+//! `plain sparse|general|whole|mirror tree FILE TREE` makes the runs of the nodes of a search of that program, whose lines
 //! stand in the file TREE as tetri_search_bench writes them, and tells how many runs and pivots they are.
 
 mod bound;
 mod frac;
 mod full;
+mod mirror;
+mod rows;
 mod sparse;
 mod tree;
+mod whole;
 
 use std::cmp::Ordering;
 use std::time::Duration;
@@ -18,7 +22,9 @@ use std::time::Duration;
 use bound::Bound;
 use frac::{Frac, gcd};
 use full::Full;
+use mirror::Mirror;
 use sparse::Sparse;
+use whole::Whole;
 
 struct Term {
     column: usize,
@@ -232,19 +238,23 @@ fn main() {
     {
         return match kind.as_str() {
             "general" => tree::runs::<Sparse<false>>(&mut read(file), lines),
+            "whole" => tree::runs::<Whole>(&mut read(file), lines),
+            "mirror" => tree::runs::<Mirror>(&mut read(file), lines),
             _ => tree::runs::<Sparse<true>>(&mut read(file), lines),
         };
     }
     let p = match &words[1..] {
         [side, kinds] => square(side.parse().expect("a side"), kinds.parse().expect("kinds")),
         [path] => read(path),
-        _ => panic!("usage: plain full|sparse|general|bound SIDE KINDS, plain full|sparse|general|bound FILE, or plain sparse|general tree FILE TREE"),
+        _ => panic!("usage: plain full|sparse|general|whole|mirror|bound SIDE KINDS, plain full|sparse|general|whole|mirror|bound FILE, or plain sparse|general|whole|mirror tree FILE TREE"),
     };
     let start = thread_time();
     let (end, pivots) = match words[0].as_str() {
         "bound" => count(&p),
         "full" => dual_run::<Full>(&p, 0),
         "general" => dual_run::<Sparse<false>>(&p, 0),
+        "whole" => dual_run::<Whole>(&p, 0),
+        "mirror" => dual_run::<Mirror>(&p, 0),
         _ => dual_run::<Sparse<true>>(&p, 0),
     };
     let time = thread_time() - start;
