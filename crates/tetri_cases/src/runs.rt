@@ -108,20 +108,6 @@ fn outcome_of(alloc: Global, sink: &MemSink, status: &Status) -> Result<Outcome,
     Ok(Outcome { written, said })
 }
 
-// Runs the words with this panel.
-fn run_with(
-    alloc: Global,
-    given: &Given,
-    service: &Service<'_>,
-    words: &[String],
-    panel: &mut Panel,
-) -> Result<Outcome, AllocError> {
-    let mut shelf = shelf_of(alloc, given, service)?;
-    let mut sink = MemSink::new(alloc, service.write_most, service.room, &service.writes)?;
-    let status = run(alloc, words, &mut shelf, &mut sink, panel);
-    outcome_of(alloc, &sink, &status)
-}
-
 /// Runs the words with the advisors that are named, in this order: `deadline` and `worth`.
 pub fn run_words(
     alloc: Global,
@@ -147,7 +133,10 @@ pub fn run_words(
         }
     }
     let words = words_of(alloc, line)?;
-    run_with(alloc, given, service, words.as_slice(), &mut panel)
+    let mut shelf = shelf_of(alloc, given, service)?;
+    let mut sink = MemSink::new(alloc, service.write_most, service.room, &service.writes)?;
+    let status = run(alloc, words.as_slice(), &mut shelf, &mut sink, &mut panel);
+    outcome_of(alloc, &sink, &status)
 }
 
 // What a run with these advisors writes and says, one behind the other.
