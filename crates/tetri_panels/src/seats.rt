@@ -82,34 +82,17 @@ fn try_rows(
     }
 }
 
-// Whether the whole trace is planned, and its report written.
-fn is_planned(
-    alloc: Global,
-    trace: &str,
-    panel: &mut Panel,
-    sink: &mut MemSink,
-) -> Result<bool, AllocError> {
+fn shelf_with(alloc: Global, trace: &str) -> Result<MemShelf, AllocError> {
     let mut shelf = MemShelf::new(alloc, 64, &[])?;
     shelf.put("trace", trace.as_bytes())?;
-    match run_plan(alloc, "trace", &mut shelf, sink, panel) {
-        Status::Done => Ok(true),
-        _ => Ok(false),
-    }
+    Ok(shelf)
 }
 
-fn try_run(
-    alloc: Global,
-    tally: &mut Tally,
-    trace: &str,
-    panel: &mut Panel,
-    report: &str,
-) -> Result<(), AllocError> {
-    let mut sink = MemSink::new(alloc, 7, 4_000_000, &[])?;
-    if !is_planned(alloc, trace, panel, &mut sink)? {
-        return tally.expect(trace, "another end", "done");
+fn is_done(status: &Status) -> bool {
+    match status {
+        Status::Done => true,
+        _ => false,
     }
-    let sits = seats_told(alloc, panel)?;
-    expect_report(alloc, tally, trace, sink.written(), sits.as_str(), report)
 }
 
 /// Seats an advisor for each line of the text, and tries the panel on the trace. The advisors are `deadline`, `worth`, `repeat`,
@@ -145,6 +128,15 @@ pub fn try_panel(
     }
     match trial {
         Trial::Rows(rows) => try_rows(alloc, tally, trace, &mut panel, rows),
-        Trial::Run(report) => try_run(alloc, tally, trace, &mut panel, report),
+        Trial::Run(report) => {
+            let mut shelf = shelf_with(alloc, trace)?;
+            let mut sink = MemSink::new(alloc, 7, 4_000_000, &[])?;
+            let status = run_plan(alloc, "trace", &mut shelf, &mut sink, &mut panel);
+            if !is_done(&status) {
+                return tally.expect(trace, "another end", "done");
+            }
+            let sits = seats_told(alloc, &panel)?;
+            expect_report(alloc, tally, trace, sink.written(), sits.as_str(), report)
+        }
     }
 }
