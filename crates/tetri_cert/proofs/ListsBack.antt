@@ -7,9 +7,10 @@ use Rattle.std.proofs.lemmas.Bool.{le-ltb, ltb-false}
 use Rattle.std.proofs.lemmas.List.{append-nil, length-append}
 use Rattle.std.proofs.lemmas.List.Elements.{All-cons, All-nil}
 use Rattle.std.proofs.lemmas.List.Splits.{join_with_byte-slice_split}
+use Rattle.std.proofs.lemmas.Option.{same_Some}
 use Rattle.tetri_io.specs.Codec.{Codec}
 use Rattle.tetri_io.specs.Words.{parts_at}
-use Rattle.tetri_io.proofs.TextLaws.{AllAvoid, Avoids, IsCodec, bind_some, by_cond, cond_else, joined_avoids, joined_within, other, parts_of_joined, room, same_bytes, some_same}
+use Rattle.tetri_io.proofs.TextLaws.{AllAvoid, Avoids, IsCodec, bind_some, by_cond, cond_else, joined_avoids, joined_within, other, parts_of_joined, room, same_bytes}
 use Rattle.tetri_base.specs.OptionSteps.{◌>>=◌}
 use Rattle.tetri_cert.specs.Lists.{list_text, lists, Ascend, entries_from, list_in}
 
@@ -30,14 +31,14 @@ module _ {E : Type 0} {most : ℕ} {c : Codec E} (l : IsCodec 45 (λ (e : E). mo
       ∙ ap (λ (o : Option (List E)). o >>= λ es. Some (e ∷ es)) (entries_back (key e + 1) es h.2)
 
   entries_only : (least : ℕ) (ps : List (List ℕ)) (es : List E) → entries_from c.read key least ps ≡ Some es → Ascend key c.IsSuch least es × (ps ≡ map c.text es)
-  entries_only least [] es h = subst (λ x. Ascend key c.IsSuch least x × ([] ≡ map c.text x)) (some_same [] es h) (tt, refl)
+  entries_only least [] es h = subst (λ x. Ascend key c.IsSuch least x × ([] ≡ map c.text x)) (same_Some [] es h) (tt, refl)
   entries_only least (p ∷ ps) es h =
       let r = bind_some (c.read p) (λ e. cond (nat_lt (key e) least) None (entries_from c.read key (key e + 1) ps >>= λ es. Some (e ∷ es))) es h in
       let t = cond_else (nat_lt (key r.0) least) (entries_from c.read key (key r.0 + 1) ps >>= λ es. Some (r.0 ∷ es)) es r.2 in
       let u = bind_some (entries_from c.read key (key r.0 + 1) ps) (λ es. Some (r.0 ∷ es)) es t.1 in
       let i = entries_only (key r.0 + 1) ps u.0 u.1 in
       let j = l.only p r.0 r.1 in
-      subst (λ x. Ascend key c.IsSuch least x × (p ∷ ps ≡ map c.text x)) (some_same (r.0 ∷ u.0) es u.2)
+      subst (λ x. Ascend key c.IsSuch least x × (p ∷ ps ≡ map c.text x)) (same_Some (r.0 ∷ u.0) es u.2)
       ((ltb-false (key r.0) least t.0, j.0, i.0), ap (λ x. x ∷ ps) j.1 ∙ ap (λ x. c.text r.0 ∷ x) i.1)
 
   joined : (e : E) (es : List E) → list_text c.text (e ∷ es) ≡ join_with_byte 44 (map c.text (e ∷ es))
@@ -70,7 +71,7 @@ module _ {E : Type 0} {most : ℕ} {c : Codec E} (l : IsCodec 45 (λ (e : E). mo
   unfolding list_in
   list_only bs es h =
       by_cond (bytes_eq bs (codes "-")) (Some []) (entries_from c.read key 0 (parts_at 44 bs)) es h
-      (λ e f. subst (λ x. Ascend key c.IsSuch 0 x × (bs ≡ list_text c.text x)) (some_same [] es f) (tt, same_bytes bs (codes "-") e))
+      (λ e f. subst (λ x. Ascend key c.IsSuch 0 x × (bs ≡ list_text c.text x)) (same_Some [] es f) (tt, same_bytes bs (codes "-") e))
       (λ e f. let i = entries_only 0 (parts_at 44 bs) es f in (i.0, whole_list bs es i.1))
 
   list_avoids : (mark : ℕ) (es : List E) → mark < 44 → Ascend key c.IsSuch 0 es → Avoids mark (list_text c.text es)

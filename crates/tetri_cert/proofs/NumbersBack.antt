@@ -4,10 +4,11 @@ use Rattle.std.specs.Prelude.{◌⊎◌, ◌&&◌, ◌≢◌, T, int_lt, unsigne
 use Rattle.std.specs.Fmt.{signed_decimal}
 use Rattle.std.proofs.lemmas.Bool.{false≢true, eq-eqb, lt-ltb}
 use Rattle.std.proofs.lemmas.List.Elements.{All-cons}
+use Rattle.std.proofs.lemmas.Option.{same_Some}
 use lib.IntN.{ℤ, pos, negsuc, neg_ℤ}
 use Rattle.tetri_algebra.specs.Gcd.{gcd_of}
 use Rattle.tetri_io.specs.Numbers.{number_below}
-use Rattle.tetri_io.proofs.TextLaws.{Avoids, IsCodec, bind_some, by_cond, cond_else, decimal_avoids, decimal_short, image_laws, number_below-decimal, number_below-only, number_laws, numeral, other, pair_laws, same_bytes, some_same}
+use Rattle.tetri_io.proofs.TextLaws.{Avoids, IsCodec, bind_some, by_cond, cond_else, decimal_avoids, decimal_short, image_laws, number_below-decimal, number_below-only, number_laws, numeral, other, pair_laws, same_bytes}
 use Rattle.tetri_num.specs.Lowest.{IsLowest}
 use Rattle.tetri_algebra.specs.Range.{IsWithin, is_within}
 use Rattle.tetri_num.specs.declared.fractions.Frac.{Frac}
@@ -51,7 +52,7 @@ negative_only : (ds : List ℕ) (n : ℕ) (z : ℤ) → number_below (2 ^ 127) d
 negative_only ds zero z e h = cc
 negative_only ds (suc n) z e h =
     let r = number_below-only (2 ^ 127) ds (suc n) e in
-    let f : negsuc n ≡ z = some_same (negsuc n) z (cond_else (eqb (suc n) 0) (Some (negsuc n)) z h).1 in
+    let f : negsuc n ≡ z = same_Some (negsuc n) z (cond_else (eqb (suc n) 0) (Some (negsuc n)) z h).1 in
     subst (λ x. IsWithin x × (45 ∷ ds ≡ signed_decimal x)) f (r.1, ap (λ x. 45 ∷ x) r.0)
 
 signed : (bs : List ℕ) → bytes_eq (take 1 bs) (codes "-") ≡ true → bs ≡ 45 ∷ drop 1 bs
@@ -66,7 +67,7 @@ whole_only bs z h = by_cond (bytes_eq (take 1 bs) (codes "-")) (negative_number 
     (s.0, signed bs e ∙ s.1))
     (λ e g. let r = bind_some (number_below (2 ^ 127) bs) (λ n. Some (pos n)) z g in
     let s = number_below-only (2 ^ 127) bs r.0 r.1 in
-    subst (λ x. IsWithin x × (bs ≡ signed_decimal x)) (some_same (pos r.0) z r.2) (s.1, s.0))
+    subst (λ x. IsWithin x × (bs ≡ signed_decimal x)) (same_Some (pos r.0) z r.2) (s.1, s.0))
 
 pub whole_laws : (low : ℕ) → low ≤ 45 → IsCodec low (λ (z : ℤ). 40) whole_numbers
 whole_laws low l = record {
@@ -109,7 +110,7 @@ unfolding frac_of
 frac_only p x h = by_test (is_lowest p.0 p.1) refl h
   where
     by_test : (t : Bool) (e : is_lowest p.0 p.1 ≡ t) → frac_by_test p.0 p.1 t e ≡ Some x → p ≡ (x.num, x.den)
-    by_test true e g = ap (λ (y : Frac). (y.num, y.den)) (some_same _ x g)
+    by_test true e g = ap (λ (y : Frac). (y.num, y.den)) (same_Some _ x g)
     by_test false e g = cc
 
 pub frac_laws : IsCodec 45 (λ (x : Frac). 81) fracs

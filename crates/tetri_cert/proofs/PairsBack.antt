@@ -2,8 +2,9 @@
 use Rattle.std.proofs.Common.{◌≡◌, ℕ, zero, suc, ◌+◌, ◌*◌, ◌^◌, ◌<◌, refl, sym, ap, ◌∙◌, subst, arith, inr, List, length, cond, Bool, false, eqb, Some, None, decimal, lit≤}
 use Rattle.std.specs.Prelude.{◌≢◌, unsigned_abs}
 use Rattle.std.proofs.lemmas.Bool.{false≢true}
+use Rattle.std.proofs.lemmas.Option.{same_Some}
 use lib.IntN.{ℤ, pos, negsuc}
-use Rattle.tetri_io.proofs.TextLaws.{Avoids, IsCodec, cond_else, decimal_avoids, image_laws, pair_laws, pair_longer, renamed_laws, some_same}
+use Rattle.tetri_io.proofs.TextLaws.{Avoids, IsCodec, cond_else, decimal_avoids, image_laws, pair_laws, pair_longer, renamed_laws}
 use Rattle.tetri_ip.specs.declared.programs.Weight.{Weight}
 use Rattle.tetri_algebra.specs.Range.{IsWithin}
 use Rattle.tetri_num.specs.declared.fractions.Frac.{Frac}
@@ -33,7 +34,7 @@ colonless n h = decimal_avoids 58 n (inr (omega arith)) (omega arith)
 pair_only : (p q : ℕ × ℤ) → (p.0 < 2 ^ 32) × IsWithin p.1 → pair_of_parts p ≡ Some q → IsPair q.0 q.1 × (p ≡ q)
 pair_only p q h e =
     let c = cond_else (eqb (unsigned_abs p.1) 0) (Some p) q e in
-    let f : p ≡ q = some_same p q c.1 in
+    let f : p ≡ q = same_Some p q c.1 in
     subst (λ (r : ℕ × ℤ). IsPair r.0 r.1 × (p ≡ r)) f (record { narrow = h.0; nonzero = abs_nonzero p.1 c.0; within = h.1 }, refl)
 
 pair_codec : IsCodec 45 (λ (p : ℕ × ℤ). 80) pairs
@@ -51,7 +52,7 @@ cell_laws = renamed_laws pair_codec (λ p. record { column = p.0; value = p.1 })
 frac_cell_only : (p : ℕ × Frac) (c : FracCell) → (p.0 < 2 ^ 32) × Unit {0} → frac_cell_of_parts p ≡ Some c → IsPlainFracCell c × (p ≡ (c.column, c.value))
 frac_cell_only p c h e =
     let t = cond_else (eqb (unsigned_abs p.1.num) 0) (Some (record { column = p.0; value = p.1 })) c e in
-    let f : record { column = p.0; value = p.1 } ≡ c = some_same _ c t.1 in
+    let f : record { column = p.0; value = p.1 } ≡ c = same_Some _ c t.1 in
     subst (λ (d : FracCell). IsPlainFracCell d × (p ≡ (d.column, d.value))) f (record { narrow = h.0; nonzero = abs_nonzero p.1.num t.0 }, refl)
 
 pub frac_cell_laws : IsCodec 45 (λ (c : FracCell). 121) frac_cells

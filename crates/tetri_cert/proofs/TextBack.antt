@@ -3,9 +3,10 @@ use Rattle.std.proofs.Common.{◌≡◌, ◌≢◌, ℕ, ◌<◌, refl, sym, ap,
 use Rattle.std.specs.Fmt.{signed_decimal}
 use Rattle.std.specs.List.{join_with_byte}
 use Rattle.std.proofs.lemmas.List.Splits.{join_with_byte-slice_split}
+use Rattle.std.proofs.lemmas.Option.{same_Some}
 use lib.IntN.{ℤ}
 use Rattle.tetri_io.specs.Words.{words_of}
-use Rattle.tetri_io.proofs.TextLaws.{AllAvoid, Avoids, IsCodec, IsOwnWord, among_laws, bind_some, four_back, four_only, high_avoids, joined_avoids, one_back, one_only, parts_of_joined, some_same, tag_only, two_back, two_only}
+use Rattle.tetri_io.proofs.TextLaws.{AllAvoid, Avoids, IsCodec, IsOwnWord, among_laws, bind_some, four_back, four_only, high_avoids, joined_avoids, one_back, one_only, parts_of_joined, tag_only, two_back, two_only}
 use Rattle.tetri_num.specs.declared.places.Kind.{Kind}
 use Rattle.tetri_num.specs.declared.places.Kind.TheVariants as kinds
 use Rattle.tetri_cert.specs.declared.marks.Mark.{Mark}
@@ -91,7 +92,7 @@ licence_only tag ws r e = tag_only IsReasonOf ((codes "point", point_in) ∷ (co
     pasts = four_only kind_laws smalls smalls smalls past_of (IsReasonOf (codes "past")) (λ k s r c a b d e. ((b, d, e), refl))
 
     longs : (ws : List (List ℕ)) (r : Licence) → long_in ws ≡ Some r → IsReasonOf (codes "long") ws r
-    longs [] r e = subst (IsReasonOf (codes "long") []) (some_same licences.Long r e) (tt, refl)
+    longs [] r e = subst (IsReasonOf (codes "long") []) (same_Some licences.Long r e) (tt, refl)
     longs (w ∷ ws) r e = absurd cc
 
 -- a plain node with this tag and these words
@@ -109,7 +110,7 @@ split_only (a ∷ b ∷ tag ∷ ws) m e =
     let i = smalls.only a r.0 r.1 in
     let j = wholes.only b s.0 s.1 in
     let k = licence_only tag ws t.0 t.1 in
-    subst (IsNodeOf (codes "split") (a ∷ b ∷ tag ∷ ws)) (some_same (Split r.0 s.0 t.0) m t.2)
+    subst (IsNodeOf (codes "split") (a ∷ b ∷ tag ∷ ws)) (same_Some (Split r.0 s.0 t.0) m t.2)
     ((i.0, j.0, k.0), ap (λ x. codes "split" ∷ x ∷ b ∷ tag ∷ ws) i.1 ∙ ap (λ x. codes "split" ∷ decimal r.0 ∷ x ∷ tag ∷ ws) j.1 ∙ ap (λ x. codes "split" ∷ decimal r.0 ∷ signed_decimal s.0 ∷ x) k.1)
 
 tagged_only : (tag : List ℕ) (ws : List (List ℕ)) (m : Mark) → node_by_tag tag ws ≡ Some m → IsNodeOf tag ws m

@@ -5,6 +5,7 @@ use Rattle.std.specs.Prelude.{◌-◌, ◌≤ℤ◌, ◌<ℤ◌, ◌*ℤ◌}
 use Rattle.std.specs.Int.{int_div_euclid, saturate_unsigned, w64}
 use Rattle.std.proofs.lemmas.Bool.{cases_lt}
 use Rattle.std.proofs.lemmas.Int.{ints}
+use Rattle.std.proofs.lemmas.Option.{same_Some}
 use lib.IntN.{ℤ, pos, ◌+ℤ◌}
 use Rattle.tetri_algebra.specs.Integers.{mul_lt_cancel, mul_positive}
 use Rattle.tetri_algebra.specs.Quotients.{div_above}
@@ -159,15 +160,9 @@ weights_bound p current q ws same points signs positive =
 own_bounds : (p current : Program) (e : End) (root : PlainRoot) → IsFit current → current.costs.items ≡ p.costs.items →
     ((point : List ℤ) → IsPoint p (box_of p) point → IsPoint current (box_of current) point) → Certifies current (box_of current) 0 e → own_root current e ≡ Some root → Bounds p root.bound
 own_bounds p current (best point q ws) root fit same points h is =
-    subst (λ (r : PlainRoot). Bounds p r.bound) (some_is is) (weights_bound p current q ws same points h.weights.signs h.multiplier)
-  where
-    some_is : {a b : PlainRoot} → Some a ≡ Some b → a ≡ b
-    some_is e = cc
+    subst (λ (r : PlainRoot). Bounds p r.bound) (same_Some _ _ is) (weights_bound p current q ws same points h.weights.signs h.multiplier)
 own_bounds p current (cut q ws) root fit same points h is =
-    subst (λ (r : PlainRoot). Bounds p r.bound) (some_is is) (weights_bound p current q ws same points h.weights.signs h.multiplier)
-  where
-    some_is : {a b : PlainRoot} → Some a ≡ Some b → a ≡ b
-    some_is e = cc
+    subst (λ (r : PlainRoot). Bounds p r.bound) (same_Some _ _ is) (weights_bound p current q ws same points h.weights.signs h.multiplier)
 own_bounds p current (empty ws) root fit same points h is = cc
 own_bounds p current (past place) root fit same points h is = cc
 own_bounds p current long root fit same points h is = cc

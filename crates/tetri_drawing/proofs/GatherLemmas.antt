@@ -7,13 +7,13 @@ use Rattle.tetri_cert.specs.declared.certificate.Certificate.{Certificate}
 use Rattle.tetri_io.specs.LineReader.{IsAhead, ahead, place}
 use Rattle.tetri_io.specs.declared.line_reader.LineReader.{LineReader}
 use Rattle.tetri_io.specs.Lines.{line_of}
-use Rattle.tetri_io.proofs.TextLaws.{first_line, line_of-le}
+use Rattle.tetri_io.proofs.TextLaws.{first_line, line_of-le, some_line}
 use Rattle.tetri_report.specs.Block.{Block}
 use Rattle.tetri_report.specs.Reading.{Reading, behind_line, end_answer, line_answer, onto_report, opened, report_from, report_in}
 use Rattle.tetri_base.specs.Lists.{with_first}
 use Rattle.tetri_report.specs.Strips.{Telling, more, tops, node, ended, answer_told, bare, block_told, strip_behind, told_answer}
 use Rattle.tetri_report.specs.declared.cycle.Summary.{Summary}
-use Rattle.tetri_report.proofs.ReportLaws.{line_is_told, none_left, some_line, strip_of_bare, texts_from, told_of_bare}
+use Rattle.tetri_report.proofs.ReportLaws.{line_is_told, none_left, strip_of_bare, texts_from, told_of_bare}
 use Rattle.tetri_state.specs.Begin.{occurring}
 use Rattle.tetri_state.specs.Snapshot.{Snapshot, opening_state}
 use Rattle.tetri_state.specs.declared.pieces.Piece.{Piece}

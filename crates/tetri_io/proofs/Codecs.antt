@@ -6,6 +6,7 @@ use Rattle.std.proofs.lemmas.Bool.{false≢true, eqb-true, eq-eqb, leb-true}
 use Rattle.std.proofs.lemmas.List.{length-append}
 use Rattle.std.proofs.lemmas.List.Elements.{All-append, All-cons, All-head, All-nil, All-tail}
 use Rattle.std.proofs.lemmas.Slice.Eq.{bytes_eq-Decides}
+use Rattle.std.proofs.lemmas.Option.{same_Some}
 use Rattle.tetri_base.specs.OptionSteps.{◌>>=◌}
 use Rattle.tetri_io.specs.Codec.{Codec, among, both_in, by_tag, first_of_text, four_in, halves_of, image, numbers, one_in, pair, renamed, two_in}
 use Rattle.tetri_io.proofs.NumberLemmas.{Avoids, decimal_avoids, decimal_short, number_below-decimal, number_below-only, numeral, other}
@@ -23,9 +24,6 @@ pub record IsCodec {A : Type 0} (low : ℕ) (most : A → ℕ) (c : Codec A) : T
 pub bind_some : {A B : Type 0} (o : Option A) (f : A → Option B) (y : B) → (o >>= f) ≡ Some y → (x : A) × (o ≡ Some x) × (f x ≡ Some y)
 bind_some None f y e = cc
 bind_some (Some x) f y e = (x, refl, e)
-
-pub some_same : {A : Type 0} (x y : A) → Some x ≡ Some y → x ≡ y
-some_same x y e = cc
 
 pub by_cond : {A P : Type 0} (t : Bool) (x y : Option A) (m : A) → cond t x y ≡ Some m → (t ≡ true → x ≡ Some m → P) → (t ≡ false → y ≡ Some m → P) → P
 by_cond true x y m e f g = f refl e
@@ -79,7 +77,7 @@ number_laws low limit l k = record {
 first_only : {A : Type 0} (text : A → List ℕ) (all : List A) (word : List ℕ) (a : A) → first_of_text text all word ≡ Some a → word ≡ text a
 first_only text [] word a e = cc
 first_only text (b ∷ others) word a e =
-    by_cond (bytes_eq word (text b)) (Some b) (first_of_text text others word) a e (λ f g. same_bytes word (text b) f ∙ ap text (some_same b a g)) (λ f g. first_only text others word a g)
+    by_cond (bytes_eq word (text b)) (Some b) (first_of_text text others word) a e (λ f g. same_bytes word (text b) f ∙ ap text (same_Some b a g)) (λ f g. first_only text others word a g)
 
 -- a word of some that differ
 pub record IsOwnWord {A : Type 0} (low most : ℕ) (text : A → List ℕ) (all : List A) (a : A) : Type 0 where
@@ -117,9 +115,9 @@ unfolding halves_of
 halves_only mark [] h e = cc
 halves_only mark (b ∷ bs) h e =
     by_cond (eqb b mark) (Some ([], bs)) (halves_of mark bs >>= λ g. Some (b ∷ g.0, g.1)) h e
-    (λ f g. ap (λ x. x ∷ bs) (eqb-true b mark f) ∙ ap (λ (k : List ℕ × List ℕ). k.0 ++ mark ∷ k.1) (some_same ([], bs) h g))
+    (λ f g. ap (λ x. x ∷ bs) (eqb-true b mark f) ∙ ap (λ (k : List ℕ × List ℕ). k.0 ++ mark ∷ k.1) (same_Some ([], bs) h g))
     (λ f g. let r = bind_some (halves_of mark bs) (λ k. Some (b ∷ k.0, k.1)) h g in
-    ap (λ x. b ∷ x) (halves_only mark bs r.0 r.1) ∙ ap (λ (k : List ℕ × List ℕ). k.0 ++ mark ∷ k.1) (some_same (b ∷ r.0.0, r.0.1) h r.2))
+    ap (λ x. b ∷ x) (halves_only mark bs r.0 r.1) ∙ ap (λ (k : List ℕ × List ℕ). k.0 ++ mark ∷ k.1) (same_Some (b ∷ r.0.0, r.0.1) h r.2))
 
 module _ {A B : Type 0} {low : ℕ} {m : A → ℕ} {n : B → ℕ} {a : Codec A} {b : Codec B} (k : IsCodec low m a) (l : IsCodec low n b) where
   pub pair_laws : (mark : ℕ) → low ≤ mark → ((x : A) → a.IsSuch x → Avoids mark (a.text x)) → IsCodec low (λ (p : A × B). m p.0 + 1 + n p.1) (pair mark a b)
@@ -134,7 +132,7 @@ module _ {A B : Type 0} {low : ℕ} {m : A → ℕ} {n : B → ℕ} {a : Codec A
         let t = bind_some (b.read r.0.1) (λ y. Some (s.0, y)) p s.2 in
         let i = k.only r.0.0 s.0 s.1 in
         let j = l.only r.0.1 t.0 t.1 in
-        subst (λ (q : A × B). (a.IsSuch q.0 × b.IsSuch q.1) × (bytes ≡ a.text q.0 ++ mark ∷ b.text q.1)) (some_same (s.0, t.0) p t.2)
+        subst (λ (q : A × B). (a.IsSuch q.0 × b.IsSuch q.1) × (bytes ≡ a.text q.0 ++ mark ∷ b.text q.1)) (same_Some (s.0, t.0) p t.2)
         ((i.0, j.0), halves_only mark bytes r.0 r.1 ∙ ap (λ x. x ++ mark ∷ r.0.1) i.1 ∙ ap (λ x. a.text s.0 ++ mark ∷ x) j.1);
     avoids = λ c p h q. avoids_on c mark (a.text p.0) (b.text p.1) (λ (e : mark ≡ c). omega arith) (k.avoids c p.0 h q.0) (l.avoids c p.1 h q.1);
     some = λ p h. omega (arith, length-append (a.text p.0) (mark ∷ b.text p.1));
@@ -164,7 +162,7 @@ module _ {A B : Type 0} {low : ℕ} {most : A → ℕ} {c : Codec A} (l : IsCode
   pub renamed_laws : (to : A → B) (from : B → A) → ((b : B) → to (from b) ≡ b) → ((a : A) → from (to a) ≡ a) → IsCodec low (λ (b : B). most (from b)) (renamed to from c)
   renamed_laws to from there here =
       image_laws (λ a. Some (to a)) from (λ b. c.IsSuch (from b)) (λ b h. (h, ap Some (there b)))
-      (λ a b h e. let f : a ≡ from b = sym (here a) ∙ ap from (some_same (to a) b e) in (subst c.IsSuch f h, f))
+      (λ a b h e. let f : a ≡ from b = sym (here a) ∙ ap from (same_Some (to a) b e) in (subst c.IsSuch f h, f))
 
 -- ---- lists of words
 -- What holds of each text that is read: it is one of the texts that are printed.
@@ -178,7 +176,7 @@ module _ {A X : Type 0} {low : ℕ} {m : A → ℕ} {a : Codec A} (k : IsCodec l
   one_only P holds (u ∷ []) s e =
       let r = bind_some (a.read u) (λ x. Some (make x)) s e in
       let i = k.only u r.0 r.1 in
-      subst (P (u ∷ [])) (some_same (make r.0) s r.2) (subst (λ t. P (t ∷ []) (make r.0)) (sym i.1) (holds r.0 i.0))
+      subst (P (u ∷ [])) (same_Some (make r.0) s r.2) (subst (λ t. P (t ∷ []) (make r.0)) (sym i.1) (holds r.0 i.0))
 
 module _ {A B X : Type 0} {low : ℕ} {m : A → ℕ} {n : B → ℕ} {a : Codec A} {b : Codec B} (k : IsCodec low m a) (l : IsCodec low n b) (make : A → B → X) where
   pub two_back : (x : A) (y : B) → a.IsSuch x → b.IsSuch y → two_in make a b (a.text x ∷ b.text y ∷ []) ≡ Some (make x y)

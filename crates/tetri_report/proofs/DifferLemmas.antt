@@ -2,6 +2,7 @@
 use Rattle.std.proofs.Common.{◌≡◌, ◌≢◌, ℕ, ◌+◌, List, [], ◌∷◌, ◌++◌, length, map, zero, suc, refl, sym, ap, ◌∙◌, subst, arith}
 use Rattle.std.specs.Prelude.{Some, slice_get}
 use Rattle.std.proofs.lemmas.List.{append-nil, length-map}
+use Rattle.std.proofs.lemmas.Option.{same_Some}
 use Rattle.tetri_strl.specs.declared.grants.Grant.{Grant}
 use Rattle.tetri_report.specs.Block.{Block}
 use Rattle.tetri_report.specs.BlockLines.{block_lines, certificate_lines, count_events, event_lines, events, grant_line, grant_place, granted, launch_place, occurrences_in, plan_of}
@@ -18,9 +19,6 @@ module _ {X : Type 0} where
 
   same_tail : {x y : X} {xs ys : List X} → x ∷ xs ≡ y ∷ ys → xs ≡ ys
   same_tail e = cc
-
-  some_same : {x y : X} → Some x ≡ Some y → x ≡ y
-  some_same e = cc
 
   not_more : {y : X} {ys : List X} → [] ≡ y ∷ ys → ⊥
   not_more e = absurd cc
@@ -42,7 +40,7 @@ module _ {X : Type 0} where
 
   -- elements that differ
   pub differ_here : (x y : X) (xs ys : List X) → x ≢ y → DifferFirstAt (x ∷ xs) (y ∷ ys) 0
-  differ_here x y xs ys other = record { before = refl; there = λ e. other (some_same e) }
+  differ_here x y xs ys other = record { before = refl; there = λ e. other (same_Some _ _ e) }
 
 -- elements of one kind, which others follow that do not begin so
 module _ {A X : Type 0} (make : A → X) (apart : (a b : A) → make a ≡ make b → a ≡ b) where

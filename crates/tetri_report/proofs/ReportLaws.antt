@@ -18,7 +18,7 @@ use Rattle.tetri_report.proofs.ReadReports.{report_back}
 use Rattle.tetri_report.proofs.ShortLines.{lines_short}
 pub use Rattle.tetri_report.proofs.StageLemmas.{before_certificate}
 use Rattle.tetri_report.proofs.StripLemmas.{bare_behind, begins_bare_behind, certificate_behind, line_as_told, opened_begins_bare, told_bare}
-pub use Rattle.tetri_report.proofs.LinesAhead.{none_left, some_line, texts_from}
+pub use Rattle.tetri_report.proofs.LinesAhead.{none_left, texts_from}
 
 -- a printed report reads back
 pub printed_reads_back : (t : Scenario) → IsSound t → (bs : List Block) (s : Summary) → All (IsPrintable t) bs → All IsInRange bs → IsSummaryInRange s →

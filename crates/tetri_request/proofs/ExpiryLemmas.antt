@@ -4,6 +4,7 @@ use Rattle.std.specs.Prelude.{nat_le}
 use Rattle.std.specs.List.{list_all}
 use Rattle.std.proofs.lemmas.Bool.Decides.{nat_tests}
 use Rattle.std.proofs.lemmas.List.Elements.{All-contains, Contains-append_left}
+use Rattle.std.proofs.lemmas.Option.{same_Some}
 use Rattle.tetri_base.specs.Lists.{Each}
 use Rattle.tetri_base.proofs.ListLaws.{Each-append, Each-at, Each-from, Each-map, all_from, eq_from_test, from_all, test_from_eq}
 use Rattle.tetri_strl.specs.declared.expr.Leaf.{Leaf}
@@ -93,10 +94,7 @@ module _ (a : Ask) (arrival : ℕ) (sound : IsSoundAsk a) where
 pub offer_leaves : (ls : List Leaf) (t : Tree) → one_of (map one ls) ≡ Some t → leaves t ≡ ls
 offer_leaves [] t e = absurd (cc)
 offer_leaves (l ∷ []) t e = let same : one l ≡ t = cc in sym (ap leaves same)
-offer_leaves (l ∷ m ∷ ls) t e = ap leaves (sym (some_same _ t e)) ∙ leaves_of_row (l ∷ m ∷ ls)
-  where
-    some_same : (u v : Tree) → Some u ≡ Some v → u ≡ v
-    some_same u v h = cc
+offer_leaves (l ∷ m ∷ ls) t e = ap leaves (sym (same_Some _ t e)) ∙ leaves_of_row (l ∷ m ∷ ls)
 
 some_offer : (ls : List Leaf) (l : Leaf) → Contains ls l → (t : Tree) × (one_of (map one ls) ≡ Some t)
 some_offer [] l at = absurd (omega (arith, at.1))

@@ -5,6 +5,7 @@ use Rattle.std.proofs.lemmas.Bool.{cases_order}
 use Rattle.std.proofs.lemmas.List.{get_or_default, length-map}
 use Rattle.std.proofs.lemmas.Map.Views.{Contains-from_any}
 use Rattle.std.proofs.Math.ListN.{get_or-map}
+use Rattle.std.proofs.lemmas.Option.{same_Some}
 use Rattle.tetri_base.specs.Lists.{Each, EachPair}
 use Rattle.tetri_base.proofs.ListLaws.{EachPair-with, Each-all, Each-at, Each-from, Each-map, any_from, eq_from_test, test_from_eq}
 use Rattle.tetri_strl.specs.declared.expr.Leaf.{Leaf}
@@ -38,10 +39,7 @@ to_numbers ls l at = (at.0, omega (arith, at.1, length-map ls (λ (k : Leaf). k.
 pub offer_numbers : (ls : List Leaf) (t : Tree) → one_of (map one ls) ≡ Some t → numbers t ≡ map (λ l. l.num) ls
 offer_numbers [] t e = absurd (cc)
 offer_numbers (l ∷ []) t e = let same : one l ≡ t = cc in sym (ap numbers same)
-offer_numbers (l ∷ m ∷ ls) t e = ap numbers (sym (some_same _ t e)) ∙ numbers_of_row (l ∷ m ∷ ls)
-  where
-    some_same : (u v : Tree) → Some u ≡ Some v → u ≡ v
-    some_same u v h = cc
+offer_numbers (l ∷ m ∷ ls) t e = ap numbers (sym (same_Some _ t e)) ∙ numbers_of_row (l ∷ m ∷ ls)
 
 -- ---- a `max` of leaves
 module _ (value : Leaf → ℕ) (held : List ℕ) where
@@ -124,12 +122,9 @@ module _ (value : Leaf → ℕ) (held : List ℕ) where
       let own = subst (IsThrifty value held) same h in
       ((λ zero_worth first. from_bare_one l.num (own zero_worth) first, tt), (tt, tt))
   from_thrifty (l ∷ m ∷ ls) t e h =
-      let same : t ≡ join greatest (row (map one (l ∷ m ∷ ls))) = some_same t _ e in
+      let same : t ≡ join greatest (row (map one (l ∷ m ∷ ls))) = sym (same_Some _ t e) in
       let own = subst (IsThrifty value held) same h in
       (from_thrifty_row (l ∷ m ∷ ls) own.2, from_at_most_one (l ∷ m ∷ ls) own.1)
-    where
-      some_same : (u v : Tree) → Some v ≡ Some u → u ≡ v
-      some_same u v e = cc
 
   to_thrifty : (ls : List Leaf) (t : Tree) → one_of (map one ls) ≡ Some t → Each Earns ls → EachPair Apart ls → IsThrifty value held t
   to_thrifty [] t e earn apart = absurd (cc)
@@ -137,10 +132,7 @@ module _ (value : Leaf → ℕ) (held : List ℕ) where
       let same : one l ≡ t = cc in
       subst (IsThrifty value held) same (λ zero_worth. bare_one l.num (earn.0 zero_worth))
   to_thrifty (l ∷ m ∷ ls) t e earn apart =
-      subst (IsThrifty value held) (some_same t _ e) (idle_row (l ∷ m ∷ ls) earn, at_most_one (l ∷ m ∷ ls) apart, thrifty_row (l ∷ m ∷ ls) earn)
-    where
-      some_same : (u v : Tree) → Some v ≡ Some u → v ≡ u
-      some_same u v e = cc
+      subst (IsThrifty value held) (same_Some _ t e) (idle_row (l ∷ m ∷ ls) earn, at_most_one (l ∷ m ∷ ls) apart, thrifty_row (l ∷ m ∷ ls) earn)
 
   in_order : (ls : List Leaf) → EachPair Apart ls → (x y : Leaf) (i j : ℕ) → i < j → j < length ls → get_or ls i x ≡ x → get_or ls j y ≡ y → Held x → Held y → ⊥
   in_order ls apart x y i j lt short is_x is_y g h =

@@ -3,6 +3,7 @@ use Rattle.std.proofs.Common.{◌≡◌, ℕ, ◌+◌, ◌<◌, ◌≤◌, List,
 use Rattle.std.specs.Prelude.{◌⊎◌, Option, Some, None, Result, Ok, Err, ok_or, slice_get}
 use Rattle.std.proofs.lemmas.List.{append-nil, append_assoc, length-append}
 use Rattle.std.proofs.lemmas.List.Elements.{All-cons, All-head, All-nil, All-tail}
+use Rattle.std.proofs.lemmas.Option.{same_Some}
 use Rattle.tetri_strl.specs.declared.grants.Grant.{Grant}
 use Rattle.tetri_claims.specs.Good.{IsHonest}
 use Rattle.tetri_claims.proofs.ClaimLaws.{certificates_bound}
@@ -104,10 +105,7 @@ read_line t r line ended answer = by_fault r.fault refl
         may (Some m) e = by_test (may_follow r.stage m) refl e
           where
             by_test : (b : Bool) → may_follow r.stage m ≡ b → cond b (Some m) None ≡ Some l → may_follow r.stage l ≡ true
-            by_test true fits same = subst (λ x. may_follow r.stage x ≡ true) (some_same same) fits
-              where
-                some_same : Some m ≡ Some l → m ≡ l
-                some_same e = cc
+            by_test true fits same = subst (λ x. may_follow r.stage x ≡ true) (same_Some m l same) fits
             by_test false fails same = absurd cc
 
     by_fault : (f : Option ℕ) → r.fault ≡ f → ReadLine t r line ended
@@ -162,10 +160,7 @@ closed_end : (t : Scenario) (r : Reading) (m : Summary) (rest : List (List ℕ))
     report_from t r rest ≡ Ok (bs, s) → (bs ≡ []) × (m ≡ s)
 closed_end t r m [] closed is bs s reads =
     let end = end_read t r bs s reads in
-    (end.0, some_same (sym is ∙ end_summary r.fault r.summary (r.lines + 1) s end.1))
-  where
-    some_same : {x y : Summary} → Some x ≡ Some y → x ≡ y
-    some_same e = cc
+    (end.0, same_Some _ _ (sym is ∙ end_summary r.fault r.summary (r.lines + 1) s end.1))
 closed_end t r m (line ∷ rest) closed is bs s reads = by_answer (line_answer t r line) refl
   where
     by_answer : (q : Result (Option Block) ℕ) → line_answer t r line ≡ q → (bs ≡ []) × (m ≡ s)

@@ -1,6 +1,7 @@
 -- A report is refused at one line and for one cause.
 use Rattle.std.proofs.Common.{◌≡◌, ℕ, ◌+◌, ◌<◌, List, [], ◌∷◌, sym, ap, ◌∙◌, refl, subst, arith, ⊎_elim}
 use Rattle.std.specs.Prelude.{Option, Some, Result, Ok, Err}
+use Rattle.std.proofs.lemmas.Option.{same_Some}
 use Rattle.tetri_judge.specs.Places.{place_of}
 use Rattle.tetri_judge.specs.PlanOf.{planned}
 use Rattle.tetri_judge.specs.Verdict.{IsFirstFailed}
@@ -43,10 +44,7 @@ module _ (t : Scenario) (sound : IsSound t) where
       let same : carry ≡ again = carry_same i s.plan carry again carried too in
       let e : v ≡ w = one_verdict i (total_in i again) t.header.budget (planned b) (instance_good t sound s reached more) v w
       (subst (λ c. IsFirstFailed i (total_in i c) t.header.budget (planned b) v) same failed) fails in
-      (ap (place_of b) e, some_same (sym is ∙ ap why_of e ∙ are))
-    where
-      some_same : Some why ≡ Some because → why ≡ because
-      some_same e = cc
+      (ap (place_of b) e, same_Some _ _ (sym is ∙ ap why_of e ∙ are))
   one_fault s b place other why because reached more (planned_badly carry v first carried failed is) (told_badly again at too tests differ) =
       let i = instance_at t s in
       let same : carry ≡ again = carry_same i s.plan carry again carried too in
@@ -89,13 +87,10 @@ module _ (t : Scenario) (sound : IsSound t) where
     one_refusal number other why because (faulty b place w short answer fault) (too_long longer) = absurd (omega (arith, longer, short))
     one_refusal number other why because (faulty b place w short answer fault) (malformed m shorter reads) = absurd (ok_not_err (sym answer ∙ reads))
     one_refusal number other why because (faulty b place w short answer fault) (faulty d at x shorter reads faults) =
-        let same : d ≡ b = some_same (ok_same (sym reads ∙ answer)) in
+        let same : d ≡ b = same_Some _ _ (ok_same (sym reads ∙ answer)) in
         let one = one_fault (state_behind t c.past) b place at why because reached_here (more_here (Some b) answer) fault
         (subst (λ e. IsFaulty t (state_behind t c.past) e at because) same faults) in
         (ap (λ n. c.first + n) one.0, one.1)
-      where
-        some_same : Some d ≡ Some b → d ≡ b
-        some_same e = cc
     one_refusal number other why because (faulty b place w short answer fault) (out_of_place ended shorter reads right not) =
         absurd (not_right_and_faulty b place why ended answer fault reads right)
     one_refusal number other why because (out_of_place ended short answer right not) (too_long longer) = absurd (omega (arith, longer, short))

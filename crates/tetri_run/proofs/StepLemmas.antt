@@ -10,7 +10,7 @@ use Rattle.tetri_judge.specs.declared.verdict.Verdict.TheVariants as verdicts
 use Rattle.std.proofs.lemmas.Bool.Decides.{nat_tests}
 use Rattle.std.proofs.lemmas.List.{length-append, length-map}
 use Rattle.tetri_io.specs.Lines.{line_of}
-use Rattle.tetri_io.proofs.TextLaws.{line_of-le, first_line}
+use Rattle.tetri_io.proofs.TextLaws.{first_line, line_of-le, some_line}
 use Rattle.tetri_base.specs.ResultSteps.{◌>>=◌}
 use Rattle.tetri_report.specs.Block.{Block, headed}
 use Rattle.tetri_report.specs.BlockLines.{certificate_lines, end_place, events}
@@ -25,7 +25,7 @@ use Rattle.tetri_report.specs.Line.{line_in}
 use Rattle.tetri_report.specs.Strips.{AnswersTold, BeginsBare, Telling, block_told, certificate_with, ended_or_more, strip_behind, telling_of, told_answer, told_by}
 use Rattle.tetri_report.specs.Strips as telling
 use Rattle.tetri_report.specs.declared.cycle.Head.{Head}
-use Rattle.tetri_report.proofs.ReportLaws.{before_certificate, begins_bare_first, begins_bare_on, certificate_is_told, line_is_told, none_left, some_line, strip_of_bare, texts_from, told_of_bare}
+use Rattle.tetri_report.proofs.ReportLaws.{before_certificate, begins_bare_first, begins_bare_on, certificate_is_told, line_is_told, none_left, strip_of_bare, texts_from, told_of_bare}
 use Rattle.tetri_report.specs.declared.fault.ReportFault.{ReportFault}
 use Rattle.tetri_report.specs.declared.fault.ReportFault.TheVariants as faults
 use Rattle.tetri_state.specs.Begin.{begin}

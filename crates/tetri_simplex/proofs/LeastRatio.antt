@@ -4,6 +4,7 @@ use Rattle.std.specs.Prelude.{nat_lt}
 use Prim.Native.Nat.{zero, suc}
 use Rattle.std.proofs.lemmas.Bool.{eqb-true, eqb-false, false≢true}
 use Rattle.std.proofs.lemmas.List.{get_or-set_same, get_or-set_other}
+use Rattle.std.proofs.lemmas.Option.{same_Some}
 use lib.IntN.{pos, negsuc}
 use Rattle.tetri_num.specs.declared.places.Kind.TheVariants as Kind
 use Rattle.tetri_algebra.specs.Rational.{ℚ, whole_ℚ}
@@ -44,25 +45,19 @@ lesser_ratio_is vs None k x = ((k, x), (refl, record { below_new = at_most_refl 
     none_some b e = cc
 lesser_ratio_is vs (Some b) k x = by_less (is_less x b.1) refl
   where
-    same_some : (c : ℕ × ℚ) → Some b ≡ Some c → b ≡ c
-    same_some c e = cc
-
     second : ℕ → Bool
     second m = not (is_less b.1 x) && nat_lt (get_or vs k 0) (get_or vs b.0 0)
 
     by_less : (t : Bool) → is_less x b.1 ≡ t → (r : ℕ × ℚ) × ((cond t (Some (k, x)) (cond (not (is_less b.1 x) && nat_lt (get_or vs k 0) (get_or vs b.0 0)) (Some (k, x)) (Some b)) ≡ Some r) × IsCloser (Some b) k x r)
-    by_less true e = ((k, x), (refl, record { below_new = at_most_refl x; below_old = λ c q. subst (λ (w : ℕ × ℚ). AtMost x w.1) (same_some c q) (less_at_most x b.1 e); from = inl refl }))
+    by_less true e = ((k, x), (refl, record { below_new = at_most_refl x; below_old = λ c q. subst (λ (w : ℕ × ℚ). AtMost x w.1) (same_Some b c q) (less_at_most x b.1 e); from = inl refl }))
     by_less false e = by_second (not (is_less b.1 x) && nat_lt (get_or vs k 0) (get_or vs b.0 0)) refl
       where
         by_second : (s : Bool) → (not (is_less b.1 x) && nat_lt (get_or vs k 0) (get_or vs b.0 0)) ≡ s → (r : ℕ × ℚ) × ((cond s (Some (k, x)) (Some b) ≡ Some r) × IsCloser (Some b) k x r)
-        by_second true f = ((k, x), (refl, record { below_new = at_most_refl x; below_old = λ c q. subst (λ (w : ℕ × ℚ). AtMost x w.1) (same_some c q) (not_less x b.1 (not_is _ (both _ _ f))); from = inl refl }))
-        by_second false f = (b, (refl, record { below_new = not_less b.1 x e; below_old = λ c q. subst (λ (w : ℕ × ℚ). AtMost b.1 w.1) (same_some c q) (at_most_refl b.1); from = inr refl }))
-
-some_same : {A : Type 0} → (a b : A) → Some a ≡ Some b → a ≡ b
-some_same a b e = cc
+        by_second true f = ((k, x), (refl, record { below_new = at_most_refl x; below_old = λ c q. subst (λ (w : ℕ × ℚ). AtMost x w.1) (same_Some b c q) (not_less x b.1 (not_is _ (both _ _ f))); from = inl refl }))
+        by_second false f = (b, (refl, record { below_new = not_less b.1 x e; below_old = λ c q. subst (λ (w : ℕ × ℚ). AtMost b.1 w.1) (same_Some b c q) (at_most_refl b.1); from = inr refl }))
 
 is_new : (vs : List ℕ) (best : Option (ℕ × ℚ)) (k : ℕ) (x : ℚ) (c r : ℕ × ℚ) → lesser_ratio vs best k x ≡ Some c → lesser_ratio vs best k x ≡ Some r → c ≡ (k, x) → r ≡ (k, x)
-is_new vs best k x c r e v w = sym (some_same c r (sym e ∙ v)) ∙ w
+is_new vs best k x c r e v w = sym (same_Some c r (sym e ∙ v)) ∙ w
 
 -- ---- all candidates
 abbrev pub ratio_at : List ℚ → List ℚ → ℕ → ℚ

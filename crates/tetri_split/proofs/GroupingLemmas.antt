@@ -6,15 +6,13 @@ use Rattle.std.proofs.lemmas.Bool.{cases_lt}
 use Rattle.std.proofs.lemmas.List.{get_or-set_other, get_or-set_same, get_or_append_left, get_or_default, get_or_push, length-append, length-set}
 use Rattle.std.proofs.lemmas.List.Elements.{All-contains, All-push, All-set, All-weaker, Contains-append_left, Contains-get_or, Contains-push, Contains-push_cases}
 use Rattle.std.proofs.lemmas.List.Quantifiers.{Any-push, all_pairs_push}
+use Rattle.std.proofs.lemmas.Option.{same_Some}
 use Rattle.tetri_base.proofs.ListLaws.{eq_from_test, test_from_eq}
 use Rattle.tetri_split.specs.Grouped.{AreAlike, AreGroups, ArePlaces, AreUnlike}
 use Rattle.tetri_split.specs.Parts.{first_job}
 
 some_none : (x : ℕ) → Some x ≡ None → ⊥
 some_none x e = cc
-
-some_is : (x y : ℕ) → Some x ≡ Some y → x ≡ y
-some_is x y e = cc
 
 cases_same : (x y : ℕ) → (x ≡ y) ⊎ (x ≡ y → ⊥)
 cases_same x y = by_test (x == y) (eq_from_test x y) (λ f same. true≢false (sym (test_from_eq x y same) ∙ f))
@@ -124,7 +122,7 @@ module _ (key : ℕ → Option ℕ) (jobs : List ℕ) (groups : List (List ℕ))
   alone_by_key places x at none own p i among has (inl e) = omega (arith, e, All-contains (λ j. j < job) p i (member_before p among) has)
   alone_by_key places x at none own p i among has (inr (y, of_i, of_job)) =
       All-contains (λ j. key j ≡ Some x → ⊥) p i (All-contains (All (λ j. key j ≡ Some x → ⊥)) groups p (at.nowhere x none) among) has
-      (of_i ∙ ap Some (some_is y x (sym of_job ∙ own)))
+      (of_i ∙ ap Some (same_Some y x (sym of_job ∙ own)))
 
   alone_without : key job ≡ None → (p : List ℕ) (i : ℕ) → Contains groups p → Contains p i → AreAlike key i job → ⊥
   alone_without own p i among has (inl e) = omega (arith, e, All-contains (λ j. j < job) p i (member_before p among) has)
@@ -164,7 +162,7 @@ module _ (key : ℕ → Option ℕ) (jobs : List ℕ) (groups : List (List ℕ))
           (k < length (groups ++ (job ∷ []) ∷ [])) × All (λ j. key j ≡ Some y) (get_or (groups ++ (job ∷ []) ∷ []) k [])
       there_by y k e (inl same) =
           let at_x : get_or (set places x (Some (length groups))) x None ≡ Some k = ap (λ z. get_or (set places x (Some (length groups))) z None) (sym same) ∙ e in
-          let here : length groups ≡ k = some_is (length groups) k (sym (get_or-set_same places x (Some (length groups)) None x_lt) ∙ at_x) in (
+          let here : length groups ≡ k = same_Some (length groups) k (sym (get_or-set_same places x (Some (length groups)) None x_lt) ∙ at_x) in (
             omega (arith, here, length-append groups ((job ∷ []) ∷ [])),
             subst (All (λ j. key j ≡ Some y)) (sym (get_or_push groups (job ∷ []) [] k here)) (subst (λ z. All (λ j. key j ≡ Some z) (job ∷ [])) (sym same) own_all),
           )
@@ -179,7 +177,7 @@ module _ (key : ℕ → Option ℕ) (jobs : List ℕ) (groups : List (List ℕ))
           absurd (some_none (length groups) (sym (get_or-set_same places x (Some (length groups)) None x_lt) ∙ ap (λ z. get_or (set places x (Some (length groups))) z None) (sym same) ∙ e))
       nowhere_by y e (inr other) =
           All-push (All (λ j. key j ≡ Some y → ⊥)) groups (job ∷ []) (at.nowhere y (sym (get_or-set_other places x y (Some (length groups)) None other) ∙ e))
-          (λ k d lt has. other (some_is y x (sym has ∙ own_all k d lt)))
+          (λ k d lt has. other (same_Some y x (sym has ∙ own_all k d lt)))
 
   -- ---- with the key of a group
   module _ (places : List (Option ℕ)) (x k : ℕ) (at : ArePlaces key places groups) (found : get_or places x None ≡ Some k) (own : key job ≡ Some x) where
@@ -212,7 +210,7 @@ module _ (key : ℕ → Option ℕ) (jobs : List ℕ) (groups : List (List ℕ))
     not_job : (q : List ℕ) (i : ℕ) → Contains groups q → Contains q i → AreAlike key i job → AreAlike key i (first_job group)
     not_job q i in_groups has (inl e) = absurd (omega (arith, e, All-contains (λ j. j < job) q i (member_before q in_groups) has))
     not_job q i in_groups has (inr (y, of_i, of_job)) =
-        inr (x, of_i ∙ ap Some (some_is y x (sym of_job ∙ own)), All-contains (λ a. key a ≡ Some x) group (first_job group) have_key member)
+        inr (x, of_i ∙ ap Some (same_Some y x (sym of_job ∙ own)), All-contains (λ a. key a ≡ Some x) group (first_job group) have_key member)
 
     turned : (i j : ℕ) → AreAlike key i j → AreAlike key j i
     turned i j (inl e) = inl (sym e)
@@ -271,7 +269,7 @@ module _ (key : ℕ → Option ℕ) (jobs : List ℕ) (groups : List (List ℕ))
       there = λ y m e. there_by y m e (cases_same m k);
       nowhere = λ y e. All-set (All (λ j. key j ≡ Some y → ⊥)) groups k (group ++ job ∷ [])
           (All-push (λ j. key j ≡ Some y → ⊥) group job (All-contains (All (λ j. key j ≡ Some y → ⊥)) groups group (at.nowhere y e) among)
-          (λ has. some_none k (sym found ∙ ap (λ z. get_or places z None) (some_is x y (sym own ∙ has)) ∙ e))) (at.nowhere y e);
+          (λ has. some_none k (sym found ∙ ap (λ z. get_or places z None) (same_Some x y (sym own ∙ has)) ∙ e))) (at.nowhere y e);
     }
       where
         there_by : (y m : ℕ) → get_or places y None ≡ Some m → (m ≡ k) ⊎ (m ≡ k → ⊥) →
@@ -279,7 +277,7 @@ module _ (key : ℕ → Option ℕ) (jobs : List ℕ) (groups : List (List ℕ))
         there_by y m e (inl same) =
             let old = at.there y m e in
             let here : All (λ j. key j ≡ Some y) group = subst (λ a. All (λ j. key j ≡ Some y) (get_or groups a [])) same old.1 in
-            let is : x ≡ y = some_is x y (sym (All-contains (λ a. key a ≡ Some x) group (first_job group) have_key member) ∙ All-contains (λ a. key a ≡ Some y) group (first_job group) here member) in (
+            let is : x ≡ y = same_Some x y (sym (All-contains (λ a. key a ≡ Some x) group (first_job group) have_key member) ∙ All-contains (λ a. key a ≡ Some y) group (first_job group) here member) in (
               omega (arith, old.0, length-set groups k (group ++ job ∷ [])),
               subst (λ a. All (λ j. key j ≡ Some y) (get_or (set groups k (group ++ job ∷ [])) a [])) (sym same)
                   (subst (All (λ j. key j ≡ Some y)) (sym (get_or-set_same groups k (group ++ job ∷ []) [] lt)) (All-push (λ j. key j ≡ Some y) group job here (own ∙ ap Some is))),

@@ -6,6 +6,7 @@ use Rattle.std.proofs.lemmas.Bool.Decides.{nat_tests}
 use Rattle.std.proofs.lemmas.List.{get_or-map, get_or_append_left, get_or_default, get_or_past, get_or_push, get_or-take, length-map, length-take, take_more}
 use Rattle.std.proofs.lemmas.List.FromFn.{length-range_with_len}
 use Rattle.std.proofs.lemmas.List.Elements.{All-contains, All-contains_itself, All-filter, All-map, All-push, All-take, All-weaker, Contains-get_or}
+use Rattle.std.proofs.lemmas.Option.{same_Some}
 use Rattle.tetri_base.proofs.ListLaws.{test_from_eq, test_from_ne}
 use Rattle.tetri_strl.specs.declared.expr.Leaf.{Leaf}
 use Rattle.tetri_strl.specs.Tree.{greatest, join, leaves, none}
@@ -247,9 +248,6 @@ live_nodes s b h =
 some_none : (x : ℕ) → Some x ≡ None → ⊥
 some_none x e = cc
 
-some_is : (x y : ℕ) → Some x ≡ Some y → x ≡ y
-some_is x y e = cc
-
 module _ (labels : List ℕ) where
   none_of : (o : Option ℕ) (r : List ℕ) → IsOneOf r o → label_of labels o ≡ None → r ≡ []
   none_of None r h e = h
@@ -265,7 +263,7 @@ module _ (labels : List ℕ) where
   -- the node that a label is of
   node_of : (o : Option ℕ) (r : List ℕ) (x : ℕ) → IsOneOf r o → label_of labels o ≡ Some x → (n : ℕ) × (o ≡ Some n) × Contains r n × (get_or labels n 0 ≡ x)
   node_of None r x h e = absurd (some_none x (sym e))
-  node_of (Some n) r x h e = (n, refl, h, some_is (get_or labels n 0) x e)
+  node_of (Some n) r x h e = (n, refl, h, same_Some (get_or labels n 0) x e)
 
 module _ (s : Space) (sound : IsSound s) (labels : List ℕ) (nodes : List (Option ℕ)) (count : length nodes ≡ length s.bids) (all : length labels ≡ s.nodes)
     (node : (i : ℕ) → i < length s.bids → IsOneOf (get_or (nodes_by_bid s) i []) (get_or nodes i None)) where

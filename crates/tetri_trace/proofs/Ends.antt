@@ -4,7 +4,7 @@ use Rattle.std.specs.Prelude.{Option, Result}
 use Rattle.std.proofs.lemmas.Bool.{le-ltb}
 use Rattle.serde_json.specs.Data.{Data}
 use Rattle.tetri_io.specs.Lines.{line_of, lines_from, onto}
-use Rattle.tetri_io.proofs.TextLaws.{line_of-le, first_line}
+use Rattle.tetri_io.proofs.TextLaws.{first_line, line_of-le, some_line}
 use Rattle.tetri_notice.specs.Answers.{Stops}
 use Rattle.tetri_trace.specs.Answers.{Fails, fault_at}
 use Rattle.tetri_notice.specs.Fields.{object_in}
@@ -32,21 +32,6 @@ has_object so_far line next d short early text e = rw (le-ltb 1048576 (length li
 too_long : (so_far : Option Scenario) (line : ℕ) (l : List ℕ × ℕ) (others : List (List ℕ × ℕ)) → 1048576 < length l.0 → from_lines so_far line (l ∷ others) ≡ Err (line, LineTooLong)
 unfolding add_line
 too_long so_far line l others h = rw (lt-ltb 1048576 (length l.0) h) refl
-
-abbrev HasFirst : List (List ℕ × ℕ) → Type 0
-HasFirst ls = (first : List ℕ × ℕ) × (others : List (List ℕ × ℕ)) × (ls ≡ first ∷ others)
-
-onto_some : (x at : ℕ) (ls : List (List ℕ × ℕ)) → HasFirst (onto (x ∷ []) at ls)
-onto_some x at [] = ((x ∷ [], at), [], refl)
-onto_some x at (l ∷ ls) = (((x ∷ []) ++ l.0, l.1), ls, refl)
-
-some_line : (at : ℕ) (xs : List ℕ) → 0 < length xs → HasFirst (lines_from at xs)
-some_line at [] h = absurd (omega arith)
-some_line at (x ∷ xs) h =
-    elim (x == 10) as (λ b. HasFirst (cond b (([], at + 1) ∷ lines_from (at + 1) xs) (onto (x ∷ []) (at + 1) (lines_from (at + 1) xs)))) [
-      | true ↦ (([], at + 1), lines_from (at + 1) xs, refl)
-      | false ↦ onto_some x (at + 1) (lines_from (at + 1) xs)
-    ]
 
 -- the next line has too many bytes
 pub goes_too_long : (so_far : Option Scenario) (line : ℕ) (content : List ℕ) (offset : ℕ) → 1048576 < length (line_of (drop offset content)) → from_lines so_far line (lines_from offset (drop offset content)) ≡ Err (line, LineTooLong)
