@@ -18,7 +18,7 @@ use Rattle.tetri_strl.specs.Prune.{pruned}
 use Rattle.tetri_strl.specs.Aligned.{EachLeaf}
 use Rattle.tetri_strl.proofs.ExprLaws.{EachLeaf-from}
 use Rattle.tetri_space.specs.Closed.{AreTurns}
-use Rattle.tetri_space.specs.Finding.{IsSigned, has_some, firsts, grouped}
+use Rattle.tetri_space.specs.steps.Finding.{IsSigned, has_some, firsts, grouped}
 use Rattle.tetri_base.specs.Lists.{has, Each, list_at}
 use Rattle.tetri_space.specs.Partitions.{with_left, bids_left, sets_in}
 use Rattle.tetri_space.specs.Space.{Space, bid}

@@ -11,7 +11,7 @@ use Rattle.tetri_base.proofs.ListLaws.{any_from, test_from_eq}
 use Rattle.tetri_strl.specs.declared.expr.Leaf.{Leaf}
 use Rattle.tetri_strl.specs.declared.grants.Grant.{Grant}
 use Rattle.tetri_space.specs.Free.{IsFree}
-use Rattle.tetri_space.specs.Front.{IsTaken}
+use Rattle.tetri_space.specs.steps.Front.{IsTaken}
 use Rattle.tetri_space.specs.GrantOrder.{ComesBefore, comes_first}
 use Rattle.tetri_space.specs.Lawful.{AreApart, IsLawful, IsLawfulGrant, MayBeGranted}
 use Rattle.tetri_space.specs.Slots.{is_marked, marked, overlap, slots_of}

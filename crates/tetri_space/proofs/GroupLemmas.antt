@@ -7,7 +7,7 @@ use Rattle.std.proofs.lemmas.List.Elements.{filter-append}
 use Rattle.std.proofs.lemmas.List.Folds.{list_any-append}
 use Rattle.std.proofs.lemmas.Slice.Eq.{bytes_eq-Decides}
 use Rattle.tetri_base.specs.Lists.{Each, EachPair}
-use Rattle.tetri_space.specs.Finding.{has_some, is_first, firsts, grouped}
+use Rattle.tetri_space.specs.steps.Finding.{has_some, is_first, firsts, grouped}
 use Rattle.tetri_base.proofs.ListLaws.{any_from, Each-get, Each-map, Each-from, EachPair-append, Each-passed, Each-filter}
 
 pub range_push : (a n : ℕ) → range_with_len a (suc n) ≡ range_with_len a n ++ (a + n) ∷ []

@@ -16,7 +16,7 @@ use Rattle.tetri_strl.specs.declared.expr.Leaf.{Leaf}
 use Rattle.tetri_strl.specs.Tree.{leaves}
 use Rattle.tetri_space.specs.Closed.{AreTurns, is_odd_at}
 use Rattle.tetri_space.specs.Free.{is_closed}
-use Rattle.tetri_space.specs.Finding.{AreSignatures, IsSigned, has_some, is_first, firsts, grouped}
+use Rattle.tetri_space.specs.steps.Finding.{AreSignatures, IsSigned, has_some, is_first, firsts, grouped}
 use Rattle.tetri_base.specs.Lists.{has, same, list_at}
 use Rattle.tetri_space.specs.Partitions.{live_bids, sets_in, asked, alike, leads, closed_sets, partitions, set_at, part_at, parts_in}
 use Rattle.tetri_space.specs.Sound.{IsSound, IsSoundBid, HasKnownSet}

@@ -1,8 +1,6 @@
 pub mod Broken
 pub mod Closed
-pub mod Finding
 pub mod Free
-pub mod Front
 pub mod GrantOrder
 pub mod Lawful
 pub mod Partitions
@@ -13,3 +11,4 @@ pub mod Spans
 pub mod Total
 pub mod Trimmed
 pub mod Words
+pub mod steps

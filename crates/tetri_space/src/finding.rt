@@ -6,7 +6,7 @@ ghost use Rattle.std.specs.List.Sorted.{IsStrictlyIncreasing};
 ghost use Rattle.tetri_strl.specs.Aligned.{EachLeaf};
 ghost use Rattle.tetri_strl.specs.Tree.{leaves, tree};
 ghost use Rattle.tetri_base.specs.Lists.{has, list_at};
-ghost use Rattle.tetri_space.specs.Finding.{AreSignatures, IsSigned, firsts, grouped};
+ghost use Rattle.tetri_space.specs.steps.Finding.{AreSignatures, IsSigned, firsts, grouped};
 ghost use Rattle.tetri_space.specs.Partitions.{live_bids, partitions, set_at, sets_in};
 ghost use Rattle.tetri_space.specs.Sound.{IsSound};
 ghost use Rattle.tetri_space.specs.Space.{bid, space};

@@ -1,7 +1,7 @@
 // Grants that ascend by job and leaf: whether they are lawful together, by a mask of slots for each
 // node.
 ghost use Rattle.std.specs.Prelude.{◌≡◌, ◌≤◌, IsTrue, length, take};
-ghost use Rattle.tetri_space.specs.Front.{IsTaken};
+ghost use Rattle.tetri_space.specs.steps.Front.{IsTaken};
 ghost use Rattle.tetri_space.specs.Lawful.{IsLawful};
 ghost use Rattle.tetri_space.specs.Sound.{IsSound};
 ghost use Rattle.tetri_space.specs.Space.{space};

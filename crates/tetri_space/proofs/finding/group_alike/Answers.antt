@@ -1,6 +1,6 @@
 use Rattle.std.proofs.Common.{◌≡◌, ◌<◌, ◌∙◌, ◌&&◌, All, List, Vec, Global, Bool, ℕ, false, length, map, slice_index_or, subst, sym, ap, arith}
 use Rattle.std.specs.List.{filter, range_with_len}
-use Rattle.tetri_space.specs.Finding.{IsSigned, firsts, grouped}
+use Rattle.tetri_space.specs.steps.Finding.{IsSigned, firsts, grouped}
 use Rattle.tetri_base.specs.Lists.{has, list_at}
 use Rattle.tetri_space.specs.Partitions.{live_bids, set_at, sets_in}
 use Rattle.tetri_space.specs.Space.{Bid, space}

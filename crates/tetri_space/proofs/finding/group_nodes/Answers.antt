@@ -1,6 +1,6 @@
 use Rattle.std.proofs.Common.{◌≡◌, ◌++◌, ◌∷◌, [], cond, false, bytes_eq, map, sym, ap, ◌∙◌, arith}
 use Rattle.std.specs.List.{list_any}
-use Rattle.tetri_space.specs.Finding.{has_some}
+use Rattle.tetri_space.specs.steps.Finding.{has_some}
 use Rattle.tetri_base.specs.Lists.{list_at}
 use Rattle.tetri_space.proofs.FindingLemmas.{skip_node, join_node, new_node, list_is, some_from, none_of_empty}
 use Rattle.tetri_space.proofs.finding.group_nodes.Goals as goal

@@ -1,5 +1,5 @@
 use Rattle.std.proofs.Common.{◌≡◌, map}
-use Rattle.tetri_space.specs.Finding.{firsts, grouped}
+use Rattle.tetri_space.specs.steps.Finding.{firsts, grouped}
 use Rattle.tetri_base.specs.Lists.{list_at}
 use Rattle.tetri_space.proofs.finding.group_nodes.Given as goal
 

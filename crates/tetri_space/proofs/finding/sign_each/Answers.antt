@@ -1,7 +1,7 @@
 use Rattle.std.proofs.Common.{◌≡◌, ◌∙◌, ℕ, ◌<◌, List, length, set, sym, subst, arith, inl, inr}
 use Rattle.std.proofs.lemmas.Bool.{cases_lt}
 use Rattle.std.proofs.lemmas.List.{length-set}
-use Rattle.tetri_space.specs.Finding.{IsSigned}
+use Rattle.tetri_space.specs.steps.Finding.{IsSigned}
 use Rattle.tetri_base.specs.Lists.{list_at}
 use Rattle.tetri_space.specs.Space.{space}
 use Rattle.tetri_space.proofs.FindingLemmas.{list_is, put_here, put_other}

@@ -1,5 +1,5 @@
 use Rattle.std.proofs.Common.{◌≡◌, ℕ, ◌<◌, ◌≤◌, length}
-use Rattle.tetri_space.specs.Finding.{IsSigned}
+use Rattle.tetri_space.specs.steps.Finding.{IsSigned}
 use Rattle.tetri_base.specs.Lists.{list_at}
 use Rattle.tetri_space.specs.Space.{space}
 use Rattle.tetri_space.proofs.finding.sign_each.Given as goal
