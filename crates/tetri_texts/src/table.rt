@@ -1,5 +1,5 @@
 // The sections of a table.
-use crate::{certificates, contents, names, sets, texts};
+use crate::{certificates, contents, devices, names, sets, texts};
 use std::alloc::{AllocError, Global};
 use tetri_tables::{Given, Tally, sections_of};
 
@@ -13,6 +13,7 @@ fn judge_contents(
     match word {
         "read lines" => contents::read_lines(alloc, tally, body),
         "sent bytes" => contents::sent_bytes(alloc, tally, body),
+        "narrow writes" => devices::narrow_writes(alloc, tally, body),
         "parts" => contents::parts(alloc, tally, body),
         "split texts" => contents::split_texts(alloc, tally, body),
         "numbers" => contents::numbers(alloc, tally, more, body),
