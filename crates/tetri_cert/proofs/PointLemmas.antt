@@ -1,23 +1,17 @@
 -- The point of a Whole node.
-use Rattle.std.proofs.Common.{◌≡◌, ℕ, ◌+◌, ◌*◌, ◌^◌, ◌<◌, ◌≤◌, max, refl, sym, ap, ◌∙◌, subst, arith, List, [], ◌∷◌, length, drop, drop-cons, replicate, Bool, true, false}
+use Rattle.std.proofs.Common.{◌≡◌, ℕ, ◌<◌, refl, sym, ap, ◌∙◌, subst, arith, List, [], ◌∷◌, length, replicate, Bool, true, false}
 use Prim.Native.Nat.{zero, suc}
-use Rattle.std.specs.Prelude.{unsigned_abs, ◌≤ℤ◌, ◌&&◌, ◌↔◌, IsTrue, nat_lt}
+use Rattle.std.specs.Prelude.{◌≤ℤ◌, ◌&&◌, ◌↔◌, IsTrue, nat_lt}
 use Rattle.std.specs.List.{All}
-use Rattle.std.proofs.Math.Nat.{mul-le-mul_left}
 use Rattle.std.proofs.lemmas.Bool.{false≢true}
 use Rattle.std.proofs.lemmas.List.{length-set, length-replicate}
-use Rattle.std.proofs.lemmas.Int.{ints, fits_signed_from_abs, to_z-of_z, unsigned_abs-mul}
+use Rattle.std.proofs.lemmas.Int.{ints}
 use borrow.Author.Tests.{ltb-true}
-use lib.IntN.{ℤ, pos, ◌+ℤ◌, ◌*ℤ◌}
+use lib.IntN.{ℤ, pos}
 use lib.Signed.{le_z}
-use mir.Val.{SFits, to_z, of_z}
-use mir.Syntax.{w128}
-use Rattle.tetri_algebra.specs.IntegerRing.{ℤ_ring}
-use Rattle.tetri_algebra.specs.Sums.{dot}
 use Rattle.tetri_ip.specs.declared.programs.Program.{Program}
 use Rattle.tetri_ip.specs.declared.programs.Row.{Row}
-use Rattle.tetri_ip.specs.Points.{Bounds, IsBetween, IsInBox, IsPoint, MeetsRows, cost_reach, left_side, number_at, objective, size_at}
-use Rattle.tetri_ip.proofs.IntegerProgramLaws.{AddsTerm}
+use Rattle.tetri_ip.specs.Points.{Bounds, IsBetween, IsInBox, IsPoint, MeetsRows, left_side, objective}
 use Rattle.tetri_cert.specs.declared.marks.Cell.{Cell}
 use Rattle.tetri_cert.specs.Cells.{are_between, are_met, are_of_columns, is_point, is_same, is_whole_point, point_of, with_cells}
 
@@ -120,77 +114,3 @@ whole_point_is p b worth cells n xs answer e h x a =
     let f : xs ≡ ys = subst (λ k. xs ≡ point_of k cells) e x in
     a ∙ ap (λ (zs : List ℤ). is_point p b zs && is_same worth (objective p zs)) f
     ∙ sym (ap (λ t. t && (is_point p b ys && is_same worth (objective p ys))) (subst (λ k. are_of_columns k cells ≡ true) e h))
-
--- ---- the objective
-more_is : (k : ℕ) → suc k ≡ k + 1
-more_is k = omega arith
-
-drop_more : (xs : List ℤ) (j : ℕ) → j < length xs → drop j xs ≡ number_at xs j ∷ drop (j + 1) xs
-drop_more xs j h = drop-cons xs j (pos 0) h ∙ ap (λ k. number_at xs j ∷ drop k xs) (more_is j)
-
-drop_rest : (xs : List ℤ) (j : ℕ) → length xs ≤ j → drop j xs ≡ []
-drop_rest [] zero h = refl
-drop_rest [] (suc j) h = refl
-drop_rest (x ∷ xs) zero h = absurd (omega arith)
-drop_rest (x ∷ xs) (suc j) h = drop_rest xs j (omega arith)
-
-size_between : (l x u : ℤ) → l ≤ℤ x → x ≤ℤ u → unsigned_abs x ≤ max (unsigned_abs l) (unsigned_abs u)
-size_between l x u h k = omega (arith, ints)
-
-add_part : (sum part : ℤ) (n rest : ℕ) (left whole : ℤ) → unsigned_abs part ≤ n → unsigned_abs sum + (n + rest) < 2 ^ 127 → sum +ℤ (part +ℤ left) ≡ whole → AddsTerm sum part rest left whole
-add_part sum part n rest left whole e h v =
-    let r : unsigned_abs (sum +ℤ part) + rest < 2 ^ 127 = omega (arith, ints) in
-    record {
-      part_fits = fits_signed_from_abs w128 part (omega arith);
-      sum_fits = fits_signed_from_abs w128 (sum +ℤ part) (omega arith);
-      in_range = r;
-      value = assoc sum part left ∙ v;
-    }
-  where
-    assoc : (a b c : ℤ) → (a +ℤ b) +ℤ c ≡ a +ℤ (b +ℤ c)
-    assoc a b c = omega (arith, ints)
-
-pub adds_cost : (p : Program) (point : List ℤ) (j : ℕ) (sum whole a x : ℤ) → IsBetween (length p.costs.items) p.lower.items point p.upper.items → length point ≡ length p.costs.items → j < length p.costs.items → a ≡ number_at p.costs.items j → x ≡ number_at point j →
-    unsigned_abs sum + cost_reach p j (drop j p.costs.items) < 2 ^ 127 → sum +ℤ dot ℤ_ring (drop j p.costs.items) (drop j point) ≡ whole →
-    AddsTerm sum (a *ℤ x) (cost_reach p (j + 1) (drop (j + 1) p.costs.items)) (dot ℤ_ring (drop (j + 1) p.costs.items) (drop (j + 1) point)) whole
-adds_cost p point j sum whole a x s sc h ae xe r v =
-    let cs = p.costs.items in
-    let m = s j h in
-    let z = size_between (number_at p.lower.items j) (number_at point j) (number_at p.upper.items j) m.0 m.1 in
-    let l : j < length point = subst (λ n. j < n) (sym sc) h in
-    let e = mul-le-mul_left (unsigned_abs (number_at cs j)) z in
-    let n : unsigned_abs (a *ℤ x) ≤ unsigned_abs (number_at cs j) * size_at p j =
-    subst (λ k. k ≤ unsigned_abs (number_at cs j) * size_at p j) (sym (unsigned_abs-mul a x ∙ ap (λ y. unsigned_abs y * unsigned_abs x) ae ∙ ap (λ y. unsigned_abs (number_at cs j) * unsigned_abs y) xe)) e in
-    add_part sum (a *ℤ x) (unsigned_abs (number_at cs j) * size_at p j) (cost_reach p (j + 1) (drop (j + 1) cs)) (dot ℤ_ring (drop (j + 1) cs) (drop (j + 1) point)) whole n
-    (subst (λ (ys : List ℤ). unsigned_abs sum + cost_reach p j ys < 2 ^ 127) (drop_more cs j h) r)
-    (ap (λ y. sum +ℤ (y *ℤ x +ℤ dot ℤ_ring (drop (j + 1) cs) (drop (j + 1) point))) ae ∙ ap (λ y. sum +ℤ (number_at cs j *ℤ y +ℤ dot ℤ_ring (drop (j + 1) cs) (drop (j + 1) point))) xe
-    ∙ sym (ap (λ (ys : List ℤ). sum +ℤ dot ℤ_ring ys (drop j point)) (drop_more cs j h) ∙ ap (λ (ys : List ℤ). sum +ℤ dot ℤ_ring (number_at cs j ∷ drop (j + 1) cs) ys) (drop_more point j l))
-    ∙ v)
-
--- as the code reads them
-pub record AddsRead (p : Program) (point : List ℤ) (j : ℕ) (sum part next whole : ℤ) : Type 0 where
-  pub part_fits : SFits w128 part
-  pub sum_fits : SFits w128 next
-  pub in_range : unsigned_abs (to_z w128 (of_z w128 next)) + cost_reach p (j + 1) (drop (j + 1) p.costs.items) < 2 ^ 127
-  pub value : to_z w128 (of_z w128 next) +ℤ dot ℤ_ring (drop (j + 1) p.costs.items) (drop (j + 1) point) ≡ whole
-
-pub cost_added : (p : Program) (point : List ℤ) (j : ℕ) (sum whole a x : ℤ) → IsBetween (length p.costs.items) p.lower.items point p.upper.items → length point ≡ length p.costs.items → j < length p.costs.items → a ≡ number_at p.costs.items j → x ≡ number_at point j →
-    unsigned_abs sum + cost_reach p j (drop j p.costs.items) < 2 ^ 127 → sum +ℤ dot ℤ_ring (drop j p.costs.items) (drop j point) ≡ whole →
-    AddsRead p point j sum (a *ℤ x) (sum +ℤ to_z w128 (of_z w128 (a *ℤ x))) whole
-cost_added p point j sum whole a x s sc h ae xe r v =
-    let t = adds_cost p point j sum whole a x s sc h ae xe r v in
-    let e : sum +ℤ a *ℤ x ≡ sum +ℤ to_z w128 (of_z w128 (a *ℤ x)) = ap (λ z. sum +ℤ z) (sym (to_z-of_z w128 (a *ℤ x) t.part_fits)) in
-    let f : SFits w128 (sum +ℤ to_z w128 (of_z w128 (a *ℤ x))) = subst (SFits w128) e t.sum_fits in
-    let g : sum +ℤ a *ℤ x ≡ to_z w128 (of_z w128 (sum +ℤ to_z w128 (of_z w128 (a *ℤ x)))) = e ∙ sym (to_z-of_z w128 _ f) in
-    record {
-      part_fits = t.part_fits;
-      sum_fits = f;
-      in_range = subst (λ (z : ℤ). unsigned_abs z + cost_reach p (j + 1) (drop (j + 1) p.costs.items) < 2 ^ 127) g t.in_range;
-      value = ap (λ z. z +ℤ dot ℤ_ring (drop (j + 1) p.costs.items) (drop (j + 1) point)) (sym g) ∙ t.value;
-    }
-
-pub objective_end : (p : Program) (point : List ℤ) (j : ℕ) (sum whole : ℤ) → length p.costs.items ≤ j → sum +ℤ dot ℤ_ring (drop j p.costs.items) (drop j point) ≡ whole → sum ≡ whole
-objective_end p point j sum whole h v = plus_zero sum ∙ ap (λ (ys : List ℤ). sum +ℤ dot ℤ_ring ys (drop j point)) (sym (drop_rest p.costs.items j h)) ∙ v
-  where
-    plus_zero : (a : ℤ) → a ≡ a +ℤ pos 0
-    plus_zero a = omega (arith, ints)

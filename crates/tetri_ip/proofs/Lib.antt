@@ -3,6 +3,7 @@ pub mod Duality
 pub mod FactorLemmas
 pub mod Formed
 pub mod IntegerProgramLaws
+pub mod Objectives
 pub mod PointLemmas
 pub mod Sides
 pub mod Signed

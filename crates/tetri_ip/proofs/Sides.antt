@@ -13,13 +13,13 @@ use Rattle.tetri_ip.specs.declared.programs.Program.{Program}
 use Rattle.tetri_ip.specs.declared.programs.Term.{Term}
 use Rattle.tetri_ip.specs.Points.{IsBetween, column_at, left_side, number_at, reach, size_at, sizes}
 
-sizes-cons : (t : Term) (ts : List Term) (point : List ℤ) → sizes (t ∷ ts) point ≡ unsigned_abs t.by * unsigned_abs (number_at point t.column) + sizes ts point
+pub sizes-cons : (t : Term) (ts : List Term) (point : List ℤ) → sizes (t ∷ ts) point ≡ unsigned_abs t.by * unsigned_abs (number_at point t.column) + sizes ts point
 sizes-cons t ts point = sum_by-cons (λ (u : Term). unsigned_abs u.by * unsigned_abs (number_at point u.column)) t ts
 
 reach-cons : (p : Program) (t : Term) (ts : List Term) → reach p (t ∷ ts) ≡ unsigned_abs t.by * size_at p t.column + reach p ts
 reach-cons p t ts = sum_by-cons (λ (u : Term). unsigned_abs u.by * size_at p u.column) t ts
 
-size_between : (l x u : ℤ) → l ≤ℤ x → x ≤ℤ u → unsigned_abs x ≤ max (unsigned_abs l) (unsigned_abs u)
+pub size_between : (l x u : ℤ) → l ≤ℤ x → x ≤ℤ u → unsigned_abs x ≤ max (unsigned_abs l) (unsigned_abs u)
 size_between l x u h k = omega (arith, ints)
 
 -- at a point in the box the sizes are within the reach
@@ -43,7 +43,7 @@ pub record AddsTerm (sum part : ℤ) (rest : ℕ) (left whole : ℤ) : Type 0 wh
   pub in_range : unsigned_abs (sum +ℤ part) + rest < 2 ^ 127
   pub value : (sum +ℤ part) +ℤ left ≡ whole
 
-add_part : (sum part : ℤ) (n rest : ℕ) (left whole : ℤ) → unsigned_abs part ≡ n → unsigned_abs sum + (n + rest) < 2 ^ 127 → sum +ℤ (part +ℤ left) ≡ whole → AddsTerm sum part rest left whole
+pub add_part : (sum part : ℤ) (n rest : ℕ) (left whole : ℤ) → unsigned_abs part ≤ n → unsigned_abs sum + (n + rest) < 2 ^ 127 → sum +ℤ (part +ℤ left) ≡ whole → AddsTerm sum part rest left whole
 add_part sum part n rest left whole e h v =
     let r : unsigned_abs (sum +ℤ part) + rest < 2 ^ 127 = omega (arith, ints) in
     record {
@@ -65,7 +65,7 @@ adds_term ts point i d sum whole a x l ae xe h v =
     let e : drop i ts ≡ t ∷ drop (i + 1) ts = drop-cons ts i d l ∙ ap (λ k. t ∷ drop k ts) s in
     let pe : t.by *ℤ number_at point t.column ≡ a *ℤ x = ap (λ z. z *ℤ number_at point t.column) (sym ae) ∙ ap (λ z. a *ℤ z) (sym xe) in
     let n : unsigned_abs (a *ℤ x) ≡ unsigned_abs t.by * unsigned_abs (number_at point t.column) = ap unsigned_abs (sym pe) ∙ unsigned_abs-mul t.by (number_at point t.column) in
-    add_part sum (a *ℤ x) (unsigned_abs t.by * unsigned_abs (number_at point t.column)) (sizes (drop (i + 1) ts) point) (left_side (drop (i + 1) ts) point) whole n
+    add_part sum (a *ℤ x) (unsigned_abs t.by * unsigned_abs (number_at point t.column)) (sizes (drop (i + 1) ts) point) (left_side (drop (i + 1) ts) point) whole (omega arith)
     (subst (λ (k : ℕ). unsigned_abs sum + k < 2 ^ 127) (ap (λ (us : List Term). sizes us point) e ∙ sizes-cons t (drop (i + 1) ts) point) h)
     (ap (λ z. sum +ℤ (z +ℤ left_side (drop (i + 1) ts) point)) (sym pe) ∙ sym (ap (λ (us : List Term). sum +ℤ left_side us point) e) ∙ v)
 

@@ -1,5 +1,5 @@
 -- Weighing without weights and by one row is formed, and what it gives at a region of one point.
-use Rattle.std.proofs.Common.{◌≡◌, ℕ, ◌+◌, ◌*◌, ◌^◌, ◌<◌, ◌≤◌, max, refl, sym, ap, ◌∙◌, subst, arith, List, [], ◌∷◌, length, Bool, true, false, cond, eqb, Option, Some, None, Result, Ok, IfOk}
+use Rattle.std.proofs.Common.{◌≡◌, ℕ, ◌+◌, ◌*◌, ◌^◌, ◌<◌, ◌≤◌, refl, sym, ap, ◌∙◌, subst, arith, List, [], ◌∷◌, length, Bool, true, false, cond, eqb, Option, Some, None, Result, Ok, IfOk}
 use Prim.Native.Nat.{suc}
 use Rattle.std.specs.Prelude.{unsigned_abs, nat_lt, ◌≤ℤ◌}
 use Rattle.std.proofs.Math.Nat.{mul-le-mul_left}
@@ -24,6 +24,7 @@ use Rattle.tetri_ip.specs.Forming.{add_product, first_negative, form_column, for
 use Rattle.tetri_ip.proofs.Coefficients.{coefficient_at, unit_other}
 use Rattle.tetri_ip.proofs.Duality.{dot_from-column_sum, left_sum}
 use Rattle.tetri_ip.proofs.Formed.{columns_are, right_is}
+use Rattle.tetri_ip.proofs.Sides.{size_between}
 
 -- ---- where weighing answers, it answers the weighed number
 pub answer_is_weighed : (p : Program) (b : Bounds) (q : ℤ) (ws : List Weight) (z : ℤ) → weigh_answer p b q ws ≡ Ok z → z ≡ weighed p b q ws
@@ -84,9 +85,6 @@ columns_formed rows b q ws most j (c ∷ cs) sum f h =
     moved k = omega arith
 
 -- ---- bounds of a region within the program's box
-size_between : (l x u : ℤ) → l ≤ℤ x → x ≤ℤ u → unsigned_abs x ≤ max (unsigned_abs l) (unsigned_abs u)
-size_between l x u h k = omega (arith, ints)
-
 bound_size : (p : Program) (b : Bounds) (j : ℕ) (d : ℤ) → IsInBox p b → j < length p.costs.items → unsigned_abs (bound_taken b j d) ≤ size_at p j
 bound_size p b j d h l = by_sign (lt_z (pos 0) d)
   where
@@ -195,7 +193,7 @@ row_sum p (t ∷ ts) j cs =
     omega arith
 
 -- a coefficient is that of a term, or 0
-coefficient_within : (ts : List Term) (j : ℕ) → ((k m : ℕ) → k < m → m < length ts → column_at ts k < column_at ts m) → ((k : ℕ) → k < length ts → IsWithin (term_at ts k).by) → IsWithin (coefficient ts j)
+pub coefficient_within : (ts : List Term) (j : ℕ) → ((k m : ℕ) → k < m → m < length ts → column_at ts k < column_at ts m) → ((k : ℕ) → k < length ts → IsWithin (term_at ts k).by) → IsWithin (coefficient ts j)
 coefficient_within [] j a w = omega (arith, ints)
 coefficient_within (t ∷ ts) j a w = by_column (coefficient_within ts j (λ k m h l. a (suc k) (suc m) (omega arith) (omega arith)) (λ k l. w (suc k) (omega arith))) (eqb t.column j) refl
   where

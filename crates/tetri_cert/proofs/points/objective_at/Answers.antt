@@ -6,8 +6,7 @@ use mir.Syntax.{w128}
 use Rattle.tetri_algebra.specs.IntegerRing.{ℤ_ring}
 use Rattle.tetri_algebra.specs.Sums.{dot}
 use Rattle.tetri_ip.specs.Points.{number_at}
-use Rattle.tetri_ip.proofs.IntegerProgramLaws.{item_is}
-use Rattle.tetri_cert.proofs.PointLemmas.{cost_added, objective_end}
+use Rattle.tetri_ip.proofs.IntegerProgramLaws.{cost_added, item_is, objective_end}
 use Rattle.tetri_cert.proofs.points.objective_at.Goals as goal
 
 pub overflow_mul-part : goal.overflow_mul-part
