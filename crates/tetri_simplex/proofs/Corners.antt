@@ -3,6 +3,7 @@ use Rattle.std.proofs.Common.{◌≡◌, ℕ, ◌+◌, refl, sym, ap, ◌∙◌,
 use Prim.Native.Nat.{suc}
 use Rattle.std.specs.Prelude.{◌≤ℤ◌}
 use Rattle.std.proofs.lemmas.Int.{ints}
+use Rattle.std.proofs.lemmas.List.{drop_more}
 use lib.IntN.{ℤ, pos, ◌+ℤ◌, ◌-ℤ◌, ◌*ℤ◌}
 use lib.Signed.{lt_z}
 use Rattle.tetri_algebra.specs.IntegerRing.{ℤ_ring}
@@ -11,7 +12,6 @@ use Rattle.tetri_algebra.specs.Sums.{dot, dot_from}
 use Rattle.tetri_ip.specs.Points.{Bounds, number_at, objective}
 use Rattle.tetri_ip.specs.Weighed.{bound_taken, columns_from, right_sum, column_sum, weighed}
 use Rattle.tetri_ip.proofs.IntegerProgramLaws.{left_sum, dot_from-column_sum}
-use Rattle.tetri_simplex.proofs.Starting.{drop_more}
 use Rattle.tetri_ip.specs.declared.programs.Program.{Program}
 use Rattle.tetri_ip.specs.declared.programs.Row.{Row}
 use Rattle.tetri_ip.specs.declared.programs.Weight.{Weight}
@@ -52,8 +52,8 @@ columns_are rows b q ws j [] e f = refl
 columns_are rows b q ws j (c ∷ cs) e f =
     let d = q *ℤ c -ℤ column_sum rows ws j in
     ap (λ z. d *ℤ bound_taken b j d +ℤ z) (columns_are rows b q ws (j + 1) cs (omega arith) (omega arith))
-    ∙ ap (λ zs. best_from rows ws q j (c ∷ cs) zs (number_at b.upper j ∷ drop (j + 1) b.upper)) (sym (drop_more b.lower j (omega arith)))
-    ∙ ap (λ zs. best_from rows ws q j (c ∷ cs) (drop j b.lower) zs) (sym (drop_more b.upper j (omega arith)))
+    ∙ ap (λ zs. best_from rows ws q j (c ∷ cs) zs (number_at b.upper j ∷ drop (j + 1) b.upper)) (sym (drop_more b.lower j (pos 0) (omega arith)))
+    ∙ ap (λ zs. best_from rows ws q j (c ∷ cs) (drop j b.lower) zs) (sym (drop_more b.upper j (pos 0) (omega arith)))
 
 corner_best : (rows : List Row) (ws : List Weight) (q : ℤ) (j : ℕ) (cs ls us : List ℤ) →
     best_from rows ws q j cs ls us ≡ q *ℤ dot ℤ_ring cs (corner_from rows ws q j cs ls us) -ℤ dot_from ℤ_ring (column_sum rows ws) j (corner_from rows ws q j cs ls us)

@@ -1,11 +1,11 @@
 -- The rows of the first table.
-use Rattle.std.proofs.Common.{◌≡◌, ℕ, ◌+◌, ◌^◌, ◌<◌, refl, sym, ap, ◌∙◌, subst, arith, List, [], ◌∷◌, ◌++◌, append_assoc, length, get_or, drop, map, drop-cons}
+use Rattle.std.proofs.Common.{◌≡◌, ℕ, ◌+◌, ◌^◌, ◌<◌, refl, sym, ap, ◌∙◌, subst, arith, List, [], ◌∷◌, ◌++◌, append_assoc, length, get_or, drop, map}
 use Rattle.std.specs.Global.{Vec}
 use Rattle.std.specs.List.{range_with_len}
 use Prim.Native.Nat.{zero, suc}
-use Rattle.std.proofs.lemmas.List.{length-map, length-append}
+use Rattle.std.proofs.lemmas.List.{at_drop_more, drop_more, length-map, length-append}
 use Rattle.std.proofs.lemmas.List.FromFn.{length-range_with_len}
-use lib.IntN.{ℤ, ◌-ℤ◌, ◌*ℤ◌}
+use lib.IntN.{ℤ, pos, ◌-ℤ◌, ◌*ℤ◌}
 use Rattle.tetri_algebra.specs.Rational.{ℚ, whole_ℚ}
 use Rattle.tetri_num.specs.declared.fractions.Frac.{Frac}
 use Rattle.tetri_ip.specs.declared.programs.Program.{Program}
@@ -19,15 +19,10 @@ use Rattle.tetri_simplex.specs.Full.{IsShaped, table_of}
 use Rattle.tetri_simplex.specs.Start.{corner, direction, slack_from, slack_row, minus_one_at, bound_rows, objective_row, first_rows, first_table}
 use Rattle.tetri_simplex.specs.Tables.{Table}
 use Rattle.tetri_simplex.proofs.Entries.{map_push}
-use Rattle.tetri_simplex.proofs.Starting.{drop_more, more_is}
 use Rattle.tetri_simplex.proofs.TableRows.{row_of_table}
 
 abbrev pub wholes : List (List ℤ) → List (List ℚ)
 wholes rows = map (map whole_ℚ) rows
-
-append_nil : {B : Type 0} → (ys : List B) → ys ++ [] ≡ ys
-append_nil [] = refl
-append_nil (y ∷ ys) = ap (λ zs. y ∷ zs) (append_nil ys)
 
 pub map_append : {A B : Type 0} → (f : A → B) (xs ys : List A) → map f (xs ++ ys) ≡ map f xs ++ map f ys
 map_append f [] ys = refl
@@ -45,7 +40,7 @@ row_pushed done made v r rest all me ve ae =
 
 pub slacks_more : (cs start : List ℤ) (rows : List Row) (i : ℕ) (r : Row) → i < length rows → r ≡ get_or rows i r → map (slack_row cs start) (drop i rows) ≡ slack_row cs start r ∷ map (slack_row cs start) (drop (i + 1) rows)
 slacks_more cs start rows i r h e =
-    ap (map (slack_row cs start)) (drop-cons rows i r h ∙ ap (λ (x : Row). x ∷ drop (suc i) rows) (sym e) ∙ ap (λ k. r ∷ drop k rows) (more_is i))
+    at_drop_more (map (slack_row cs start)) rows i r h ∙ ap (λ x. slack_row cs start x ∷ map (slack_row cs start) (drop (i + 1) rows)) (sym e)
 
 pub fit_row : (p : Program) (i : ℕ) (r : Row) → IsFit p → i < length p.rows.items → r ≡ get_or p.rows.items i r → IsFitRow p r.terms.items r.right
 fit_row p i r f h e =
@@ -53,8 +48,7 @@ fit_row p i r f h e =
 
 pub bounds_more : (cs ls us : List ℤ) (j : ℕ) → j < length ls → j < length us →
     bound_rows j cs (drop j ls) (drop j us) ≡ ((number_at us j -ℤ number_at ls j) ∷ minus_one_at j 0 cs) ∷ bound_rows (j + 1) cs (drop (j + 1) ls) (drop (j + 1) us)
-bounds_more cs ls us j h g =
-    ap (λ xs. bound_rows j cs xs (drop j us)) (drop_more ls j h) ∙ ap (λ xs. bound_rows j cs (number_at ls j ∷ drop (j + 1) ls) xs) (drop_more us j g)
+bounds_more cs ls us j h g = rw (drop_more ls j (pos 0) h, drop_more us j (pos 0) g)
 
 -- ---- the whole table
 pub rows_are : (p : Program) (b : Bounds) (start : List ℤ) (slacks bounds rows : List (Vec Frac)) (o : Vec Frac) → start ≡ corner p.costs.items b.lower b.upper →

@@ -6,8 +6,7 @@ use mir.Syntax.{w128}
 use Rattle.tetri_algebra.specs.IntegerRing.{ℤ_ring}
 use Rattle.tetri_algebra.specs.Sums.{dot}
 use Rattle.tetri_ip.specs.Points.{number_at}
-use Rattle.tetri_ip.proofs.IntegerProgramLaws.{item_is}
-use Rattle.tetri_simplex.proofs.Starting.{cost_added, objective_end}
+use Rattle.tetri_ip.proofs.IntegerProgramLaws.{cost_added, item_is, objective_end}
 use Rattle.tetri_simplex.proofs.start.objective_at.Goals as goal
 
 pub overflow_mul-part : goal.overflow_mul-part
@@ -17,7 +16,7 @@ overflow_mul-part c =
     let h : j < length cs = omega (arith, c.len-j-end.ensures, c.args.p.now.costs.ok.0) in
     let a : SFits w128 c.index.result.now = search rules in
     let b : SFits w128 (number_at c.args.start.now j) = search rules in
-    (cost_added c.args.p.now c.args.start.now j (to_z w128 c.loop-j.sum-bits) (dot ℤ_ring cs c.args.start.now) _ _ c.requires.start h (to_z-of_z _ _ a ∙ item_is cs j c.index.result.now (pos 0) h c.index.ensures) (to_z-of_z _ _ b) c.loop-j.invariant.in_range c.loop-j.invariant.value).part_fits
+    (cost_added c.args.p.now c.args.start.now j (to_z w128 c.loop-j.sum-bits) (dot ℤ_ring cs c.args.start.now) _ _ c.requires.start.inside c.requires.start.count h (to_z-of_z _ _ a ∙ item_is cs j c.index.result.now (pos 0) h c.index.ensures) (to_z-of_z _ _ b) c.loop-j.invariant.in_range c.loop-j.invariant.value).part_fits
 
 pub overflow_add-sum : goal.overflow_add-sum
 overflow_add-sum c =
@@ -26,7 +25,7 @@ overflow_add-sum c =
     let h : j < length cs = omega (arith, c.len-j-end.ensures, c.args.p.now.costs.ok.0) in
     let a : SFits w128 c.index.result.now = search rules in
     let b : SFits w128 (number_at c.args.start.now j) = search rules in
-    (cost_added c.args.p.now c.args.start.now j (to_z w128 c.loop-j.sum-bits) (dot ℤ_ring cs c.args.start.now) _ _ c.requires.start h (to_z-of_z _ _ a ∙ item_is cs j c.index.result.now (pos 0) h c.index.ensures) (to_z-of_z _ _ b) c.loop-j.invariant.in_range c.loop-j.invariant.value).sum_fits
+    (cost_added c.args.p.now c.args.start.now j (to_z w128 c.loop-j.sum-bits) (dot ℤ_ring cs c.args.start.now) _ _ c.requires.start.inside c.requires.start.count h (to_z-of_z _ _ a ∙ item_is cs j c.index.result.now (pos 0) h c.index.ensures) (to_z-of_z _ _ b) c.loop-j.invariant.in_range c.loop-j.invariant.value).sum_fits
 
 pub loop-j-preserved : goal.loop-j-preserved
 loop-j-preserved c =
@@ -35,7 +34,7 @@ loop-j-preserved c =
     let h : j < length cs = omega (arith, c.len-j-end.ensures, c.args.p.now.costs.ok.0) in
     let a : SFits w128 c.index.result.now = search rules in
     let b : SFits w128 (number_at c.args.start.now j) = search rules in
-    let r = cost_added c.args.p.now c.args.start.now j (to_z w128 c.loop-j.sum-bits) (dot ℤ_ring cs c.args.start.now) _ _ c.requires.start h (to_z-of_z _ _ a ∙ item_is cs j c.index.result.now (pos 0) h c.index.ensures) (to_z-of_z _ _ b) c.loop-j.invariant.in_range c.loop-j.invariant.value in
+    let r = cost_added c.args.p.now c.args.start.now j (to_z w128 c.loop-j.sum-bits) (dot ℤ_ring cs c.args.start.now) _ _ c.requires.start.inside c.requires.start.count h (to_z-of_z _ _ a ∙ item_is cs j c.index.result.now (pos 0) h c.index.ensures) (to_z-of_z _ _ b) c.loop-j.invariant.in_range c.loop-j.invariant.value in
     record { in_range = r.in_range; value = r.value }
 
 pub returns-clause-value : goal.returns-clause-value
