@@ -16,8 +16,9 @@ use Rattle.tetri_ip.specs.declared.programs.Weight.{Weight}
 use Rattle.tetri_ip.specs.Points.{right_of}
 use Rattle.tetri_algebra.specs.Range.{IsWithin}
 use Rattle.tetri_ip.specs.Weighed.{column_sum, right_sum}
-use Rattle.tetri_cuts.specs.Cuts.{coefficients, form_sum, past_from, quotients, sums_from, with_term}
-use Rattle.tetri_cuts.proofs.SumLemmas.{form_sum_is}
+use Rattle.tetri_ip.specs.Forming.{coefficients, form_sum}
+use Rattle.tetri_ip.proofs.IntegerProgramLaws.{sum_is}
+use Rattle.tetri_cuts.specs.Cuts.{past_from, quotients, sums_from, with_term}
 
 -- ---- a sum that was formed
 pub within_fits : (x : ℤ) → IsWithin x → SFits w128 x
@@ -40,13 +41,13 @@ zero_within = omega arith
 
 pub right_formed : (rows : List Row) (ws : List Weight) (x z : ℤ) → form_sum (right_of rows) ws (pos 0) ≡ Some x → (SFits w128 x → z ≡ x) → IsFormed z (right_sum rows ws)
 right_formed rows ws x z e read =
-    let f = form_sum_is (right_of rows) ws (pos 0) x zero_within e in
+    let f = sum_is (right_of rows) ws (pos 0) x zero_within e in
     let r = read (within_fits x f.1) in
     record { is = r ∙ from_nothing x _ f.0; within = subst IsWithin (sym r) f.1 }
 
 pub column_formed : (rows : List Row) (j : ℕ) (ws : List Weight) (x z : ℤ) → form_sum (coefficients rows j) ws (pos 0) ≡ Some x → (SFits w128 x → z ≡ x) → IsFormed z (column_sum rows ws j)
 column_formed rows j ws x z e read =
-    let f = form_sum_is (coefficients rows j) ws (pos 0) x zero_within e in
+    let f = sum_is (coefficients rows j) ws (pos 0) x zero_within e in
     let r = read (within_fits x f.1) in
     record { is = r ∙ from_nothing x _ f.0; within = subst IsWithin (sym r) f.1 }
 

@@ -1,5 +1,4 @@
 pub mod Signed
-pub mod SumLemmas
 pub mod CutLaw
 pub mod CutSteps
 pub mod CutShape

@@ -19,6 +19,7 @@ use Rattle.tetri_ip.specs.Points.{IsFitRow}
 use Rattle.tetri_algebra.specs.Range.{IsWithin}
 use Rattle.tetri_simplex.specs.Ends.{best}
 use Rattle.tetri_simplex.specs.Relaxation.{IsWhole}
+use Rattle.tetri_ip.proofs.IntegerProgramLaws.{within_is}
 use Rattle.tetri_cuts.specs.declared.sums.Sums.{Sums}
 use Rattle.tetri_cuts.specs.declared.tightening.Added.{Added}
 use Rattle.tetri_cuts.specs.Breaking.{IsBroken}
@@ -27,7 +28,6 @@ use Rattle.tetri_cuts.specs.Sums.{AreSums}
 use Rattle.tetri_cuts.specs.Tightening.{GoesOn, IsCutBy, IsTaken, NonePasses, Passes, Stops, Takes, root_run}
 use Rattle.tetri_cuts.proofs.CutShape.{AreTerms, div_within, quotients_are}
 use Rattle.tetri_cuts.proofs.CutSteps.{length-sums_from, within_fits}
-use Rattle.tetri_cuts.proofs.SumLemmas.{within_is}
 
 -- ---- a product in range or not
 pub not_within : (z : ℤ) → within z ≡ None → IsWithin z → ⊥

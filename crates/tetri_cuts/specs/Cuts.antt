@@ -6,9 +6,9 @@ use Rattle.tetri_ip.specs.declared.programs.Program.{Program}
 use Rattle.tetri_ip.specs.declared.programs.Row.{Row}
 use Rattle.tetri_ip.specs.declared.programs.Term.{Term}
 use Rattle.tetri_ip.specs.declared.programs.Weight.{Weight}
-use Rattle.tetri_ip.specs.Points.{IsPoint, box_of, coefficient, left_side, number_at, right_of, terms_of}
+use Rattle.tetri_ip.specs.Points.{IsPoint, box_of, left_side, number_at, right_of}
 use Rattle.tetri_ip.specs.Weighed.{column_sum, right_sum}
-use Rattle.tetri_ip.specs.Forming.{add_product, then_form}
+use Rattle.tetri_ip.specs.Forming.{coefficients, form_sum}
 use Rattle.tetri_cuts.specs.declared.fault.CutFault.{CutFault}
 use Rattle.tetri_cuts.specs.declared.fault.CutFault.TheVariants.{Past, NoMemory}
 
@@ -40,15 +40,6 @@ pub record IsCut (p : Program) (q : ℤ) (ws : List Weight) (r : Row) : Type 0 w
   pub right : r.right ≡ cut_right p q ws
 
 -- ---- the first number out of range
--- the products of the weights and numbers of their rows, added to a sum one by one
-abbrev pub form_sum : (ℕ → ℤ) → List Weight → ℤ → Option ℤ
-form_sum number [] sum = Some sum
-form_sum number (w ∷ ws) sum = then_form (add_product sum w.by (number w.row)) (λ next. form_sum number ws next)
-
--- the coefficients of a column, by row
-abbrev pub coefficients : List Row → ℕ → ℕ → ℤ
-coefficients rows j i = coefficient (terms_of rows i) j
-
 -- the first column, whose costs are given from number j on, at which a product or a sum is out of range
 abbrev pub past_from : List Row → List Weight → ℕ → List ℤ → Option ℕ
 past_from rows ws j [] = None

@@ -8,7 +8,6 @@ mod copies;
 mod cuts;
 mod fault;
 mod fitting;
-mod range;
 mod sums;
 mod tightening;
 

@@ -1,38 +1,22 @@
 //! The weighted sums of a program's rows, which all divisors share.
 
 ghost use Rattle.std.specs.Prelude.{◌≡◌, ◌<◌, None, All, pos, IfOk, IfErr, OnOk};
-ghost use Rattle.tetri_ip.specs.Points.{IsFit, right_of};
+ghost use Rattle.tetri_ip.specs.Points.{IsFit};
 ghost use Rattle.tetri_algebra.specs.Range.{IsWithin};
 ghost use Rattle.tetri_ip.specs.Weighed.{AreOfRows};
-ghost use Rattle.tetri_cuts.specs.Cuts.{IsCutFault, coefficients, form_sum, past_column, past_from, sums_from};
+ghost use Rattle.tetri_ip.specs.Forming.{coefficients, form_sum};
+ghost use Rattle.tetri_cuts.specs.Cuts.{IsCutFault, past_column, past_from, sums_from};
 ghost use Rattle.tetri_cuts.specs.Sums.{AreSums};
 
 use crate::fault::CutFault;
-use crate::range::add_product;
 use std::alloc::Global;
-use tetri_ip::{Program, Weight, coefficient_of};
+use tetri_ip::{Program, Weight, add_product, coefficient_of, right_sum};
 
 /// The weighted sums of the coefficients of each column, and of the right sides.
 #[derive(Drop)]
 pub(crate) struct Sums {
     pub(crate) columns: Vec<i128>,
     pub(crate) right: i128,
-}
-
-// The sum of the weights' products with their rows' right sides.
-fn right_sum(p: &Program, weights: &[Weight]) -> Option<i128>
-    requires { AreOfRows p.now weights.now }
-    ensures { result ≡ form_sum (right_of p.now.rows.items) weights.now (pos 0) }
-{
-    let mut sum = 0;
-    for w in weights {
-        let right = p.rows[w.row as usize].right;
-        let Some(next) = add_product(sum, w.by, right) else {
-            return None;
-        };
-        sum = next;
-    }
-    Some(sum)
 }
 
 // The sum of the weights' products with their rows' coefficients at a column.

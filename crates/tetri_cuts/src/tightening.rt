@@ -19,10 +19,9 @@ use crate::copies::{copy_program, push_row};
 use crate::cuts::divided;
 use crate::fault::CutFault;
 use crate::fitting::is_in_range;
-use crate::range::product;
 use crate::sums::{Sums, weighted_sums};
 use std::alloc::{AllocError, Global};
-use tetri_ip::{Program, Region, Row, Weight, weigh_over};
+use tetri_ip::{Program, Region, Row, Weight, product, weigh_over};
 use tetri_num::Frac;
 use tetri_simplex::{Outcome, dual_run_over};
 

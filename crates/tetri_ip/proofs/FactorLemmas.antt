@@ -2,7 +2,7 @@
 use Rattle.std.proofs.Common.{◌≡◌, ℕ, ◌+◌, ◌<◌, List, [], ◌∷◌, length, set, drop, Option, Some, None, IfSome, Result, Ok, refl, sym, ap, ◌∙◌, subst, arith, inl, inr}
 use Prim.Native.Nat.{suc}
 use Rattle.std.proofs.lemmas.Bool.{cases_eq, cases_lt}
-use Rattle.std.proofs.lemmas.Int.{ints}
+use Rattle.std.proofs.lemmas.Int.{fits_signed_from_abs, ints}
 use Rattle.std.proofs.lemmas.List.{drop_more, get_or-drop, get_or-set_same, get_or-set_other, length-drop, length-set}
 use lib.IntN.{ℤ, pos, ◌+ℤ◌, ◌*ℤ◌}
 use mir.Val.{SFits}
@@ -17,8 +17,9 @@ use Rattle.tetri_algebra.specs.Range.{IsWithin}
 use Rattle.tetri_ip.specs.Weighed.{AreNotNegative, bound_taken, weighed}
 use Rattle.tetri_ip.specs.Forming.{AreFactors, add_product, column_factor, first_negative, form_bounds, form_column, form_columns, form_factor, form_right, or_past, subtract_product, then_form, unless_negative, weigh_answer, within}
 use Rattle.tetri_ip.proofs.Coefficients.{TermsAscend, coefficient_absent, unit_other, unit_same}
-use Rattle.tetri_ip.proofs.Formed.{not_negative, right_fits, weighed_where_formed}
-use Rattle.tetri_ip.proofs.Steps.{subtract_nothing, subtract_within, within_fits}
+use Rattle.tetri_ip.proofs.Formed.{not_negative, right_is}
+use Rattle.tetri_ip.proofs.Steps.{subtract_is, subtract_nothing}
+use Rattle.tetri_ip.proofs.WeighingLemmas.{answer_is_weighed}
 
 -- ---- one term of a row
 module _ (ts : List Term) (i : ℕ) (rising : TermsAscend ts) (inside : i < length ts) where
@@ -56,7 +57,7 @@ module _ (ts : List Term) (i : ℕ) (rising : TermsAscend ts) (inside : i < leng
   term_taken fs a next lt e j = elim (cases_eq here.column j) [
     | inl same ↦ subst (λ k. subtract_product (number_at (set fs here.column next) k) a (coefficient (drop (i + 1) ts) k) ≡ subtract_product (number_at fs k) a (coefficient (drop i ts) k)) same
         (ap (λ z. subtract_product z a (coefficient (drop (i + 1) ts) here.column)) (get_or-set_same fs here.column next (pos 0) lt)
-        ∙ subtract_nothing next a (coefficient (drop (i + 1) ts) here.column) (subtract_within (number_at fs here.column) a here.by next e) behind
+        ∙ subtract_nothing next a (coefficient (drop (i + 1) ts) here.column) (subtract_is (number_at fs here.column) a here.by next e).1 behind
         ∙ sym (ap (λ z. subtract_product (number_at fs here.column) a z) from_here ∙ e))
     | inr other ↦
         ap (λ z. subtract_product z a (coefficient (drop (i + 1) ts) j)) (get_or-set_other fs here.column j next (pos 0) (λ same. other (sym same)))
@@ -145,21 +146,17 @@ module _ (p : Program) (b : Bounds) (q : ℤ) (ws : List Weight) (z : ℤ) where
       AreFactors p q ws fs → length fs ≡ length p.costs.items → total ≡ form_bounds b 0 fs right' → total ≡ Some z → Ok z ≡ weigh_answer p b q ws
   formed_some right right' fs o total none oe on same factors count te tn =
       let is : form_right p.rows.items ws (pos 0) ≡ Some right = sym oe ∙ on in
-      let fits = right_fits p.rows.items ws (pos 0) right (within_fits (pos 0) (pos 0) refl) is in
+      let fits = fits_signed_from_abs w128 right (right_is p.rows.items ws right is).1 in
       answer_formed right none is
       (factors_total p.rows.items b q ws 0 p.costs.items fs right z count (λ k lt. let at : k ≡ 0 + k = omega arith in subst (λ m. column_factor p.rows.items q ws m (number_at p.costs.items k) ≡ Some (number_at fs k)) at (factors k lt)) (ap (λ s. form_bounds b 0 fs s) (sym (same fits)) ∙ sym te ∙ tn))
 
   -- an answer that is a number is the weighed number, and then no weight is below 0
   pub answer_is : Ok z ≡ weigh_answer p b q ws → (z ≡ weighed p b q ws) × AreNotNegative ws
-  answer_is e = by_negative (first_negative ws) refl (sym e)
+  answer_is e = (answer_is_weighed p b q ws z (sym e), by_negative (first_negative ws) refl (sym e))
     where
-      by_right : (o : Option ℤ) → form_right p.rows.items ws (pos 0) ≡ o → or_past 0 o after_right ≡ Ok z → z ≡ weighed p b q ws
-      by_right None g h = cc
-      by_right (Some right) g h = weighed_where_formed p b q ws right right (form_right p.rows.items ws (pos 0)) (Ok z) refl g (λ u. refl) (sym h)
-
-      by_negative : (o : Option ℕ) → first_negative ws ≡ o → unless_negative o (or_past 0 (form_right p.rows.items ws (pos 0)) after_right) ≡ Ok z → (z ≡ weighed p b q ws) × AreNotNegative ws
+      by_negative : (o : Option ℕ) → first_negative ws ≡ o → unless_negative o (or_past 0 (form_right p.rows.items ws (pos 0)) after_right) ≡ Ok z → AreNotNegative ws
       by_negative (Some row) g h = cc
-      by_negative None g h = (by_right (form_right p.rows.items ws (pos 0)) refl h, not_negative ws g)
+      by_negative None g h = not_negative ws g
 
 pub formed_answer : (p : Program) (b : Bounds) (q : ℤ) (ws : List Weight) (right right' : ℤ) (fs : List ℤ) (o total : Option ℤ) → first_negative ws ≡ None → o ≡ form_right p.rows.items ws (pos 0) → o ≡ Some right →
     (SFits w128 right → right' ≡ right) → AreFactors p q ws fs → length fs ≡ length p.costs.items → total ≡ form_bounds b 0 fs right' → IfSome total (λ z. Ok z ≡ weigh_answer p b q ws)

@@ -5,7 +5,7 @@ use Rattle.std.specs.Prelude.{unsigned_abs, nat_lt}
 use Rattle.std.proofs.lemmas.Bool.{lt-ltb}
 use Rattle.std.proofs.lemmas.Int.{fits_signed_from_abs, ints}
 use lib.Signed.{lt_z}
-use Rattle.std.proofs.Math.Seq.{drop-cons}
+use Rattle.std.proofs.lemmas.List.{drop_more}
 use borrow.Author.Tests.{ltb-true}
 use lib.IntN.{ℤ, pos, ◌+ℤ◌, ◌-ℤ◌, ◌*ℤ◌}
 use mir.Val.{SFits}
@@ -16,9 +16,10 @@ use Rattle.tetri_algebra.specs.Range.{IsWithin}
 use Rattle.tetri_ip.specs.declared.programs.Program.{Program}
 use Rattle.tetri_ip.specs.declared.programs.Row.{Row}
 use Rattle.tetri_ip.specs.declared.programs.Weight.{Weight}
-use Rattle.tetri_ip.specs.Points.{Bounds, IsFit, coefficient, number_at, right_of, terms_of}
-use Rattle.tetri_ip.specs.Weighed.{bound_taken}
-use Rattle.tetri_ip.specs.Forming.{add_product, form_column, form_factor, form_right, subtract_product, then_form, within}
+use Rattle.tetri_ip.specs.Points.{Bounds, IsFit, number_at, right_of, terms_of}
+use Rattle.tetri_algebra.specs.Sums.{sum_over}
+use Rattle.tetri_ip.specs.Weighed.{bound_taken, column_sum}
+use Rattle.tetri_ip.specs.Forming.{add_product, coefficients, form_by, form_column, form_factor, form_sum, subtract_product, then_form, within}
 use Rattle.tetri_ip.proofs.Coefficients.{TermsAscend}
 
 pub right_of_at : (rows : List Row) (k : ℕ) (r : Row) → k < length rows → r ≡ get_or rows k r → right_of rows k ≡ r.right
@@ -39,23 +40,34 @@ row_ascends p k r fit lt is = subst TermsAscend (terms_of_at p.rows.items k r lt
 pub within_itself : (z : ℤ) → IsWithin z → within z ≡ Some z
 within_itself z fits = ap (λ (t : Bool). cond t (Some z) None) (lt-ltb (unsigned_abs z) (2 ^ 127) fits)
 
-pub is_within : (z x : ℤ) → within z ≡ Some x → IsWithin x
-is_within z x e = by_test (nat_lt (unsigned_abs z) (2 ^ 127)) refl e
+pub within_is : (z x : ℤ) → within z ≡ Some x → (x ≡ z) × IsWithin x
+within_is z x e = by_test (nat_lt (unsigned_abs z) (2 ^ 127)) refl e
   where
-    by_test : (t : Bool) → nat_lt (unsigned_abs z) (2 ^ 127) ≡ t → cond t (Some z) None ≡ Some x → IsWithin x
-    by_test true h f = let g : z ≡ x = cc in subst IsWithin g (ltb-true _ _ h)
+    by_test : (t : Bool) → nat_lt (unsigned_abs z) (2 ^ 127) ≡ t → cond t (Some z) None ≡ Some x → (x ≡ z) × IsWithin x
+    by_test true h f = let g : z ≡ x = cc in (sym g, subst IsWithin g (ltb-true _ _ h))
     by_test false h f = cc
 
-pub within_fits : (z x : ℤ) → within z ≡ Some x → SFits w128 x
-within_fits z x e = fits_signed_from_abs w128 x (is_within z x e)
-
--- what is left of a number in range is in range
-pub subtract_within : (rest a b x : ℤ) → subtract_product rest a b ≡ Some x → IsWithin x
-subtract_within rest a b x e = by_part (within (a *ℤ b)) e
+then_is : (p : ℤ) (f : ℤ → ℤ) (x : ℤ) → then_form (within p) (λ z. within (f z)) ≡ Some x → (x ≡ f p) × IsWithin x
+then_is p f x e = by_part (within p) refl e
   where
-    by_part : (o : Option ℤ) → then_form o (λ part. within (rest -ℤ part)) ≡ Some x → IsWithin x
-    by_part None f = cc
-    by_part (Some part) f = is_within (rest -ℤ part) x f
+    by_part : (o : Option ℤ) → within p ≡ o → then_form o (λ z. within (f z)) ≡ Some x → (x ≡ f p) × IsWithin x
+    by_part None g h = cc
+    by_part (Some z) g h = let r = within_is (f z) x h in (r.0 ∙ ap f (within_is p z g).0, r.1)
+
+pub add_is : (sum a b x : ℤ) → add_product sum a b ≡ Some x → (x ≡ sum +ℤ a *ℤ b) × IsWithin x
+add_is sum a b x e = then_is (a *ℤ b) (λ z. sum +ℤ z) x e
+
+pub subtract_is : (rest a b x : ℤ) → subtract_product rest a b ≡ Some x → (x ≡ rest -ℤ a *ℤ b) × IsWithin x
+subtract_is rest a b x e = then_is (a *ℤ b) (λ z. rest -ℤ z) x e
+
+pub within_fits : (z x : ℤ) → within z ≡ Some x → SFits w128 x
+within_fits z x e = fits_signed_from_abs w128 x (within_is z x e).1
+
+pub add_fits : (sum a b x : ℤ) → add_product sum a b ≡ Some x → SFits w128 x
+add_fits sum a b x e = fits_signed_from_abs w128 x (add_is sum a b x e).1
+
+pub subtract_fits : (rest a b x : ℤ) → subtract_product rest a b ≡ Some x → SFits w128 x
+subtract_fits rest a b x e = fits_signed_from_abs w128 x (subtract_is rest a b x e).1
 
 -- nothing is taken away
 pub subtract_nothing : (rest a b : ℤ) → IsWithin rest → b ≡ pos 0 → subtract_product rest a b ≡ Some rest
@@ -66,77 +78,60 @@ subtract_nothing rest a b fits none =
     minus_zero : (z : ℤ) → z -ℤ pos 0 ≡ z
     minus_zero z = omega (arith, ints)
 
-then_fits : (o : Option ℤ) (f : ℤ → ℤ) (x : ℤ) → then_form o (λ z. within (f z)) ≡ Some x → SFits w128 x
-then_fits None f x e = cc
-then_fits (Some z) f x e = within_fits (f z) x e
+-- ---- one product, put to a number
+module _ (put : ℤ → ℤ → ℤ → Option ℤ) (number : ℕ → ℤ) (ws : List Weight) (i : ℕ) (d : Weight) (z a b : ℤ) (o : Option ℤ) (inside : i < length ws)
+    (weight : a ≡ (get_or ws i d).by) (is : b ≡ number (get_or ws i d).row) (formed : o ≡ put z a b) where
+  pub put_step : form_by put number (drop i ws) z ≡ then_form o (λ n. form_by put number (drop (i + 1) ws) n)
+  put_step =
+      ap (λ xs. form_by put number xs z) (drop_more ws i d inside)
+      ∙ ap (λ y. then_form (put z (get_or ws i d).by y) (λ n. form_by put number (drop (i + 1) ws) n)) (sym is)
+      ∙ ap (λ y. then_form (put z y b) (λ n. form_by put number (drop (i + 1) ws) n)) (sym weight)
+      ∙ ap (λ (p : Option ℤ). then_form p (λ n. form_by put number (drop (i + 1) ws) n)) (sym formed)
 
-pub add_fits : (sum a b x : ℤ) → add_product sum a b ≡ Some x → SFits w128 x
-add_fits sum a b x e = then_fits (within (a *ℤ b)) (λ z. sum +ℤ z) x e
+  pub put_next : ((z a b x : ℤ) → put z a b ≡ Some x → SFits w128 x) → (n m : ℤ) → o ≡ Some n → (SFits w128 n → m ≡ n) → form_by put number (drop i ws) z ≡ form_by put number (drop (i + 1) ws) m
+  put_next fits n m some read =
+      put_step
+      ∙ ap (λ (p : Option ℤ). then_form p (λ x. form_by put number (drop (i + 1) ws) x)) some
+      ∙ ap (λ x. form_by put number (drop (i + 1) ws) x) (sym (read (fits z a b n (sym formed ∙ some))))
 
-pub subtract_fits : (rest a b x : ℤ) → subtract_product rest a b ≡ Some x → SFits w128 x
-subtract_fits rest a b x e = then_fits (within (a *ℤ b)) (λ z. rest -ℤ z) x e
+  pub put_none : o ≡ None → None ≡ form_by put number (drop i ws) z
+  put_none none = sym (put_step ∙ ap (λ (p : Option ℤ). then_form p (λ x. form_by put number (drop (i + 1) ws) x)) none)
 
--- ---- the sum of the right sides
-pub right_step : (rows : List Row) (ws : List Weight) (i : ℕ) (d : Weight) (r : Row) (sum a b : ℤ) (o : Option ℤ) → i < length ws → (get_or ws i d).row < length rows →
-    r ≡ get_or rows (get_or ws i d).row r → a ≡ (get_or ws i d).by → b ≡ r.right → o ≡ add_product sum a b →
-    form_right rows (drop i ws) sum ≡ then_form o (λ n. form_right rows (drop (i + 1) ws) n)
-right_step rows ws i d r sum a b o l k e ae be oe =
-    let w = get_or ws i d in
-    let s : suc i ≡ i + 1 = omega arith in
-    ap (λ xs. form_right rows xs sum) (drop-cons ws i d l)
-    ∙ ap (λ z. then_form (add_product sum w.by z) (λ n. form_right rows (drop (suc i) ws) n)) (right_of_at rows w.row r k e ∙ sym be)
-    ∙ ap (λ z. then_form (add_product sum z b) (λ n. form_right rows (drop (suc i) ws) n)) (sym ae)
-    ∙ ap (λ (p : Option ℤ). then_form p (λ n. form_right rows (drop (suc i) ws) n)) (sym oe)
-    ∙ ap (λ j. then_form o (λ n. form_right rows (drop j ws) n)) s
+-- ---- what was formed
+module _ (put : ℤ → ℤ → ℤ → Option ℤ) (join : ℤ → ℤ → ℤ) (number : ℕ → ℤ) (put_is : (z a b x : ℤ) → put z a b ≡ Some x → (x ≡ join z (a *ℤ b)) × IsWithin x)
+    (nothing : (z : ℤ) → z ≡ join z (pos 0)) (more : (z a s : ℤ) → join (join z a) s ≡ join z (a +ℤ s)) where
+  abbrev products : List Weight → ℤ
+  products ws = sum_over ℤ_ring (λ w. w.by *ℤ number w.row) ws
 
-pub right_next : (rows : List Row) (ws : List Weight) (i : ℕ) (d : Weight) (r : Row) (sum a b n m : ℤ) (o : Option ℤ) → i < length ws → (get_or ws i d).row < length rows →
-    r ≡ get_or rows (get_or ws i d).row r → a ≡ (get_or ws i d).by → b ≡ r.right → o ≡ add_product sum a b → o ≡ Some n → (SFits w128 n → m ≡ n) →
-    form_right rows (drop i ws) sum ≡ form_right rows (drop (i + 1) ws) m
-right_next rows ws i d r sum a b n m o l k e ae be oe on me =
-    right_step rows ws i d r sum a b o l k e ae be oe
-    ∙ ap (λ (p : Option ℤ). then_form p (λ x. form_right rows (drop (i + 1) ws) x)) on
-    ∙ ap (λ x. form_right rows (drop (i + 1) ws) x) (sym (me (add_fits sum a b n (sym oe ∙ on))))
+  formed_is : (ws : List Weight) (z x : ℤ) → IsWithin z → form_by put number ws z ≡ Some x → (x ≡ join z (products ws)) × IsWithin x
+  formed_is [] z x h e = let f : z ≡ x = cc in (sym f ∙ nothing z, subst IsWithin f h)
+  formed_is (w ∷ ws) z x h e = by_next (λ n k g. formed_is ws n x k g) (put z w.by (number w.row)) refl e
+    where
+      by_next : ((n : ℤ) → IsWithin n → form_by put number ws n ≡ Some x → (x ≡ join n (products ws)) × IsWithin x) → (o : Option ℤ) → put z w.by (number w.row) ≡ o → then_form o (λ n. form_by put number ws n) ≡ Some x →
+          (x ≡ join z (w.by *ℤ number w.row +ℤ products ws)) × IsWithin x
+      by_next rec None f g = cc
+      by_next rec (Some n) f g =
+          let here = put_is z w.by (number w.row) n f in
+          let r = rec n here.1 g in
+          (r.0 ∙ ap (λ y. join y (products ws)) here.0 ∙ more z (w.by *ℤ number w.row) (products ws), r.1)
 
-pub right_none : (rows : List Row) (ws : List Weight) (i : ℕ) (d : Weight) (r : Row) (sum a b : ℤ) (o : Option ℤ) → i < length ws → (get_or ws i d).row < length rows →
-    r ≡ get_or rows (get_or ws i d).row r → a ≡ (get_or ws i d).by → b ≡ r.right → o ≡ add_product sum a b → o ≡ None →
-    None ≡ form_right rows (drop i ws) sum
-right_none rows ws i d r sum a b o l k e ae be oe on =
-    sym (right_step rows ws i d r sum a b o l k e ae be oe ∙ ap (λ (p : Option ℤ). then_form p (λ x. form_right rows (drop (i + 1) ws) x)) on)
-
--- ---- the factor of a column
-pub factor_step : (rows : List Row) (ws : List Weight) (i j : ℕ) (d : Weight) (r : Row) (rest a b : ℤ) (o : Option ℤ) → i < length ws → (get_or ws i d).row < length rows →
-    r ≡ get_or rows (get_or ws i d).row r → a ≡ (get_or ws i d).by → b ≡ coefficient r.terms.items j → o ≡ subtract_product rest a b →
-    form_factor rows (drop i ws) j rest ≡ then_form o (λ n. form_factor rows (drop (i + 1) ws) j n)
-factor_step rows ws i j d r rest a b o l k e ae be oe =
-    let w = get_or ws i d in
-    let s : suc i ≡ i + 1 = omega arith in
-    ap (λ xs. form_factor rows xs j rest) (drop-cons ws i d l)
-    ∙ ap (λ z. then_form (subtract_product rest w.by z) (λ n. form_factor rows (drop (suc i) ws) j n)) (ap (λ ts. coefficient ts j) (terms_of_at rows w.row r k e) ∙ sym be)
-    ∙ ap (λ z. then_form (subtract_product rest z b) (λ n. form_factor rows (drop (suc i) ws) j n)) (sym ae)
-    ∙ ap (λ (p : Option ℤ). then_form p (λ n. form_factor rows (drop (suc i) ws) j n)) (sym oe)
-    ∙ ap (λ k. then_form o (λ n. form_factor rows (drop k ws) j n)) s
-
-pub factor_next : (rows : List Row) (ws : List Weight) (i j : ℕ) (d : Weight) (r : Row) (rest a b n m : ℤ) (o : Option ℤ) → i < length ws → (get_or ws i d).row < length rows →
-    r ≡ get_or rows (get_or ws i d).row r → a ≡ (get_or ws i d).by → b ≡ coefficient r.terms.items j → o ≡ subtract_product rest a b → o ≡ Some n → (SFits w128 n → m ≡ n) →
-    form_factor rows (drop i ws) j rest ≡ form_factor rows (drop (i + 1) ws) j m
-factor_next rows ws i j d r rest a b n m o l k e ae be oe on me =
-    factor_step rows ws i j d r rest a b o l k e ae be oe
-    ∙ ap (λ (p : Option ℤ). then_form p (λ x. form_factor rows (drop (i + 1) ws) j x)) on
-    ∙ ap (λ x. form_factor rows (drop (i + 1) ws) j x) (sym (me (subtract_fits rest a b n (sym oe ∙ on))))
-
-pub factor_none : (rows : List Row) (ws : List Weight) (i j : ℕ) (d : Weight) (r : Row) (rest a b : ℤ) (o : Option ℤ) → i < length ws → (get_or ws i d).row < length rows →
-    r ≡ get_or rows (get_or ws i d).row r → a ≡ (get_or ws i d).by → b ≡ coefficient r.terms.items j → o ≡ subtract_product rest a b → o ≡ None →
-    None ≡ form_factor rows (drop i ws) j rest
-factor_none rows ws i j d r rest a b o l k e ae be oe on =
-    sym (factor_step rows ws i j d r rest a b o l k e ae be oe ∙ ap (λ (p : Option ℤ). then_form p (λ x. form_factor rows (drop (i + 1) ws) j x)) on)
-
-factor_fits : (rows : List Row) (ws : List Weight) (j : ℕ) (rest x : ℤ) → SFits w128 rest → form_factor rows ws j rest ≡ Some x → SFits w128 x
-factor_fits rows [] j rest x h e = let g : rest ≡ x = cc in subst (λ (z : ℤ). SFits w128 z) g h
-factor_fits rows (w ∷ ws) j rest x h e = by_next (λ n g k. factor_fits rows ws j n x g k) (subtract_product rest w.by (coefficient (terms_of rows w.row) j)) refl e
+pub sum_is : (number : ℕ → ℤ) (ws : List Weight) (sum x : ℤ) → IsWithin sum → form_sum number ws sum ≡ Some x → (x ≡ sum +ℤ sum_over ℤ_ring (λ (w : Weight). w.by *ℤ number w.row) ws) × IsWithin x
+sum_is number = formed_is add_product (λ z a. z +ℤ a) number add_is nothing more
   where
-    by_next : ((n : ℤ) → SFits w128 n → form_factor rows ws j n ≡ Some x → SFits w128 x) → (o : Option ℤ) → subtract_product rest w.by (coefficient (terms_of rows w.row) j) ≡ o → then_form o (λ n. form_factor rows ws j n) ≡ Some x → SFits w128 x
-    by_next rec None f g = cc
-    by_next rec (Some n) f g = rec n (subtract_fits rest w.by (coefficient (terms_of rows w.row) j) n f) g
+    nothing : (z : ℤ) → z ≡ z +ℤ pos 0
+    nothing z = omega (arith, ints)
+
+    more : (z a s : ℤ) → (z +ℤ a) +ℤ s ≡ z +ℤ (a +ℤ s)
+    more z a s = omega (arith, ints)
+
+pub factor_is : (rows : List Row) (ws : List Weight) (j : ℕ) (rest x : ℤ) → IsWithin rest → form_factor rows ws j rest ≡ Some x → (x ≡ rest -ℤ column_sum rows ws j) × IsWithin x
+factor_is rows ws j = formed_is subtract_product (λ z a. z -ℤ a) (coefficients rows j) subtract_is nothing more ws
+  where
+    nothing : (z : ℤ) → z ≡ z -ℤ pos 0
+    nothing z = omega (arith, ints)
+
+    more : (z a s : ℤ) → (z -ℤ a) -ℤ s ≡ z -ℤ (a +ℤ s)
+    more z a s = omega (arith, ints)
 
 -- ---- an item of a list, whatever stands past its end
 pub item_is : {X : Type 0} → (xs : List X) (k : ℕ) (x d : X) → k < length xs → x ≡ get_or xs k x → x ≡ get_or xs k d
@@ -161,9 +156,9 @@ pub column_formed : (rows : List Row) (b : Bounds) (q : ℤ) (ws : List Weight) 
     z ≡ form_column rows b q ws j cost sum
 column_formed rows b q ws j cost sum q' cost' first first' d d' bound' sum' x y z qe ce xe xs fe ye ys de be se ze =
     let u : within (q *ℤ cost) ≡ Some first = ap (λ k. within (k *ℤ cost)) (sym qe) ∙ ap (λ k. within (q' *ℤ k)) (sym ce) ∙ sym xe ∙ xs in
-    let fits = within_fits (q *ℤ cost) first u in
-    let v : form_factor rows ws j first ≡ Some d = ap (λ k. form_factor rows ws j k) (sym (fe fits)) ∙ sym ye ∙ ys in
-    let g = factor_fits rows ws j first d fits v in
+    let first_within = (within_is (q *ℤ cost) first u).1 in
+    let v : form_factor rows ws j first ≡ Some d = ap (λ k. form_factor rows ws j k) (sym (fe (fits_signed_from_abs w128 first first_within))) ∙ sym ye ∙ ys in
+    let g = fits_signed_from_abs w128 d (factor_is rows ws j first d first_within v).1 in
     ze
     ∙ ap (λ k. add_product k d' bound') se
     ∙ ap (λ k. add_product sum k bound') (de g)

@@ -1,10 +1,9 @@
 -- Weighing without weights and by one row is formed, and what it gives at a region of one point.
 use Rattle.std.proofs.Common.{◌≡◌, ℕ, ◌+◌, ◌*◌, ◌^◌, ◌<◌, ◌≤◌, refl, sym, ap, ◌∙◌, subst, arith, List, [], ◌∷◌, length, Bool, true, false, cond, eqb, Option, Some, None, Result, Ok, IfOk}
 use Prim.Native.Nat.{suc}
-use Rattle.std.specs.Prelude.{unsigned_abs, nat_lt, ◌≤ℤ◌}
+use Rattle.std.specs.Prelude.{unsigned_abs, ◌≤ℤ◌}
 use Rattle.std.proofs.Math.Nat.{mul-le-mul_left}
 use Rattle.std.proofs.lemmas.Bool.{eqb-true}
-use Rattle.std.proofs.lemmas.Bool.Decides.{nat_tests}
 use Rattle.std.proofs.lemmas.List.Sums.{sum_by-cons}
 use Rattle.std.proofs.lemmas.Int.{ints, unsigned_abs-mul}
 use lib.IntN.{ℤ, pos, ◌+ℤ◌, ◌-ℤ◌, ◌*ℤ◌}
@@ -25,6 +24,7 @@ use Rattle.tetri_ip.proofs.Coefficients.{coefficient_at, unit_other}
 use Rattle.tetri_ip.proofs.Duality.{dot_from-column_sum, left_sum}
 use Rattle.tetri_ip.proofs.Formed.{columns_are, right_is}
 use Rattle.tetri_ip.proofs.Sides.{size_between}
+use Rattle.tetri_ip.proofs.Steps.{within_itself}
 
 -- ---- where weighing answers, it answers the weighed number
 pub answer_is_weighed : (p : Program) (b : Bounds) (q : ℤ) (ws : List Weight) (z : ℤ) → weigh_answer p b q ws ≡ Ok z → z ≡ weighed p b q ws
@@ -34,19 +34,13 @@ answer_is_weighed p b q ws z e = by_sign (first_negative ws) e
     by_sum None f g = cc
     by_sum (Some s) f g =
         let c : z ≡ s +ℤ columns_from p.rows.items b q ws 0 p.costs.items = subst (λ (r : Result ℤ WeighFault). IfOk r (λ x. x ≡ s +ℤ columns_from p.rows.items b q ws 0 p.costs.items)) g (columns_are p.rows.items b q ws 0 p.costs.items s) in
-        c ∙ ap (λ x. x +ℤ columns_from p.rows.items b q ws 0 p.costs.items) (right_is p.rows.items ws (pos 0) s f ∙ zero_plus (right_sum p.rows.items ws))
-      where
-        zero_plus : (a : ℤ) → pos 0 +ℤ a ≡ a
-        zero_plus a = omega (arith, ints)
+        c ∙ ap (λ x. x +ℤ columns_from p.rows.items b q ws 0 p.costs.items) (right_is p.rows.items ws s f).0
 
     by_sign : (o : Option ℕ) → unless_negative o (or_past 0 (form_right p.rows.items ws (pos 0)) (λ sum. form_columns p.rows.items b q ws 0 p.costs.items sum)) ≡ Ok z → z ≡ weighed p b q ws
     by_sign None f = by_sum (form_right p.rows.items ws (pos 0)) refl f
     by_sign (Some row) f = cc
 
 -- ---- columns whose numbers stay in range
-pub within_told : (z : ℤ) → IsWithin z → within z ≡ Some z
-within_told z h = let t : nat_lt (unsigned_abs z) (2 ^ 127) ≡ true = grind (arith, nat_tests) in ap (λ b. cond b (Some z) None) t
-
 -- the numbers of a column, and how much its product adds at most
 record IsColumnFormed (rows : List Row) (b : Bounds) (q : ℤ) (ws : List Weight) (j : ℕ) (cost : ℤ) (most : ℕ) : Type 0 where
   first : ℤ
@@ -75,8 +69,8 @@ columns_formed rows b q ws most j (c ∷ cs) sum f h =
     let one : form_column rows b q ws j c sum ≡ Some (sum +ℤ d *ℤ x) =
     ap (λ (o : Option ℤ). then_form o (λ first. then_form (form_factor rows ws j first) (λ d. add_product sum d (bound_taken b j d)))) g.first_is
     ∙ ap (λ (o : Option ℤ). then_form o (λ d. add_product sum d (bound_taken b j d))) g.factor_is
-    ∙ ap (λ (o : Option ℤ). then_form o (λ part. within (sum +ℤ part))) (within_told (d *ℤ x) s.0)
-    ∙ within_told (sum +ℤ d *ℤ x) s.1 in
+    ∙ ap (λ (o : Option ℤ). then_form o (λ part. within (sum +ℤ part))) (within_itself (d *ℤ x) s.0)
+    ∙ within_itself (sum +ℤ d *ℤ x) s.1 in
     let next = λ (k : ℕ) (l : k < length cs). subst (λ i. IsColumnFormed rows b q ws i (number_at cs k) (most i (number_at cs k))) (moved k) (f (suc k) (omega arith)) in
     let r = columns_formed rows b q ws most (j + 1) cs (sum +ℤ d *ℤ x) next s.2 in
     (r.0, ap (λ (o : Option ℤ). or_past j o (λ next. form_columns rows b q ws (j + 1) cs next)) one ∙ r.1)
@@ -109,7 +103,7 @@ cost_formed p b j c h l w =
     record {
       first = c;
       factor = c;
-      first_is = ap within one ∙ within_told c w;
+      first_is = ap within one ∙ within_itself c w;
       factor_is = refl;
       small = mul-le-mul_left (unsigned_abs c) (bound_size p b j c h l);
     }
@@ -219,9 +213,9 @@ row_formed p b i j c f h l m =
     record {
       first = pos 0;
       factor = d;
-      first_is = ap within none ∙ within_told (pos 0) (omega (arith, ints));
-      factor_is = ap (λ (o : Option ℤ). then_form (then_form o (λ part. within (pos 0 -ℤ part))) (λ next. Some next)) (ap within one ∙ within_told z w)
-          ∙ ap (λ (o : Option ℤ). then_form o (λ next. Some next)) (within_told d (subst (λ n. n < 2 ^ 127) (sym size) w));
+      first_is = ap within none ∙ within_itself (pos 0) (omega (arith, ints));
+      factor_is = ap (λ (o : Option ℤ). then_form (then_form o (λ part. within (pos 0 -ℤ part))) (λ next. Some next)) (ap within one ∙ within_itself z w)
+          ∙ ap (λ (o : Option ℤ). then_form o (λ next. Some next)) (within_itself d (subst (λ n. n < 2 ^ 127) (sym size) w));
       small = subst (λ n. n * unsigned_abs (bound_taken b j d) ≤ unsigned_abs z * size_at p j) (sym size) (mul-le-mul_left (unsigned_abs z) (bound_size p b j d h m));
     }
 
@@ -236,8 +230,8 @@ weigh_of_row p b i f h l =
     let start = λ (k : ℕ) (m : k < length p.costs.items). subst (λ n. IsColumnFormed p.rows.items b (pos 0) (once i) n (number_at p.costs.items k) (row_most p ts n (number_at p.costs.items k))) (from_zero k) (row_formed p b i k (number_at p.costs.items k) f h l m) in
     let r = columns_formed p.rows.items b (pos 0) (once i) (row_most p ts) 0 p.costs.items y start (in_range _ _ (unsigned_abs y) a row.in_range) in
     let s : form_right p.rows.items (once i) (pos 0) ≡ Some y =
-    ap (λ (o : Option ℤ). then_form (then_form o (λ part. within (pos 0 +ℤ part))) (λ next. Some next)) (ap within one ∙ within_told y (right_within _ (unsigned_abs y) row.in_range))
-    ∙ ap (λ (o : Option ℤ). then_form o (λ next. Some next)) (ap within plus ∙ within_told y (right_within _ (unsigned_abs y) row.in_range)) in
+    ap (λ (o : Option ℤ). then_form (then_form o (λ part. within (pos 0 +ℤ part))) (λ next. Some next)) (ap within one ∙ within_itself y (right_within _ (unsigned_abs y) row.in_range))
+    ∙ ap (λ (o : Option ℤ). then_form o (λ next. Some next)) (ap within plus ∙ within_itself y (right_within _ (unsigned_abs y) row.in_range)) in
     let e : weigh_answer p b (pos 0) (once i) ≡ Ok r.0 = ap (λ (o : Option ℤ). or_past 0 o (λ sum. form_columns p.rows.items b (pos 0) (once i) 0 p.costs.items sum)) s ∙ r.1 in
     e ∙ ap Ok (answer_is_weighed p b (pos 0) (once i) r.0 e)
   where

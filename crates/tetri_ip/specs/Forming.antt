@@ -25,16 +25,26 @@ add_product sum a b = then_form (within (a *ℤ b)) (λ part. within (sum +ℤ p
 abbrev pub subtract_product : ℤ → ℤ → ℤ → Option ℤ
 subtract_product rest a b = then_form (within (a *ℤ b)) (λ part. within (rest -ℤ part))
 
--- the products of the weights and the right sides, added to a sum one by one
-abbrev pub form_right : List Row → List Weight → ℤ → Option ℤ
-form_right rows [] sum = Some sum
-form_right rows (w ∷ ws) sum = then_form (add_product sum w.by (right_of rows w.row)) (λ next. form_right rows ws next)
+-- the products of the weights and numbers of their rows, put to a number one by one
+abbrev pub form_by : (ℤ → ℤ → ℤ → Option ℤ) → (ℕ → ℤ) → List Weight → ℤ → Option ℤ
+form_by put number [] z = Some z
+form_by put number (w ∷ ws) z = then_form (put z w.by (number w.row)) (λ next. form_by put number ws next)
 
--- the products of the weights and a column's coefficients, taken away one by one
+-- added to a sum
+abbrev pub form_sum : (ℕ → ℤ) → List Weight → ℤ → Option ℤ
+form_sum = form_by add_product
+
+-- the products of the weights and the right sides, added to a sum
+abbrev pub form_right : List Row → List Weight → ℤ → Option ℤ
+form_right rows = form_sum (right_of rows)
+
+-- the coefficients of a column, by row
+abbrev pub coefficients : List Row → ℕ → ℕ → ℤ
+coefficients rows j i = coefficient (terms_of rows i) j
+
+-- the products of the weights and a column's coefficients, taken away
 abbrev pub form_factor : List Row → List Weight → ℕ → ℤ → Option ℤ
-form_factor rows [] j rest = Some rest
-form_factor rows (w ∷ ws) j rest =
-    then_form (subtract_product rest w.by (coefficient (terms_of rows w.row) j)) (λ next. form_factor rows ws j next)
+form_factor rows ws j = form_by subtract_product (coefficients rows j) ws
 
 -- a column's factor: its cost times the multiplier, from which the products are taken away
 abbrev pub column_factor : List Row → ℤ → List Weight → ℕ → ℤ → Option ℤ

@@ -16,4 +16,5 @@ pub use columns::coefficient_of;
 pub use laws::weighed_bounds_points;
 pub use points::{first_unmet, holds_point, left_side};
 pub use programs::{Program, Region, Row, Term, WeighFault, Weight};
-pub use weighing::weigh;
+pub use range::{add_product, product};
+pub use weighing::{right_sum, weigh};

@@ -13,9 +13,9 @@ fn is_word(n: i128) -> bool
     -WORD <= n && n < WORD
 }
 
-/// The product, if it is in the range. Numbers of 64 bits take a short way.
+/// The product, if it is from -(2^127 - 1) to 2^127 - 1. Numbers of 64 bits take a short way.
 #[inline]
-pub(crate) fn product(a: i128, b: i128) -> Option<i128>
+pub fn product(a: i128, b: i128) -> Option<i128>
     ensures { result ≡ within (a *ℤ b) }
 {
     if is_word(a) && is_word(b) {
@@ -47,9 +47,9 @@ fn difference(a: i128, b: i128) -> Option<i128>
     }
 }
 
-/// The sum with a product, if that and the product are in the range.
+/// The sum with a product, if that and the product are from -(2^127 - 1) to 2^127 - 1.
 #[inline]
-pub(crate) fn add_product(sum: i128, a: i128, b: i128) -> Option<i128>
+pub fn add_product(sum: i128, a: i128, b: i128) -> Option<i128>
     ensures { result ≡ add_product sum a b }
 {
     match product(a, b) {

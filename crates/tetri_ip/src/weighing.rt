@@ -22,7 +22,8 @@ pub(crate) fn find_negative(weights: &[Weight]) -> Option<u32>
     None
 }
 
-pub(crate) fn right_sum(p: &Program, weights: &[Weight]) -> Option<i128>
+/// The sum of the weights' products with their rows' right sides, if each product and each sum on the way is in range.
+pub fn right_sum(p: &Program, weights: &[Weight]) -> Option<i128>
     requires { AreOfRows p.now weights.now }
     ensures { result ≡ form_right p.now.rows.items weights.now (pos 0) }
 {

@@ -6,9 +6,8 @@ use lib.IntN.{pos}
 use Rattle.tetri_ip.specs.declared.programs.Term.{Term}
 use Rattle.tetri_ip.specs.declared.programs.Weight.{Weight}
 use Rattle.tetri_ip.specs.Points.{coefficient}
-use Rattle.tetri_ip.proofs.IntegerProgramLaws.{row_ascends, terms_of_at}
-use Rattle.tetri_cuts.specs.Cuts.{coefficients}
-use Rattle.tetri_cuts.proofs.SumLemmas.{sum_next, sum_none}
+use Rattle.tetri_ip.specs.Forming.{add_product, coefficients}
+use Rattle.tetri_ip.proofs.IntegerProgramLaws.{add_fits, put_next, put_none, row_ascends, terms_of_at}
 use Rattle.tetri_cuts.proofs.sums.column_sum.Goals as goal
 
 pub coefficient_of-by-requires : goal.coefficient_of-by-requires
@@ -25,9 +24,9 @@ loop-w-preserved c =
     let k : (get_or c.args.weights.now c.loop-w.w-index d).row < length c.args.p.now.rows.items = c.requires.rows c.loop-w.w-index d l in
     let f : SFits w128 (get_or c.args.weights.now c.loop-w.w-index d).by = search rules in
     let h : SFits w128 c.coefficient_of-by.result = search rules in
-    sym (sum_next (coefficients c.args.p.now.rows.items c.args.column) c.args.weights.now c.loop-w.w-index d _ _ _ _ l (to_z-of_z _ _ f)
+    sym (put_next add_product (coefficients c.args.p.now.rows.items c.args.column) c.args.weights.now c.loop-w.w-index d _ _ _ _ l (to_z-of_z _ _ f)
     (to_z-of_z _ _ h ∙ c.coefficient_of-by.ensures ∙ ap (λ (ts : List Term). coefficient ts c.args.column) (sym (terms_of_at _ _ c.index.result.now k c.index.ensures)))
-    c.add_product.ensures c.in-Some.next _ c.in-Some.is (λ u. to_z-of_z _ _ u)) ∙ c.loop-w.invariant
+    c.add_product.ensures add_fits c.in-Some.next _ c.in-Some.is (λ u. to_z-of_z _ _ u)) ∙ c.loop-w.invariant
 
 pub returns-in_default : goal.returns-in_default
 returns-in_default c =
@@ -36,6 +35,6 @@ returns-in_default c =
     let k : (get_or c.args.weights.now c.loop-w.w-index d).row < length c.args.p.now.rows.items = c.requires.rows c.loop-w.w-index d l in
     let f : SFits w128 (get_or c.args.weights.now c.loop-w.w-index d).by = search rules in
     let h : SFits w128 c.coefficient_of-by.result = search rules in
-    sum_none (coefficients c.args.p.now.rows.items c.args.column) c.args.weights.now c.loop-w.w-index d _ _ _ _ l (to_z-of_z _ _ f)
+    put_none add_product (coefficients c.args.p.now.rows.items c.args.column) c.args.weights.now c.loop-w.w-index d _ _ _ _ l (to_z-of_z _ _ f)
     (to_z-of_z _ _ h ∙ c.coefficient_of-by.ensures ∙ ap (λ (ts : List Term). coefficient ts c.args.column) (sym (terms_of_at _ _ c.index.result.now k c.index.ensures)))
     c.add_product.ensures c.in_default.is ∙ c.loop-w.invariant

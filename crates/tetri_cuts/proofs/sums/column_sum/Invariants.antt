@@ -1,6 +1,6 @@
 use Rattle.std.proofs.Common.{◌≡◌, drop}
 use lib.IntN.{pos}
-use Rattle.tetri_cuts.specs.Cuts.{coefficients, form_sum}
+use Rattle.tetri_ip.specs.Forming.{coefficients, form_sum}
 use Rattle.tetri_cuts.proofs.sums.column_sum.Given as goal
 
 abbrev pub invariant-loop-w : goal.invariant-loop-w

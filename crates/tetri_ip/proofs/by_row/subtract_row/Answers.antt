@@ -6,7 +6,7 @@ use mir.Syntax.{w128}
 use Rattle.tetri_ip.specs.Points.{number_at, term_at}
 use Rattle.tetri_algebra.specs.Range.{IsWithin}
 use Rattle.tetri_ip.proofs.FactorLemmas.{row_step, set_within}
-use Rattle.tetri_ip.proofs.Steps.{subtract_fits, subtract_within}
+use Rattle.tetri_ip.proofs.Steps.{subtract_is}
 use Rattle.tetri_ip.proofs.by_row.subtract_row.Goals as goal
 
 pub loop-term-preserved : goal.loop-term-preserved
@@ -24,10 +24,11 @@ loop-term-preserved c =
     let weight = to_z w128 (of_z w128 c.args.by) in
     let part = to_z w128 (of_z w128 t.by) in
     let formed = sym c.subtract_product.ensures ∙ c.in-Some.is in
-    let next = to_z-of_z w128 c.in-Some.next (subtract_fits left weight part c.in-Some.next formed) in
+    let fits = (subtract_is left weight part c.in-Some.next formed).1 in
+    let next = to_z-of_z w128 c.in-Some.next (fits_signed_from_abs w128 _ fits) in
     record {
       count = length-set _ _ _ ∙ c.loop-term.invariant.count;
-      in_range = set_within c.loop-term.factors t.column _ (subst IsWithin (sym next) (subtract_within left weight part c.in-Some.next formed)) c.loop-term.invariant.in_range;
+      in_range = set_within c.loop-term.factors t.column _ (subst IsWithin (sym next) fits) c.loop-term.invariant.in_range;
       taken = λ j.
           row_step ts us i c.loop-term.factors weight left part c.in-Some.next _ c.subtract_product.result same c.requires.ascending c.loop-term-test.true within (to_z-of_z _ _ rest) (to_z-of_z _ _ by) c.subtract_product.ensures c.in-Some.is next j
           ∙ c.loop-term.invariant.taken j;

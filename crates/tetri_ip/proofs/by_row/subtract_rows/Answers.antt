@@ -1,11 +1,12 @@
-use Rattle.std.proofs.Common.{ℕ, ◌<◌, List, Some, length, ◌∙◌, arith, refl, rules, sym, subst}
+use Rattle.std.proofs.Common.{ℕ, ◌<◌, List, Some, length, ◌∙◌, ap, arith, refl, rules, sym, subst}
 use Rattle.std.proofs.lemmas.Int.{to_z-of_z}
 use mir.Val.{SFits}
 use mir.Syntax.{w128}
 use Rattle.tetri_ip.specs.declared.programs.Term.{Term}
-use Rattle.tetri_ip.specs.Points.{column_at, number_at}
+use Rattle.tetri_ip.specs.Forming.{coefficients, subtract_product}
+use Rattle.tetri_ip.specs.Points.{coefficient, column_at, number_at}
 use Rattle.tetri_ip.specs.Weighed.{weight_at}
-use Rattle.tetri_ip.proofs.Steps.{factor_step, row_ascends, terms_of_at}
+use Rattle.tetri_ip.proofs.Steps.{put_step, row_ascends, terms_of_at}
 use Rattle.tetri_ip.proofs.by_row.subtract_rows.Goals as goal
 
 pub subtract_row-requires-clause-ascending : goal.subtract_row-requires-clause-ascending
@@ -31,7 +32,7 @@ loop-w-preserved c =
       in_range = c.if-not-subtract_row.ensures.in_range refl;
       taken = λ j lt.
           let inside : j < length c.loop-w.factors = omega (arith, lt, c.loop-w.invariant.count) in
-          sym (factor_step c.args.p.now.rows.items c.args.weights.now c.loop-w.w-index j _ c.index.result.now (number_at c.loop-w.factors j) _ _ (Some (number_at c.subtract_row.new.factors j))
-          c.loop-w-test.true k c.index.ensures (to_z-of_z _ _ by) refl (sym (c.if-not-subtract_row.ensures.taken refl j inside)))
+          sym (put_step subtract_product (coefficients c.args.p.now.rows.items j) c.args.weights.now c.loop-w.w-index _ (number_at c.loop-w.factors j) _ _ (Some (number_at c.subtract_row.new.factors j))
+          c.loop-w-test.true (to_z-of_z _ _ by) (sym (ap (λ (ts : List Term). coefficient ts j) (terms_of_at c.args.p.now.rows.items w.row c.index.result.now k c.index.ensures))) (sym (c.if-not-subtract_row.ensures.taken refl j inside)))
           ∙ c.loop-w.invariant.taken j lt;
     }

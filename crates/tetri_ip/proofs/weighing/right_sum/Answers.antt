@@ -4,7 +4,9 @@ use mir.Val.{SFits}
 use mir.Syntax.{w128}
 use lib.IntN.{pos}
 use Rattle.tetri_ip.specs.declared.programs.Weight.{Weight}
-use Rattle.tetri_ip.proofs.Steps.{right_next, right_none}
+use Rattle.tetri_ip.specs.Forming.{add_product}
+use Rattle.tetri_ip.specs.Points.{right_of}
+use Rattle.tetri_ip.proofs.Steps.{add_fits, put_next, put_none, right_of_at}
 use Rattle.tetri_ip.proofs.weighing.right_sum.Goals as goal
 
 pub loop-w-preserved : goal.loop-w-preserved
@@ -14,7 +16,7 @@ loop-w-preserved c =
     let k : (get_or c.args.weights.now c.loop-w.w-index d).row < length c.args.p.now.rows.items = c.requires c.loop-w.w-index d l in
     let f : SFits w128 (get_or c.args.weights.now c.loop-w.w-index d).by = search rules in
     let h : SFits w128 c.index.result.now.right = search rules in
-    sym (right_next _ _ _ d c.index.result.now _ _ _ c.in-Some.next _ _ l k c.index.ensures (to_z-of_z _ _ f) (to_z-of_z _ _ h) c.add_product.ensures c.in-Some.is (λ u. to_z-of_z _ _ u)) ∙ c.loop-w.invariant
+    sym (put_next add_product (right_of c.args.p.now.rows.items) c.args.weights.now c.loop-w.w-index d _ _ _ _ l (to_z-of_z _ _ f) (to_z-of_z _ _ h ∙ sym (right_of_at _ _ c.index.result.now k c.index.ensures)) c.add_product.ensures add_fits c.in-Some.next _ c.in-Some.is (λ u. to_z-of_z _ _ u)) ∙ c.loop-w.invariant
 
 pub returns-in_default : goal.returns-in_default
 returns-in_default c =
@@ -23,4 +25,4 @@ returns-in_default c =
     let k : (get_or c.args.weights.now c.loop-w.w-index d).row < length c.args.p.now.rows.items = c.requires c.loop-w.w-index d l in
     let f : SFits w128 (get_or c.args.weights.now c.loop-w.w-index d).by = search rules in
     let h : SFits w128 c.index.result.now.right = search rules in
-    right_none _ _ _ d c.index.result.now _ _ _ _ l k c.index.ensures (to_z-of_z _ _ f) (to_z-of_z _ _ h) c.add_product.ensures c.in_default.is ∙ c.loop-w.invariant
+    put_none add_product (right_of c.args.p.now.rows.items) c.args.weights.now c.loop-w.w-index d _ _ _ _ l (to_z-of_z _ _ f) (to_z-of_z _ _ h ∙ sym (right_of_at _ _ c.index.result.now k c.index.ensures)) c.add_product.ensures c.in_default.is ∙ c.loop-w.invariant
