@@ -1,5 +1,5 @@
 -- A tree's bound holds at each point of the open regions.
-use Rattle.std.proofs.Common.{◌≡◌, ℕ, ◌+◌, ◌-◌, ◌^◌, ◌<◌, ◌≤◌, max, refl, sym, ap, ◌∙◌, subst, inl, inr, ⊎_elim, arith, List, [], ◌∷◌, length, get_or, cond, Bool, true, false, Option, Some, None, Result, Ok, Err, IfOk}
+use Rattle.std.proofs.Common.{◌≡◌, ℕ, ◌+◌, ◌-◌, ◌^◌, ◌<◌, ◌≤◌, max, refl, sym, ap, ◌∙◌, subst, inl, inr, ⊎_elim, arith, List, [], ◌∷◌, length, get_or, cond, Bool, true, false, Result, Ok, Err}
 use Prim.Native.Nat.{zero, suc}
 use Rattle.std.specs.Prelude.{◌≤ℤ◌, ◌<ℤ◌, ◌⊎◌, not, ◌||◌}
 use Rattle.std.specs.List.{list_any}
@@ -16,8 +16,8 @@ use Rattle.tetri_ip.specs.declared.programs.WeighFault.{WeighFault}
 use Rattle.tetri_ip.specs.declared.programs.WeighFault.TheVariants as weighing
 use Rattle.tetri_ip.specs.Points.{Bounds, IsPoint, box_of, number_at, objective}
 use Rattle.tetri_ip.specs.Weighed.{AreNotNegative, weighed}
-use Rattle.tetri_ip.specs.Forming.{first_negative, form_columns, form_right, or_past, unless_negative, weigh_answer}
-use Rattle.tetri_ip.proofs.IntegerProgramLaws.{weak_duality, weighed_where_formed}
+use Rattle.tetri_ip.specs.Forming.{weigh_answer}
+use Rattle.tetri_ip.proofs.IntegerProgramLaws.{answer_is_weighed, weak_duality}
 use Rattle.tetri_cert.specs.declared.marks.Mark.{Mark}
 use Rattle.tetri_cert.specs.declared.marks.Mark.TheVariants.{Split, Close, Whole, Rest}
 use Rattle.tetri_cert.specs.declared.faults.TreeFault.{TreeFault}
@@ -77,20 +77,6 @@ quotient_covers node q w o n g h e = by_sign (lt_z (pos 0) q) refl e
         zero_of (negsuc n) a b = absurd (false≢true (sym b))
 
 -- ---- weights
--- the weighed number, where it is formed
-pub weighed_is : (p : Program) (b : Bounds) (q : ℤ) (ws : List Weight) (w : ℤ) → weigh_answer p b q ws ≡ Ok w → w ≡ weighed p b q ws
-weighed_is p b q ws w e = by_negative (first_negative ws) e
-  where
-    by_right : (o : Option ℤ) → form_right p.rows.items ws (pos 0) ≡ o → or_past 0 o (λ sum. form_columns p.rows.items b q ws 0 p.costs.items sum) ≡ Ok w → w ≡ weighed p b q ws
-    by_right None f g = cc
-    by_right (Some right) f g =
-        let h = weighed_where_formed p b q ws right right (form_right p.rows.items ws (pos 0)) (form_columns p.rows.items b q ws 0 p.costs.items right) refl f (λ s. refl) refl in
-        subst (λ (r : Result ℤ WeighFault). IfOk r (λ z. z ≡ weighed p b q ws)) g h
-
-    by_negative : (o : Option ℕ) → unless_negative o (or_past 0 (form_right p.rows.items ws (pos 0)) (λ sum. form_columns p.rows.items b q ws 0 p.costs.items sum)) ≡ Ok w → w ≡ weighed p b q ws
-    by_negative None g = by_right (form_right p.rows.items ws (pos 0)) refl g
-    by_negative (Some row) g = cc
-
 pub not_negative : (ws : List Weight) → list_any (λ w. is_negative w.by) ws ≡ false → AreNotNegative ws
 not_negative [] h k d l = absurd (omega arith)
 not_negative (w ∷ ws) h k d l = by_test (is_negative w.by) refl h (λ g i m. not_negative ws g i d m) k l
@@ -110,7 +96,7 @@ weights_cover p b node q ws n x h i =
     formed (weigh_answer p b q ws) refl t.0 w t.1
   where
     formed : (o : Result ℤ WeighFault) → weigh_answer p b q ws ≡ o → is_negative q ≡ false → (q *ℤ objective p x) ≤ℤ weighed p b q ws → where_weighed node q o ≡ Ok n → capped (objective p x) ≤ n
-    formed (Ok z) e s w h = quotient_covers node q z (objective p x) n s (subst (λ y. (q *ℤ objective p x) ≤ℤ y) (sym (weighed_is p b q ws z e)) w) h
+    formed (Ok z) e s w h = quotient_covers node q z (objective p x) n s (subst (λ y. (q *ℤ objective p x) ≤ℤ y) (sym (answer_is_weighed p b q ws z e)) w) h
     formed (Err (weighing.Past j)) e s w h = cc
     formed (Err (weighing.Negative row)) e s w h = cc
 

@@ -17,6 +17,7 @@ use Rattle.tetri_ip.specs.declared.programs.WeighFault.TheVariants as weighing
 use Rattle.tetri_ip.specs.Forming.{weigh_answer}
 use Rattle.tetri_ip.specs.Points.{Bounds, box_of, number_at, objective}
 use Rattle.tetri_ip.specs.Weighed.{AreNotNegative, weighed}
+use Rattle.tetri_ip.proofs.IntegerProgramLaws.{answer_is_weighed}
 use Rattle.tetri_cert.specs.declared.marks.Cell.{Cell}
 use Rattle.tetri_cert.specs.declared.faults.TreeFault.TheVariants.{Bad}
 use Rattle.tetri_cert.specs.declared.faults.TreeWhy.TheVariants as why
@@ -27,7 +28,7 @@ use Rattle.tetri_cert.specs.NodeBounds.{capped, high_side, is_negative, is_unkno
 use Rattle.tetri_base.specs.ResultSteps.{◌>>=◌}
 use Rattle.tetri_cert.specs.ProperTrees.{AreProper, BoundsProperTrees, IsEnd, IsProper, IsWorth, Tree, end_bound, ends, floor_of, greatest, preorder, splits}
 use Rattle.tetri_cert.specs.Trees.{fills, if_fills, tree_bound, tree_from}
-use Rattle.tetri_cert.proofs.Covers.{bind_ok, length_sides, not_false, not_negative, refused, same_ok, shape_ok, weighed_is}
+use Rattle.tetri_cert.proofs.Covers.{bind_ok, length_sides, not_false, not_negative, refused, same_ok, shape_ok}
 use Rattle.tetri_cert.proofs.PointLemmas.{both_true, columns_below, is_point_is, length-point_of, point_told_by_counts}
 use Rattle.tetri_cert.proofs.Steps.{split_inside, split_told}
 
@@ -96,7 +97,7 @@ weights_are p b node q ws n h =
   where
     by_answer : (o : Result ℤ WeighFault) → weigh_answer p b q ws ≡ o → list_any (is_unknown_row (length p.rows.items)) ws ≡ false → list_any (λ w. is_negative w.by) ws ≡ false → is_negative q ≡ false → where_weighed node q o ≡ Ok n → AreProper p b q ws × (floor_of p b q ws ≡ n)
     by_answer (Ok z) e x y g f =
-        let i : z ≡ weighed p b q ws = weighed_is p b q ws z e in
+        let i : z ≡ weighed p b q ws = answer_is_weighed p b q ws z e in
         let u = quotient_is node q (weighed p b q ws) n g (ap (quotient_at node q) (sym i) ∙ f) in
         (record { rows = rows_below (length p.rows.items) ws x; weights = not_negative ws y; over = not_negative_is q g; formed = e ∙ ap Ok i; empty = u.0 }, u.1)
     by_answer (Err (weighing.Past j)) e x y g f = cc
