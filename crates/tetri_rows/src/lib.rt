@@ -9,6 +9,6 @@ mod terms;
 mod whole;
 
 pub use laws::{small_entries, small_quotients};
-pub use rows::{at, fractions, is_lesser_ratio, minus_ratio, short, solve_for};
+pub use rows::{at, fractions, is_lesser_ratio, minus_ratio, negate, short, solve_for};
 pub use terms::{Terms, put_in};
 pub use whole::{common_denominator, numbers_over};

@@ -186,8 +186,8 @@ fn reduce(den: i64, row: &mut [i64]) -> i64
     divided(den, g)
 }
 
-// Turns the sign of each number.
-fn negate(row: &mut [i64])
+/// Turns the sign of each number.
+pub fn negate(row: &mut [i64])
     requires { All IsShort row.old }
     ensures value { (q : ℕ) → q < length row.old → get_or row.new q (pos 0) ≡ neg_ℤ (get_or row.old q (pos 0)) }
     ensures row { All IsShort row.new }

@@ -6,7 +6,7 @@ use Rattle.std.proofs.lemmas.List.{get_or-set_other, get_or_past, map-set, lengt
 use lib.IntN.{pos, negsuc}
 use Rattle.tetri_algebra.specs.Rational.{ℚ, whole_ℚ}
 use Rattle.tetri_algebra.specs.RationalReciprocal.{recip_ℚ}
-use Rattle.tetri_algebra.specs.RationalRing.{ℚ_ring, zero_ℚ, ◌+ℚ◌, ◌*ℚ◌, zero-+ℚ, zero-*ℚ}
+use Rattle.tetri_algebra.specs.RationalRing.{ℚ_ring, zero_ℚ, ◌+ℚ◌, ◌*ℚ◌, zero-+ℚ, zero-*ℚ, num-whole_ℚ}
 use Rattle.tetri_algebra.specs.RingSolver.{var, nil, minus, ring, ◌⊗◌}
 use Rattle.tetri_num.specs.declared.places.Place.{Place}
 use Rattle.tetri_simplex.specs.declared.mixed.MixedRow.{MixedRow}
@@ -64,16 +64,16 @@ solved_zero n i j p row solved e d z =
 same : {A : Type 0} → (o : Result A Place) (x y : A) → o ≡ Ok x → o ≡ Ok y → x ≡ y
 same o x y e f = cc
 
-parts : (n i j : ℕ) (rows new : List (List ℚ)) → pivoted_rows n i j rows ≡ Ok new → (s : List ℚ) × ((solved_row n i j (get_or rows i []) ≡ Ok s) × (each (next_row n i j s) 0 rows ≡ Ok new))
+pub parts : (n i j : ℕ) (rows new : List (List ℚ)) → pivoted_rows n i j rows ≡ Ok new → (s : List ℚ) × ((solved_row n i j (get_or rows i []) ≡ Ok s) × (each (next_row n i j s) 0 rows ≡ Ok new))
 unfolding pivoted_rows
 parts n i j rows new e = then_ok_pair (solved_row n i j (get_or rows i [])) _ new e
 
-at_row : (n i j : ℕ) (s : List ℚ) (rows new : List (List ℚ)) (q : ℕ) → each (next_row n i j s) 0 rows ≡ Ok new → q < length rows → next_row n i j s q (get_or rows q []) ≡ Ok (get_or new q [])
+pub at_row : (n i j : ℕ) (s : List ℚ) (rows new : List (List ℚ)) (q : ℕ) → each (next_row n i j s) 0 rows ≡ Ok new → q < length rows → next_row n i j s q (get_or rows q []) ≡ Ok (get_or new q [])
 at_row n i j s rows new q e l =
     let z : 0 + q ≡ q = omega arith in
     ap (λ k. next_row n i j s k (get_or rows q [])) (sym z) ∙ each_get (next_row n i j s) 0 rows new q [] [] e l
 
-own_after : (n i j : ℕ) (s : List ℚ) (rows new : List (List ℚ)) → each (next_row n i j s) 0 rows ≡ Ok new → i < length rows → s ≡ get_or new i []
+pub own_after : (n i j : ℕ) (s : List ℚ) (rows new : List (List ℚ)) → each (next_row n i j s) 0 rows ≡ Ok new → i < length rows → s ≡ get_or new i []
 own_after n i j s rows new e l = same (next_row n i j s i (get_or rows i [])) s (get_or new i []) (own_row n i j s i (get_or rows i []) refl) (at_row n i j s rows new i e l)
 
 past_end : (n i j : ℕ) (s : List ℚ) (rows new : List (List ℚ)) (q p : ℕ) → each (next_row n i j s) 0 rows ≡ Ok new → length rows ≤ q → number_in new q p ≡ zero_ℚ
@@ -149,7 +149,7 @@ pub behind : (j : ℕ) → j + 1 ≡ suc j
 behind j = omega arith
 
 -- a row that does not hold the variable
-some_row : (rows : List MixedRow) (k : ℕ) → k < length rows → (r : MixedRow) × (r ≡ get_or rows k r)
+pub some_row : (rows : List MixedRow) (k : ℕ) → k < length rows → (r : MixedRow) × (r ≡ get_or rows k r)
 some_row [] k l = absurd (omega arith)
 some_row (r ∷ rows) zero l = (r, refl)
 some_row (r ∷ rows) (suc k) l = some_row rows k (omega arith)
@@ -198,3 +198,39 @@ passed n i j s rows first own from k w hs l h there b =
     ap (rest_of (next_row n i j (mixed_row s)) i (mixed_row s) (mixed_rows rows)) e
     ∙ pass_more n i j s rows from (k - from) w hs
     (λ q m u. ap (λ us. get_or us (suc j) zero_ℚ) (there q m) ∙ h q (b q m (omega (arith, u))))
+
+-- ---- the rows that the pivot has not touched
+-- a row that holds the variable has a bit
+pub has_bit : (ws : List ℕ) (rows first : List MixedRow) (k j : ℕ) (r : MixedRow) → k < length rows → r ≡ get_or rows k r → get_or (mixed_rows rows) k [] ≡ get_or (mixed_rows first) k [] → IsHolder ws (mixed_rows first) j →
+    (get_or (mixed_row r) (j + 1) zero_ℚ ≡ zero_ℚ → ⊥) → bit ws k ≡ 0 → ⊥
+has_bit ws rows first k j r l re t h d b =
+    d (ap (λ p. get_or (mixed_row r) p zero_ℚ) (behind j) ∙ ap (λ us. get_or us (suc j) zero_ℚ) (sym (mixed_read rows k r l re) ∙ t) ∙ h k b)
+
+pub cleared_untouched : (rows first after : List MixedRow) (ws new : List ℕ) (from k : ℕ) → from ≤ k → after ≡ rows → ((q : ℕ) → (q ≡ k → ⊥) → bit new q ≡ 0 → bit ws q ≡ 0) →
+    ((q : ℕ) (r : MixedRow) → bit ws q ≡ 0 → get_or rows q r ≡ get_or first q r) → ((q : ℕ) (r : MixedRow) → from ≤ q → get_or rows q r ≡ get_or first q r) →
+    (q : ℕ) (r : MixedRow) → bit new q ≡ 0 → get_or after q r ≡ get_or first q r
+cleared_untouched rows first after ws new from k m ae clear h t q r b =
+    ap (λ (us : List MixedRow). get_or us q r) ae
+    ∙ ⊎_elim (λ (e : q ≡ k). t q r (omega (arith, e, m))) (λ (d : q ≡ k → ⊥). h q r (clear q d b)) (cases_eq q k)
+
+pub replaced_untouched : (rows first after : List MixedRow) (ws new : List ℕ) (k : ℕ) (row : MixedRow) → after ≡ set rows k row → new ≡ ws → (bit ws k ≡ 0 → ⊥) →
+    ((q : ℕ) (r : MixedRow) → bit ws q ≡ 0 → get_or rows q r ≡ get_or first q r) → (q : ℕ) (r : MixedRow) → bit new q ≡ 0 → get_or after q r ≡ get_or first q r
+replaced_untouched rows first after ws new k row ae we set_there h q r b =
+    let c : bit ws q ≡ 0 = subst (λ (us : List ℕ). bit us q ≡ 0) we b in
+    ap (λ (us : List MixedRow). get_or us q r) ae
+    ∙ get_or-set_other rows k q row r (λ (e : q ≡ k). set_there (ap (bit ws) (sym e) ∙ c)) ∙ h q r c
+
+pub later_same : (rows first after : List MixedRow) (from k : ℕ) → from ≤ k → after ≡ rows → ((q : ℕ) (r : MixedRow) → from ≤ q → get_or rows q r ≡ get_or first q r) →
+    (q : ℕ) (r : MixedRow) → k + 1 ≤ q → get_or after q r ≡ get_or first q r
+later_same rows first after from k m ae h q r l = ap (λ (us : List MixedRow). get_or us q r) ae ∙ h q r (omega (arith, m, l))
+
+pub later_replaced : (rows first after : List MixedRow) (from k : ℕ) → from ≤ k → (row : MixedRow) → after ≡ set rows k row → ((q : ℕ) (r : MixedRow) → from ≤ q → get_or rows q r ≡ get_or first q r) →
+    (q : ℕ) (r : MixedRow) → k + 1 ≤ q → get_or after q r ≡ get_or first q r
+later_replaced rows first after from k m row ae h q r l =
+    ap (λ (us : List MixedRow). get_or us q r) ae ∙ get_or-set_other rows k q row r (λ (e : q ≡ k). absurd (omega (arith, e, l))) ∙ h q r (omega (arith, m, l))
+
+-- the leaving row is written in the end
+pub pivot_untouched : (rows first after : List MixedRow) (ws : List ℕ) (i j : ℕ) (solved : MixedRow) → after ≡ set rows i solved → IsHolder ws (mixed_rows first) j → ((number_in (mixed_rows first) i j).num ≡ pos 0 → ⊥) →
+    ((q : ℕ) (r : MixedRow) → bit ws q ≡ 0 → get_or rows q r ≡ get_or first q r) → (q : ℕ) (r : MixedRow) → bit ws q ≡ 0 → get_or after q r ≡ get_or first q r
+pivot_untouched rows first after ws i j solved ae ho p h q r b =
+    replaced_untouched rows first after ws ws i solved ae refl (λ c. p (ap (λ (z : ℚ). z.num) (ho i c) ∙ num-whole_ℚ (pos 0))) h q r b

@@ -4,13 +4,14 @@ use Rattle.std.specs.Global.{Global}
 use Rattle.std.specs.Vec.{with_items}
 use Prim.Native.Nat.{zero, suc}
 use Rattle.std.specs.Prelude.{All, unsigned_abs, Vec}
-use Rattle.std.proofs.lemmas.List.{length-map, set-get_or, get_or_default}
-use lib.IntN.{ℤ, pos}
+use Rattle.std.proofs.lemmas.List.{length-map, get_or-map, set-get_or, get_or_default}
+use lib.IntN.{ℤ, pos, negsuc}
 use lib.Signed.{lt_z}
 use mir.Val.{to_z, of_z}
 use mir.Syntax.{w64}
+use Rattle.tetri_algebra.specs.Integers.{abs_positive}
 use Rattle.tetri_algebra.specs.Rational.{ℚ, fraction}
-use Rattle.tetri_algebra.specs.RationalRing.{zero_ℚ}
+use Rattle.tetri_algebra.specs.RationalRing.{zero_ℚ, num-whole_ℚ}
 use Rattle.tetri_num.specs.Checked.{IsRepresentable, checked_sum}
 use Rattle.tetri_num.specs.declared.places.Kind.TheVariants as Kind
 use Rattle.tetri_num.proofs.FractionLaws.{checked_product-zero_left, checked_sum-zero_right, value_representable}
@@ -18,7 +19,7 @@ use Rattle.tetri_num.specs.declared.fractions.Frac.{Frac}
 use Rattle.tetri_num.specs.Frac.{value}
 use Rattle.tetri_rows.specs.Rows.{meaning, put_in, solved_for}
 use Rattle.tetri_rows.specs.Small.{IsSmall, IsShort, IsDenominator}
-use Rattle.tetri_rows.proofs.RowLaws.{negative_number, not_zero_number, positive_number, short_word, small_numbers, zero_number}
+use Rattle.tetri_rows.proofs.RowLaws.{fraction_not_zero, negative_number, not_zero_number, positive_number, short_word, small_numbers, zero_number}
 use Rattle.tetri_simplex.specs.declared.mixed.MixedRow.{MixedRow}
 use Rattle.tetri_simplex.specs.declared.mixed.MixedRow.TheVariants.{Whole, Fractions}
 use Rattle.tetri_simplex.specs.Fractions.{values}
@@ -146,6 +147,22 @@ pub zero_in_whole : (n : ℕ) (r : MixedRow) (den : ℤ) (numbers : Vec ℤ Glob
 zero_in_whole n r den numbers k x h e l xe z =
     let w = as_whole n r den numbers h e in
     ap (λ (y : MixedRow). get_or (mixed_row y) k zero_ℚ) e ∙ whole_zero n den numbers.items k (to_z w64 (of_z w64 x)) w l (index_read n den numbers.items k x w l xe) (ap (to_z w64) z)
+
+integer_zero : (z : ℤ) → ((z ≡ pos 0 → ⊥) → ⊥) → z ≡ pos 0
+integer_zero (pos zero) h = refl
+integer_zero (pos (suc m)) h = absurd (h (λ (e : pos (suc m) ≡ pos 0). cc))
+integer_zero (negsuc m) h = absurd (h (λ (e : negsuc m ≡ pos 0). cc))
+
+pub whole_of_zero : (n : ℕ) (r : MixedRow) (den : ℤ) (numbers : Vec ℤ Global) (k : ℕ) (x : ℤ) → IsMixedRow n r → r ≡ Whole den numbers → k ≤ n → x ≡ get_or numbers.items k x → get_or (mixed_row r) k zero_ℚ ≡ zero_ℚ → of_z w64 x ≡ 0
+whole_of_zero n r den numbers k x h e l xe z =
+    let w = as_whole n r den numbers h e in
+    let m : k < length numbers.items = let v = w.wide in omega arith in
+    let y = get_or numbers.items k (pos 0) in
+    let f : fraction y (unsigned_abs den) ≡ zero_ℚ =
+    sym (get_or-map (λ i. fraction i (unsigned_abs den)) numbers.items k (pos 0) zero_ℚ m) ∙ ap (λ (s : MixedRow). get_or (mixed_row s) k zero_ℚ) (sym e) ∙ z in
+    ap (of_z w64)
+    (xe ∙ get_or_default numbers.items k x (pos 0) m
+    ∙ integer_zero y (λ d. fraction_not_zero y (unsigned_abs den) (abs_positive den w.over.positive) d (ap (λ (p : ℚ). p.num) f ∙ num-whole_ℚ (pos 0))))
 
 -- ---- a row in which a whole row is put in, as the code has it
 pub put_in_whole : (o : Option ℤ) (n j : ℕ) (den den' solved_den solved_den' : ℤ) (xs ys zs : List ℤ) (solved : MixedRow) (numbers : Vec ℤ Global) → den' ≡ den → solved_den' ≡ solved_den → ys ≡ numbers.items → solved ≡ Whole solved_den numbers →

@@ -20,3 +20,9 @@ pub mod Whole
 pub mod WholeRatios
 pub mod Holders
 pub mod Below
+pub mod Mirrors
+pub mod Pairs
+pub mod Forms
+pub mod PairPivots
+pub mod SignedNumbers
+pub mod Sorting

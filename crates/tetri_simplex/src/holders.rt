@@ -182,7 +182,8 @@ fn copied_words(alloc: Global, words: &[u64]) -> Result<Vec<u64>, AllocError>
 }
 
 /// Exchanges the basic place i and the nonbasic place j in the rows of a dictionary. Only the rows that
-/// may hold the variable are visited.
+/// may hold the variable are visited; their bits stand at place j in the end, and a row without one stays as
+/// it was.
 pub(crate) fn pivot_held(
     alloc: Global,
     columns: u32,
@@ -205,6 +206,8 @@ pub(crate) fn pivot_held(
     ensures sound { IfOk result (λ _. AreMixedRows columns rows.new) }
     ensures below { IfOk result (λ _. below.new ≡ below_of (mixed_rows rows.new)) }
     ensures holders { IfOk result (λ _. AreHolders columns holders.new (mixed_rows rows.new)) }
+    ensures holder { IfOk result (λ _. IsHolder (words_at holders.new j) (mixed_rows rows.old) j) }
+    ensures untouched { IfOk result (λ _. (q : ℕ) (r : MixedRow) → bit (words_at holders.new j) q ≡ 0 → get_or rows.new q r ≡ get_or rows.old q r) }
 {
     let mut own = copied_words(alloc, &holders[j as usize])?;
     match pivot_mixed(alloc, columns, rows, below, &mut own, terms, i, j) {

@@ -1,7 +1,7 @@
 //! Rows that are whole numbers over one denominator where these are short, and fractions else. Such
 //! rows under a pivot.
 
-ghost use Rattle.std.specs.Prelude.{◌≡◌, ◌≢◌, ℕ, List, ◌+◌, ◌/◌, ◌<◌, ◌≤◌, ◌^◌, length, get_or, set, suc, [], Ok, Err, Some, None, MatchOption, MatchResult, IfOk, IfSome, IsTrue, pos};
+ghost use Rattle.std.specs.Prelude.{◌≡◌, ◌≢◌, ◌↔◌, ℕ, List, ◌+◌, ◌/◌, ◌<◌, ◌≤◌, ◌^◌, length, get_or, set, suc, [], Ok, Err, Some, None, MatchOption, MatchResult, IfOk, IfSome, IsTrue, pos};
 ghost use Rattle.tetri_algebra.specs.Rational.{ℚ};
 ghost use Rattle.tetri_algebra.specs.RationalRing.{zero_ℚ};
 ghost use Rattle.tetri_num.specs.Frac.{value};
@@ -11,7 +11,7 @@ ghost use Rattle.tetri_simplex.specs.Candidates.{candidate_of, IsCandidate};
 ghost use Rattle.tetri_simplex.specs.Below.{below_of};
 ghost use Rattle.tetri_simplex.specs.Faults.{IsFault};
 ghost use Rattle.tetri_simplex.specs.Fractions.{values};
-ghost use Rattle.tetri_simplex.specs.Holders.{IsHolder};
+ghost use Rattle.tetri_simplex.specs.Holders.{bit, IsHolder};
 ghost use Rattle.tetri_simplex.specs.Mixed.{mixed_row, mixed_rows, AreWholeNumbers, IsMixedRow, AreMixedRows, AreTermsOfRow, IsReplacedAt};
 ghost use Rattle.tetri_simplex.specs.Pivots.{solved_row, replaced_row, next_row, pivoted_rows};
 ghost use Rattle.tetri_simplex.specs.Steps.{each};
@@ -35,7 +35,7 @@ pub(crate) enum MixedRow {
     Fractions(Vec<Frac>),
 }
 
-// The number at place k.
+/// The number at place k.
 #[inline(always)]
 pub(crate) fn number_at(columns: u32, row: &MixedRow, k: usize) -> Frac
     requires row { IsMixedRow columns row.now }
@@ -48,9 +48,9 @@ pub(crate) fn number_at(columns: u32, row: &MixedRow, k: usize) -> Frac
     }
 }
 
-// Whether the number at place k is below 0.
+/// Whether the number at place k is below 0.
 #[inline(always)]
-fn is_negative_at(columns: u32, row: &MixedRow, k: usize) -> bool
+pub(crate) fn is_negative_at(columns: u32, row: &MixedRow, k: usize) -> bool
     requires row { IsMixedRow columns row.now }
     requires within { k ≤ columns }
     ensures { result ≡ is_negative (get_or (mixed_row row.now) k zero_ℚ) }
@@ -187,8 +187,12 @@ fn copied(alloc: Global, numbers: &[i64]) -> Result<Vec<i64>, AllocError>
     Ok(copy)
 }
 
-// A row of whole numbers where its fractions are short over a common denominator, and of fractions else.
-fn brought_back(alloc: Global, columns: u32, row: Vec<Frac>) -> Result<MixedRow, AllocError>
+/// A row of whole numbers where its fractions are short over a common denominator, and of fractions else.
+pub(crate) fn brought_back(
+    alloc: Global,
+    columns: u32,
+    row: Vec<Frac>,
+) -> Result<MixedRow, AllocError>
     requires { length row.items ≡ columns + 1 }
     ensures same { IfOk result (λ r. mixed_row r ≡ values row.items) }
     ensures sound { IfOk result (λ r. IsMixedRow columns r) }
@@ -240,7 +244,7 @@ fn solved_mixed(
 pub(crate) fn is_zero_at(columns: u32, row: &MixedRow, k: usize) -> bool
     requires row { IsMixedRow columns row.now }
     requires within { k ≤ columns }
-    ensures { IsTrue result → get_or (mixed_row row.now) k zero_ℚ ≡ zero_ℚ }
+    ensures { IsTrue result ↔ (get_or (mixed_row row.now) k zero_ℚ ≡ zero_ℚ) }
 {
     match row {
         MixedRow::Whole { den: _, numbers } => numbers[k] == 0,
@@ -414,6 +418,7 @@ fn replace_mixed(
     ensures sound { IfOk result (λ _. AreMixedRows columns rows.new) }
     ensures below { IfOk result (λ _. below.new ≡ below_of (mixed_rows rows.new)) }
     ensures holder { IsHolder own.new (mixed_rows rows.old) j }
+    ensures untouched { IfOk result (λ _. (q : ℕ) (r : MixedRow) → bit own.new q ≡ 0 → get_or rows.new q r ≡ get_or rows.old q r) }
 {
     let mut from = 0;
     for _ in 0..rows.len() {
@@ -436,7 +441,7 @@ fn replace_mixed(
 
 /// Exchanges the basic place i and the nonbasic place j in the rows of a dictionary. `below` tells which
 /// constants are below 0, and `own` the rows that may hold the variable; the bits of those that do not are
-/// cleared. What `terms` holds does not matter; in the end it has the terms of row i, where that is whole.
+/// cleared, and a row without a bit stays as it was. What `terms` holds does not matter; in the end it has the terms of row i, where that is whole.
 pub(crate) fn pivot_mixed(
     alloc: Global,
     columns: u32,
@@ -460,6 +465,7 @@ pub(crate) fn pivot_mixed(
     ensures sound { IfOk result (λ _. AreMixedRows columns rows.new) }
     ensures below { IfOk result (λ _. below.new ≡ below_of (mixed_rows rows.new)) }
     ensures holder { IsHolder own.new (mixed_rows rows.old) j }
+    ensures untouched { IfOk result (λ _. (q : ℕ) (r : MixedRow) → bit own.new q ≡ 0 → get_or rows.new q r ≡ get_or rows.old q r) }
     ensures terms { IfOk result (λ _. (r : MixedRow) → AreTermsOfRow (get_or rows.new i r) terms.new) }
 {
     let solved = match solved_mixed(alloc, columns, &rows[i as usize], i, j) {

@@ -13,8 +13,8 @@ ghost use Rattle.tetri_simplex.specs.Turns.{turn_of, HasPlaces, LeavesWithin, Go
 use crate::dictionary::Dictionary;
 use crate::ends::{best_end, cut_end, empty_end};
 use crate::fault::PivotFault;
+use crate::mirrored::Mirrored;
 use crate::outcome::Outcome;
-use crate::whole::Whole;
 use std::alloc::{AllocError, Global};
 use tetri_ip::{Program, Region};
 use tetri_num::Place;
@@ -205,17 +205,18 @@ pub fn dual_run_over(
     ensures ends { IfOk result (λ o. end_of o ≡ machine p.now (bounds_of r.now) best) }
     ensures certified { IfOk result (λ o. Certifies p.now (bounds_of r.now) best (end_of o)) }
 {
-    run_over::<Whole>(alloc, p, r, factors, best)
+    run_over::<Mirrored>(alloc, p, r, factors, best)
 }
 
 /// Runs the dual simplex method over the program's region, with the best objective known, and
 /// says how it ends: the least variable leaves and enters, and at most 10,000 pivots are made.
-/// Its dictionaries have rows of whole numbers where these are short. The end's weights certify what it says of the region ([`ends_certify`](crate::ends_certify)).
+/// Its dictionaries have rows of whole numbers where these are short, and one row for the two variables of a column while all are.
+/// The end's weights certify what it says of the region ([`ends_certify`](crate::ends_certify)).
 pub fn dual_run(alloc: Global, p: &Program, r: &Region, best: u64) -> Result<Outcome, AllocError>
     requires fit { IsFit p.now }
     requires in_box { IsInBox p.now (bounds_of r.now) }
     ensures ends { IfOk result (λ o. end_of o ≡ machine p.now (bounds_of r.now) best) }
     ensures certified { IfOk result (λ o. Certifies p.now (bounds_of r.now) best (end_of o)) }
 {
-    run_on::<Whole>(alloc, p, r, best)
+    run_on::<Mirrored>(alloc, p, r, best)
 }

@@ -17,7 +17,7 @@ fn is_one(x: Frac) -> bool
 }
 
 #[inline(always)]
-fn is_minus_one(x: Frac) -> bool
+pub(crate) fn is_minus_one(x: Frac) -> bool
     ensures { IsTrue result → value x ≡ neg_ℚ one_ℚ }
 {
     x.num == -1 && x.den == 1

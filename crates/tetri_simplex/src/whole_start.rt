@@ -88,8 +88,12 @@ fn row_of_line(alloc: Global, columns: u32, line: &Line) -> Result<MixedRow, All
     Ok(MixedRow::Fractions(numbers))
 }
 
-// The rows of lines.
-fn rows_of_lines(alloc: Global, columns: u32, lines: &[Line]) -> Result<Vec<MixedRow>, AllocError>
+/// The rows of lines.
+pub(crate) fn rows_of_lines(
+    alloc: Global,
+    columns: u32,
+    lines: &[Line],
+) -> Result<Vec<MixedRow>, AllocError>
     requires { AreLines columns lines.now }
     ensures numbers { IfOk result (λ v. mixed_rows v.items ≡ lines_of columns lines.now) }
     ensures sound { IfOk result (λ v. AreMixedRows columns v.items) }

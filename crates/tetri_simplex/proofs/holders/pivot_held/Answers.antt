@@ -2,8 +2,10 @@ use Rattle.std.proofs.Common.{◌≡◌, ◌<◌, ℕ, List, length, get_or, ap,
 use Rattle.std.specs.Global.{Vec}
 use Rattle.std.specs.Prelude.{All}
 use Rattle.std.specs.Vec.{with_items}
-use Rattle.tetri_simplex.specs.Holders.{bit}
+use Rattle.tetri_simplex.specs.Holders.{bit, IsHolder}
+use Rattle.tetri_simplex.specs.Mixed.{mixed_rows}
 use Rattle.tetri_simplex.proofs.FullTables.{items_are}
+use Rattle.tetri_simplex.proofs.HolderBits.{words_same}
 use Rattle.tetri_simplex.proofs.HolderPivots.{held_after}
 use Rattle.tetri_simplex.proofs.MixedPivots.{own_read}
 use Rattle.tetri_simplex.proofs.holders.pivot_held.Goals as goal
@@ -24,3 +26,19 @@ returns-in-Ok-clause-holders c =
     c.pivot_mixed.ensures.holder c.pivot_mixed.auto.rows (own_read c.pivot_mixed.new.rows c.args.i c.index-rows-i.result i) ve wide c.spread.auto.holders
     (subst (λ (us : List ℕ). All (λ (u : Vec ℕ). length u.items ≡ length us) c.spread.new.holders) read c.spread.ensures.words) c.spread.ensures.before
     (λ p q m b. ⊎_elim (λ z. inl z) (λ z. inr (subst (λ (us : List ℕ). bit us q ≡ 0) read z)) (c.spread.ensures.own p q m b))
+
+pub returns-in-Ok-clause-holder : goal.returns-in-Ok-clause-holder
+returns-in-Ok-clause-holder c =
+    let own = c.pivot_mixed.new.own in
+    let v = with_items c.in_ok-own.own own in
+    let ve : v.items ≡ own = items_are c.in_ok-own.own own (c.pivot_mixed.auto.own ∙ ap length c.deref_mut.ensures.value) in
+    let l : c.args.j < length c.spread.new.holders = subst (λ z. c.args.j < z) (sym (c.spread.auto.holders ∙ c.requires.holders.columns)) c.requires.place in
+    subst (λ (us : List ℕ). IsHolder us (mixed_rows c.args.rows.now) c.args.j) (sym (words_same c.spread.new.holders c.args.j v l ∙ ve)) c.pivot_mixed.ensures.holder
+
+pub returns-in-Ok-clause-untouched : goal.returns-in-Ok-clause-untouched
+returns-in-Ok-clause-untouched c =
+    let own = c.pivot_mixed.new.own in
+    let v = with_items c.in_ok-own.own own in
+    let ve : v.items ≡ own = items_are c.in_ok-own.own own (c.pivot_mixed.auto.own ∙ ap length c.deref_mut.ensures.value) in
+    let l : c.args.j < length c.spread.new.holders = subst (λ z. c.args.j < z) (sym (c.spread.auto.holders ∙ c.requires.holders.columns)) c.requires.place in
+    λ q r b. c.in-Ok.ensures.untouched q r (subst (λ (us : List ℕ). bit us q ≡ 0) (words_same c.spread.new.holders c.args.j v l ∙ ve) b)

@@ -42,7 +42,7 @@ loop-p-preserved c =
         before = λ p q b. c.loop-p.invariant.before p q (subst (λ (us : List (Vec ℕ)). bit (words_at us p) q ≡ 0) w.holders-is b);
         own = λ p q m b.
             ⊎_elim
-            (λ e. inl (ap (λ z. get_or row z zero_ℚ) (ap suc e ∙ sym s) ∙ c.is_zero_at.ensures w.if-not-is_zero_at.false))
+            (λ e. inl (ap (λ z. get_or row z zero_ℚ) (ap suc e ∙ sym s) ∙ c.is_zero_at.ensures.0 w.if-not-is_zero_at.false))
             (λ d. c.loop-p.invariant.own p q (before_last k p m d) (subst (λ (us : List (Vec ℕ)). bit (words_at us p) q ≡ 0) w.holders-is b))
             (cases_eq p k);
       }

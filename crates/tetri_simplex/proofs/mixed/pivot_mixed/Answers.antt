@@ -1,5 +1,6 @@
 use Rattle.std.proofs.Common.{get_or, refl}
 use Rattle.tetri_simplex.proofs.BelowRows.{below_set}
+use Rattle.tetri_simplex.proofs.HolderRows.{pivot_untouched}
 use Rattle.tetri_simplex.proofs.MixedPivots.{own_read, mixed_fault, mixed_pivoted, mixed_unsolved}
 use Rattle.tetri_simplex.proofs.mixed.pivot_mixed.Goals as goal
 
@@ -17,3 +18,7 @@ returns-in-Err-replace_mixed-clause-formed c =
 pub returns-in-Ok-replace_mixed-clause-below : goal.returns-in-Ok-replace_mixed-clause-below
 returns-in-Ok-replace_mixed-clause-below c =
     below_set c.replace_mixed.new.below _ c.replace_mixed.new.rows _ c.args.i c.is_negative_at.result c.in-Ok.solved c.in-Ok-replace_mixed.ensures.below refl refl c.is_negative_at.ensures
+
+pub returns-in-Ok-replace_mixed-clause-untouched : goal.returns-in-Ok-replace_mixed-clause-untouched
+returns-in-Ok-replace_mixed-clause-untouched c =
+    pivot_untouched c.replace_mixed.new.rows c.args.rows.now _ c.replace_mixed.new.own c.args.i c.args.j c.in-Ok.solved refl c.in-Ok-replace_mixed.ensures.holder c.requires.pivot c.in-Ok-replace_mixed.ensures.untouched

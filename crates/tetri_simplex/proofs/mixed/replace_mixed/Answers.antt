@@ -1,10 +1,11 @@
 use Rattle.std.proofs.Common.{◌≡◌, ◌+◌, ◌<◌, ◌≤◌, ℕ, List, length, get_or, sym, ap, subst, ◌∙◌, arith}
+use Rattle.std.proofs.lemmas.Bool.{false≢true}
 use Rattle.tetri_simplex.specs.declared.mixed.MixedRow.{MixedRow}
 use Rattle.tetri_simplex.specs.Pivots.{next_row}
 use Rattle.tetri_simplex.specs.Mixed.{mixed_row, mixed_rows, AreMixedRows}
 use Rattle.tetri_simplex.specs.Below.{below_of}
 use Rattle.tetri_simplex.specs.Holders.{bit, IsHolder}
-use Rattle.tetri_simplex.proofs.HolderRows.{later_there, narrowed, pass, passed, read_zero, same_there, still_there, there_zero}
+use Rattle.tetri_simplex.proofs.HolderRows.{cleared_untouched, has_bit, later_replaced, later_same, later_there, narrowed, pass, passed, read_zero, replaced_untouched, same_there, still_there, there_zero}
 use Rattle.tetri_simplex.proofs.MixedPivots.{fault_along, mixed_done, mixed_next, mixed_own, mixed_stop, own_read}
 use Rattle.tetri_simplex.proofs.TableRows.{rest_of}
 use Rattle.tetri_simplex.proofs.mixed.replace_mixed.Goals as goal
@@ -46,12 +47,15 @@ loop-preserved c =
     let before = passed n i j c.args.solved.now rows first c.loop.own c.loop.from k c.loop.invariant.sound c.requires.solved c.next_set-k.ensures.least c.loop.invariant.holder c.loop.invariant.there c.next_set-k.ensures.between ∙ c.loop.invariant.formed in
     elim c.if-is_zero_at.branch [
       | then-is_zero_at w ↦
-          let z = read_zero rows k j (get_or rows k c.index-rows-k.result) h (own_read rows k c.index-rows-k.result h) (c.is_zero_at.ensures w.if-is_zero_at.true) in
+          let z = read_zero rows k j (get_or rows k c.index-rows-k.result) h (own_read rows k c.index-rows-k.result h) (c.is_zero_at.ensures.0 w.if-is_zero_at.true) in
           record {
             formed = ap (λ (us : List MixedRow). rest_of (next_row n i j s) i s (mixed_rows us) (k + 1)) w.rows-is ∙ pass n i j c.args.solved.now rows k c.loop.invariant.sound c.requires.solved z ∙ before;
             sound = subst (λ (us : List MixedRow). AreMixedRows n us) (sym w.rows-is) c.loop.invariant.sound;
             below = w.below-is ∙ c.loop.invariant.below ∙ ap (λ (us : List MixedRow). below_of (mixed_rows us)) (sym w.rows-is);
             holder = narrowed c.loop.own c.if-is_zero_at.own (mixed_rows first) j k (there_zero rows first k j (there k (omega arith)) z) (λ q d b. w.clear_bit.ensures q d (subst (λ (ws : List ℕ). bit ws q ≡ 0) w.own-is b)) c.loop.invariant.holder;
+            untouched = cleared_untouched rows first after c.loop.own c.if-is_zero_at.own c.loop.from k c.next_set-k.ensures.least w.rows-is
+                (λ q d b. w.clear_bit.ensures q d (subst (λ (ws : List ℕ). bit ws q ≡ 0) w.own-is b)) c.loop.invariant.untouched c.loop.invariant.later;
+            later = later_same rows first after c.loop.from k c.next_set-k.ensures.least w.rows-is c.loop.invariant.later;
             there = same_there rows first after k w.rows-is there;
             least = least;
             most = most;
@@ -61,6 +65,8 @@ loop-preserved c =
         sound = subst (λ (us : List MixedRow). AreMixedRows n us) (sym w.rows-is) w.in-Ok.ensures.sound;
         below = w.below-is ∙ w.in-Ok.ensures.below ∙ ap (λ (us : List MixedRow). below_of (mixed_rows us)) (sym w.rows-is);
         holder = subst (λ (ws : List ℕ). IsHolder ws (mixed_rows first) j) (sym w.own-is) c.loop.invariant.holder;
+        untouched = replaced_untouched rows first after c.loop.own c.if-is_zero_at.own k w.in-Ok.ensures.formed.row (w.rows-is ∙ w.in-Ok.ensures.formed.rows) w.own-is (has_bit c.loop.own rows first k j (get_or rows k c.index-rows-k.result) h (own_read rows k c.index-rows-k.result h) (there k (omega arith)) c.loop.invariant.holder (λ z. false≢true (sym w.if-is_zero_at.false ∙ c.is_zero_at.ensures.1 z))) c.loop.invariant.untouched;
+        later = later_replaced rows first after c.loop.from k c.next_set-k.ensures.least w.in-Ok.ensures.formed.row (w.rows-is ∙ w.in-Ok.ensures.formed.rows) c.loop.invariant.later;
         there = still_there rows first after k w.in-Ok.ensures.formed.row (w.rows-is ∙ w.in-Ok.ensures.formed.rows) there;
         least = least;
         most = most;
@@ -70,6 +76,8 @@ loop-preserved c =
         sound = subst (λ (us : List MixedRow). AreMixedRows n us) (sym w.rows-is) c.loop.invariant.sound;
         below = w.below-is ∙ c.loop.invariant.below ∙ ap (λ (us : List MixedRow). below_of (mixed_rows us)) (sym w.rows-is);
         holder = subst (λ (ws : List ℕ). IsHolder ws (mixed_rows first) j) (sym w.own-is) c.loop.invariant.holder;
+        untouched = λ q r b. ap (λ (us : List MixedRow). get_or us q r) w.rows-is ∙ c.loop.invariant.untouched q r (subst (λ (ws : List ℕ). bit ws q ≡ 0) w.own-is b);
+        later = later_same rows first after c.loop.from k c.next_set-k.ensures.least w.rows-is c.loop.invariant.later;
         there = same_there rows first after k w.rows-is there;
         least = least;
         most = most;

@@ -1,6 +1,7 @@
 use Rattle.std.proofs.Common.{◌≡◌, ◌≤◌, ℕ, [], length, get_or}
 use Rattle.tetri_simplex.specs.Below.{below_of}
-use Rattle.tetri_simplex.specs.Holders.{IsHolder}
+use Rattle.tetri_simplex.specs.declared.mixed.MixedRow.{MixedRow}
+use Rattle.tetri_simplex.specs.Holders.{bit, IsHolder}
 use Rattle.tetri_simplex.specs.Mixed.{mixed_row, mixed_rows, AreMixedRows}
 use Rattle.tetri_simplex.specs.Pivots.{next_row}
 use Rattle.tetri_simplex.specs.Steps.{each}
@@ -13,6 +14,8 @@ invariant-loop l = record {
   sound : AreMixedRows l.columns l.rows;
   below : l.below ≡ below_of (mixed_rows l.rows);
   holder : IsHolder l.own (mixed_rows l.fn.rows) l.j;
+  untouched : (q : ℕ) (r : MixedRow) → bit l.own q ≡ 0 → get_or l.rows q r ≡ get_or l.fn.rows q r;
+  later : (q : ℕ) (r : MixedRow) → l.from ≤ q → get_or l.rows q r ≡ get_or l.fn.rows q r;
   there : (q : ℕ) → l.from ≤ q → get_or (mixed_rows l.rows) q [] ≡ get_or (mixed_rows l.fn.rows) q [];
   least : l.counter ≤ l.from;
   most : l.from ≤ length l.rows;

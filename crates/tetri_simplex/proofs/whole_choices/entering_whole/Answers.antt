@@ -1,32 +1,23 @@
-use Rattle.std.proofs.Common.{◌≡◌, ◌+◌, get_or, Ok, sym, ap, ◌∙◌}
-use lib.IntN.{pos}
-use Rattle.tetri_num.specs.Frac.{value}
-use Rattle.tetri_num.proofs.FractionLaws.{at_four}
-use Rattle.tetri_rows.specs.Rows.{minus_ratio}
+use Rattle.std.proofs.Common.{List, false, None, Ok, IfSome, ap, sym, subst, ◌≡◌, ◌∙◌}
+use lib.IntN.{ℤ}
+use Rattle.tetri_num.proofs.FractionLaws.{at_side}
+use Rattle.tetri_rows.specs.Rows.{meaning}
 use Rattle.tetri_rows.proofs.RowLaws.{short_word}
-use Rattle.tetri_simplex.specs.WholeRatios.{ratio_at, ratio_candidate}
-use Rattle.tetri_simplex.proofs.WholeEntering.{above_in_other, chosen, whole_candidate}
+use Rattle.tetri_simplex.specs.Candidates.{candidate_of, IsCandidate}
+use Rattle.tetri_simplex.specs.Choices.{entering_from}
+use Rattle.tetri_simplex.specs.SignedNumbers.{signed_numbers}
+use Rattle.tetri_simplex.specs.Tables.{coefficients_of}
+use Rattle.tetri_simplex.proofs.SignedNumbers.{signed_same}
 use Rattle.tetri_simplex.proofs.whole_choices.entering_whole.Goals as goal
-
-pub returns-in_default-clause-formed : goal.returns-in_default-clause-formed
-returns-in_default-clause-formed c =
-    λ i. c.least_whole.ensures.formed c.args.den c.args.objective_den i c.requires.row.over c.requires.objective.over
-    ∙ ap (λ o. Ok (ratio_candidate c.args.den c.args.objective_den c.args.numbers.now c.args.objective.now o)) c.in_default.is
 
 pub returns-clause-formed : goal.returns-clause-formed
 returns-clause-formed c =
-    let ns = c.args.numbers.now in
     let os = c.args.objective.now in
-    let p = c.in-Some.place in
-    let l = c.in-Some.ensures.above.within in
-    let m = above_in_other ns os p (c.requires.objective.wide ∙ sym c.requires.row.wide) c.in-Some.ensures.above in
-    let e : value c.minus_ratio-ratio.result ≡ ratio_at c.args.den c.args.objective_den ns os p =
-    c.minus_ratio-ratio.ensures
-    ∙ at_four minus_ratio c.args.den c.args.objective_den (get_or os (p + 1) (pos 0)) (get_or ns (p + 1) (pos 0)) _ _ _ _
-    (short_word _ c.requires.row.over.short) (short_word _ c.requires.objective.over.short) (short_word _ (c.requires.objective.short (p + 1) (pos 0) m)) (short_word _ (c.requires.row.short (p + 1) (pos 0) l)) in
-    λ i. c.least_whole.ensures.formed c.args.den c.args.objective_den i c.requires.row.over c.requires.objective.over
-    ∙ ap (λ o. Ok (ratio_candidate c.args.den c.args.objective_den ns os o)) c.in-Some.is
-    ∙ ap Ok (chosen c.args.den c.args.objective_den ns os p (value c.minus_ratio-ratio.result) e)
+    λ i. ap (λ (ns : List ℤ). entering_from c.args.nonbasic.now i 0 (coefficients_of (meaning c.args.den ns)) (coefficients_of (meaning c.args.objective_den os)) None) (sym (signed_same c.args.numbers.now))
+    ∙ at_side (λ d e. entering_from c.args.nonbasic.now i 0 (coefficients_of (meaning d (signed_numbers false c.args.numbers.now))) (coefficients_of (meaning e os)) None ≡ Ok (candidate_of c.entering_signed.result)) _ _ _ _
+    (sym (short_word c.args.den c.requires.row.over.short)) (sym (short_word c.args.objective_den c.requires.objective.over.short)) (c.entering_signed.ensures.formed i)
 
 pub returns-clause-positive : goal.returns-clause-positive
-returns-clause-positive c = whole_candidate c.args.nonbasic.now c.args.den c.args.numbers.now _ c.requires.row.over c.requires.row.wide c.in-Some.ensures.above
+returns-clause-positive c =
+    subst (λ (ns : List ℤ). IfSome c.entering_signed.result (λ b. IsCandidate c.args.nonbasic.now (meaning c.args.den ns) b)) (signed_same c.args.numbers.now)
+    (subst (λ (d : ℤ). IfSome c.entering_signed.result (λ b. IsCandidate c.args.nonbasic.now (meaning d (signed_numbers false c.args.numbers.now)) b)) (short_word c.args.den c.requires.row.over.short) c.entering_signed.ensures.positive)
