@@ -1,9 +1,9 @@
 //! Times the dual run.
 //!
-//! `tetri_simplex_bench full|sparse|whole SIDE KINDS` runs the program of a square of columns, with
-//! limits for each row and each column of the square, over full tables, over rows of entries or over
-//! rows of whole numbers. `tetri_simplex_bench full|sparse|whole FILE` runs the program of a file of
-//! numbers (`read::program`). It writes the multiplier and the sum of the weights of the best point to
+//! `tetri_simplex_bench full|sparse|whole|mirrored SIDE KINDS` runs the program of a square of columns,
+//! with limits for each row and each column of the square, over full tables, over rows of entries, over
+//! rows of whole numbers, or over one such row for the two variables of a column. `tetri_simplex_bench
+//! full|sparse|whole|mirrored FILE` runs the program of a file of numbers (`read::program`). It writes the multiplier and the sum of the weights of the best point to
 //! standard output, and the nanoseconds of the run to standard error. Without arguments it runs three small
 //! squares in each way, and no time is written: one with short numbers; one in which the objective's numbers,
 //! over their least common denominator, are no longer short in the middle of the run and short again at its end; and one in which they stay long.
@@ -21,7 +21,7 @@ use std::alloc::Global;
 use std::time::CpuClock;
 use std::{env, fs, io};
 use tetri_ip::{Program, Region, Weight};
-use tetri_simplex::{Full, Outcome, Sparse, Whole, run_on};
+use tetri_simplex::{Full, Mirrored, Outcome, Sparse, Whole, run_on};
 
 // The dictionaries of a run.
 #[derive(Clone, Copy)]
@@ -29,12 +29,14 @@ enum Kind {
     Full,
     Sparse,
     Whole,
+    Mirrored,
 }
 
 fn kind_of(word: &str) -> Kind {
     match word {
         "sparse" => Kind::Sparse,
         "whole" => Kind::Whole,
+        "mirrored" => Kind::Mirrored,
         _ => Kind::Full,
     }
 }
@@ -73,7 +75,7 @@ fn main(rt: HostRuntime) -> io::Result<()> {
         measure(&rt, alloc, &p, kind, true)
     } else {
         eprintln!(rt;
-            "usage: tetri_simplex_bench full|sparse|whole SIDE KINDS, or full|sparse|whole FILE"
+            "usage: tetri_simplex_bench full|sparse|whole|mirrored SIDE KINDS, or full|sparse|whole|mirrored FILE"
         )
     }
 }
@@ -93,7 +95,8 @@ fn run_each(
     let p = square(alloc, side, kinds)?;
     measure(rt, alloc, &p, Kind::Full, false)?;
     measure(rt, alloc, &p, Kind::Sparse, false)?;
-    measure(rt, alloc, &p, Kind::Whole, false)
+    measure(rt, alloc, &p, Kind::Whole, false)?;
+    measure(rt, alloc, &p, Kind::Mirrored, false)
 }
 
 fn sum(weights: &[Weight]) -> i128 {
@@ -133,6 +136,7 @@ fn measure(
         Kind::Full => run_on::<Full>(alloc, p, &whole, 0)?,
         Kind::Sparse => run_on::<Sparse>(alloc, p, &whole, 0)?,
         Kind::Whole => run_on::<Whole>(alloc, p, &whole, 0)?,
+        Kind::Mirrored => run_on::<Mirrored>(alloc, p, &whole, 0)?,
     };
     let end = rt.thread_cpu_time()?;
     tell(rt, outcome)?;

@@ -10,7 +10,7 @@ use tetri_cert::{Mark, TreeFault, Walk, bound, objective_at, read_mark};
 use tetri_compile::{Compiled, Taken, compile, counts_of, size};
 use tetri_ip::{Program, Region, Row, Weight, holds_point};
 use tetri_num::{Frac, Past, Place};
-use tetri_simplex::{Full, Outcome, Sparse, dual_run, run_on};
+use tetri_simplex::{Full, Outcome, Sparse, Whole, dual_run, run_on};
 use tetri_space::{Instance, Partitions, find_partitions};
 use tetri_strl::Allotment;
 use tetri_tables::{add_debug, debug_text, grants_told};
@@ -121,7 +121,15 @@ fn run_on_sparse(alloc: Global, p: &Program, r: &Region, best: u64) -> Result<St
     outcome_told(alloc, &outcome)
 }
 
-/// How a dual run over a region ends, whatever holds its dictionaries: the three runs where they differ.
+fn run_on_whole(alloc: Global, p: &Program, r: &Region, best: u64) -> Result<String, AllocError>
+    requires fit { IsFit p.now }
+    requires in_box { IsInBox p.now (bounds_of r.now) }
+{
+    let outcome = run_on::<Whole>(alloc, p, r, best)?;
+    outcome_told(alloc, &outcome)
+}
+
+/// How a dual run over a region ends, whatever holds its dictionaries: the four runs where they differ.
 pub fn run_told(alloc: Global, p: &Program, r: &Region, best: u64) -> Result<String, AllocError>
     requires fit { IsFit p.now }
     requires in_box { IsInBox p.now (bounds_of r.now) }
@@ -129,10 +137,12 @@ pub fn run_told(alloc: Global, p: &Program, r: &Region, best: u64) -> Result<Str
     let run = run_of_itself(alloc, p, r, best)?;
     let full = run_on_full(alloc, p, r, best)?;
     let sparse = run_on_sparse(alloc, p, r, best)?;
-    if run.as_str() == full.as_str() && run.as_str() == sparse.as_str() {
+    let whole = run_on_whole(alloc, p, r, best)?;
+    let same = run.as_str() == full.as_str() && run.as_str() == sparse.as_str();
+    if same && run.as_str() == whole.as_str() {
         return Ok(run);
     }
-    format!(in alloc; "{run}, full {full}, sparse {sparse}")
+    format!(in alloc; "{run}, full {full}, sparse {sparse}, whole {whole}")
 }
 
 fn add_row(out: &mut String, row: &Row) -> Result<(), AllocError> {
