@@ -1,8 +1,7 @@
 // The command line.
 use clap::{Arg, ArgMatches, Command, Error, value_parser};
 use std::alloc::{AllocError, Global};
-use tetri_logs::{Format, seconds_in};
-use tetri_placing::{Options, Worth};
+use tetri_logs::{Format, Options, Worth, seconds_in};
 use tetri_request::Class;
 
 /// What is asked for: a log with its format, and how it becomes a trace.

@@ -1,5 +1,5 @@
 // What a section asks for.
-use tetri_placing::{Options, Worth};
+use tetri_logs::{Options, Worth};
 use tetri_request::Class;
 
 /// What is asked for where nothing is said.

@@ -7,3 +7,7 @@ pub mod Times
 pub mod Swf
 pub mod Sacct
 pub mod Entry
+pub mod Reading
+pub mod Options
+pub mod Scale
+pub mod Placing

@@ -4,7 +4,7 @@ ghost use Rattle.tetri_logs.specs.Entry.{entry_of, sacct_entry, swf_entry, with_
 ghost use Rattle.tetri_logs.specs.Swf.{word_at};
 
 use crate::account::Account;
-use crate::facts::{Fact, fact_in};
+use crate::comments::{Fact, fact_in};
 use crate::sacct::{is_header, sacct_account, without_return};
 use crate::swf::{is_comment, swf_account};
 use crate::words::words_of;

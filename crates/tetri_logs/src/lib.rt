@@ -1,19 +1,26 @@
-//! A line of an accounting log as a job, a comment, or the cause why it is left out: the Standard Workload Format, and what `sacct`
-//! prints with `--parsable2`.
+//! An accounting log, line by line and whole: a line as a job, a comment, or the cause why it is left out, in the Standard Workload
+//! Format or as `sacct` prints it with `--parsable2`; and the place of each job in a trace: its slots, its nodes and its ask.
 #![tactic(auto)]
 
 mod account;
 mod calendar;
+mod comments;
 mod entry;
-mod facts;
 mod lines;
+mod options;
+mod placing;
+mod reading;
 mod sacct;
+mod scale;
 mod swf;
 mod times;
 mod words;
 
 pub use account::Account;
+pub use comments::Fact;
 pub use entry::{Cause, Entry, Format, LoggedJob, read_entry};
-pub use facts::Fact;
 pub use lines::log_lines;
+pub use options::{OptionFault, Options, Settings, Worth, settings_of};
+pub use placing::{Placing, place};
+pub use reading::{Facts, Log, first_submit, read_log};
 pub use times::seconds_in;

@@ -6,10 +6,10 @@ use Rattle.std.proofs.lemmas.List.Sorted.{length_permutation}
 use Rattle.tetri_base.specs.Lists.{count}
 use Rattle.tetri_logs.specs.declared.entry.Entry.{Entry}
 use Rattle.tetri_logs.specs.declared.entry.LoggedJob.{LoggedJob}
-use Rattle.tetri_placing.specs.Options.{settings_of}
-use Rattle.tetri_placing.specs.Reading.{facts_in, first_submit, is_comment, jobs_in, left_in, no_facts}
-use Rattle.tetri_placing.specs.declared.options.Options.{Options}
-use Rattle.tetri_placing.specs.declared.options.Settings.{Settings}
+use Rattle.tetri_logs.specs.Options.{settings_of}
+use Rattle.tetri_logs.specs.Reading.{facts_in, first_submit, is_comment, jobs_in, left_in, no_facts}
+use Rattle.tetri_logs.specs.declared.options.Options.{Options}
+use Rattle.tetri_logs.specs.declared.options.Settings.{Settings}
 use Rattle.tetri_trace.specs.Scenario.{submission}
 use Rattle.tetri_trace.specs.declared.trace.Event.{Event}
 use Rattle.tetri_workload.specs.Import.{IsImportOf}

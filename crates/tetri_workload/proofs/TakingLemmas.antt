@@ -6,9 +6,9 @@ use Rattle.tetri_cluster.specs.Names.{is_among}
 use Rattle.tetri_logs.specs.declared.entry.Cause.{Cause}
 use Rattle.tetri_logs.specs.declared.entry.Cause.TheVariants.{Outside, Repeated, Beyond}
 use Rattle.tetri_logs.specs.declared.entry.LoggedJob.{LoggedJob}
-use Rattle.tetri_placing.specs.Placing.{place}
-use Rattle.tetri_placing.specs.declared.options.Settings.{Settings}
-use Rattle.tetri_placing.specs.declared.placing.Placing.{Placing}
+use Rattle.tetri_logs.specs.Placing.{place}
+use Rattle.tetri_logs.specs.declared.options.Settings.{Settings}
+use Rattle.tetri_logs.specs.declared.placing.Placing.{Placing}
 use Rattle.tetri_trace.specs.Scenario.{job_names}
 use Rattle.tetri_workload.specs.Saying.{IsAsked}
 use Rattle.tetri_workload.specs.Taking.{Tally, left_out, nothing_taken, submitted, taken, taken_all, with_logged, with_placed}

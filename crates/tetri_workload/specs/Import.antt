@@ -6,9 +6,9 @@ use Rattle.tetri_logs.specs.declared.entry.Format.{Format}
 use Rattle.tetri_logs.specs.declared.entry.LoggedJob.{LoggedJob}
 use Rattle.tetri_trace.specs.Lines.{scenario_in}
 use Rattle.tetri_trace.specs.Scenario.{Scenario}
-use Rattle.tetri_placing.specs.Options.{settings_of}
+use Rattle.tetri_logs.specs.Options.{settings_of}
 use Rattle.tetri_workload.specs.Ordering.{IsOrderBy}
-use Rattle.tetri_placing.specs.Reading.{entries, facts_in, first_submit, is_comment, jobs_in, left_in, no_facts}
+use Rattle.tetri_logs.specs.Reading.{entries, facts_in, first_submit, is_comment, jobs_in, left_in, no_facts}
 use Rattle.tetri_trace.specs.declared.trace.Event.{Event}
 use Rattle.tetri_workload.specs.Saying.{IsReadAs, header_of}
 use Rattle.tetri_workload.specs.Taking.{Tally, taken_all}
@@ -16,8 +16,8 @@ use Rattle.tetri_workload.specs.Text.{text_of}
 use Rattle.tetri_workload.specs.declared.importing.Imported.{Imported}
 use Rattle.tetri_workload.specs.declared.importing.ImportFault.{ImportFault}
 use Rattle.tetri_workload.specs.declared.importing.ImportFault.TheVariants as faults
-use Rattle.tetri_placing.specs.declared.options.Options.{Options}
-use Rattle.tetri_placing.specs.declared.options.Settings.{Settings}
+use Rattle.tetri_logs.specs.declared.options.Options.{Options}
+use Rattle.tetri_logs.specs.declared.options.Settings.{Settings}
 
 -- what is taken of a log's jobs in this order, with its events in this one
 abbrev pub in_turn : Settings → List LoggedJob → List Event → Tally

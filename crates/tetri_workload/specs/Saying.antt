@@ -5,7 +5,7 @@ use Rattle.tetri_trace.specs.Lines.{scenario_in}
 use Rattle.tetri_trace.specs.Scenario.{Scenario}
 use Rattle.tetri_notice.specs.declared.header.Header.{Header}
 use Rattle.tetri_workload.specs.Taking.{Tally}
-use Rattle.tetri_placing.specs.declared.options.Settings.{Settings}
+use Rattle.tetri_logs.specs.declared.options.Settings.{Settings}
 
 -- the limits of a run of so many slots
 abbrev pub header_of : Settings → ℕ → Header

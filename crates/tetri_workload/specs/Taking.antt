@@ -7,9 +7,9 @@ use Rattle.tetri_logs.specs.declared.entry.LoggedJob.{LoggedJob}
 use Rattle.tetri_trace.specs.Scenario.{Submission, asks, job_names, submission}
 use Rattle.tetri_trace.specs.declared.trace.Event.{Event}
 use Rattle.tetri_trace.specs.declared.trace.Happening.TheVariants.{Arrive, Cancel}
-use Rattle.tetri_placing.specs.Placing.{place}
-use Rattle.tetri_placing.specs.declared.options.Settings.{Settings}
-use Rattle.tetri_placing.specs.declared.placing.Placing.{Placing}
+use Rattle.tetri_logs.specs.Placing.{place}
+use Rattle.tetri_logs.specs.declared.options.Settings.{Settings}
+use Rattle.tetri_logs.specs.declared.placing.Placing.{Placing}
 use Rattle.tetri_workload.specs.declared.taking.Taken.{Taken}
 
 -- the jobs that are taken, in order of submission, with what happens to each, why others are left out, and how many slots a run has

@@ -2,8 +2,8 @@
 use Rattle.std.specs.Prelude.{ℕ, ◌==◌, Bool, List, ◌++◌, count_by, codes, decimal}
 use Rattle.tetri_logs.specs.declared.entry.Cause.{Cause}
 use Rattle.tetri_logs.specs.declared.entry.Cause.TheVariants.{Unreadable, Step, NoNodes, TooLarge, Outside, Repeated, Beyond}
-use Rattle.tetri_placing.specs.declared.options.OptionFault.{OptionFault}
-use Rattle.tetri_placing.specs.declared.options.OptionFault.TheVariants.{Slot, Processors, Window, Budget, Unit as UnitRange, Slack, Nodes}
+use Rattle.tetri_logs.specs.declared.options.OptionFault.{OptionFault}
+use Rattle.tetri_logs.specs.declared.options.OptionFault.TheVariants.{Slot, Processors, Window, Budget, Unit as UnitRange, Slack, Nodes}
 use Rattle.tetri_workload.specs.declared.importing.Imported.{Imported}
 use Rattle.tetri_workload.specs.declared.importing.ImportFault.{ImportFault}
 use Rattle.tetri_workload.specs.declared.importing.ImportFault.TheVariants as faults

@@ -10,7 +10,7 @@ use Rattle.tetri_trace.specs.Scenario.{Demand, Submission, asks, strl}
 use Rattle.tetri_trace.specs.declared.trace.Event.{Event}
 use Rattle.tetri_trace.specs.declared.trace.Happening.{Happening}
 use Rattle.tetri_trace.specs.declared.trace.Happening.TheVariants.{Arrive, Cancel, Drain, Undrain, Fail}
-use Rattle.tetri_placing.specs.declared.options.Settings.{Settings}
+use Rattle.tetri_logs.specs.declared.options.Settings.{Settings}
 use Rattle.tetri_workload.specs.Taking.{Tally}
 
 -- a node, named by its number from 1 on

@@ -8,7 +8,7 @@ use crate::shelf::TextShelf;
 use crate::taking::Taken;
 use std::alloc::{AllocError, Global};
 use tetri_cluster::Name;
-use tetri_placing::Settings;
+use tetri_logs::Settings;
 use tetri_request::Ask;
 use tetri_trace::{Event, Header, Job, Trace, TraceFault, Work, read_trace};
 

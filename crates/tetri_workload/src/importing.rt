@@ -1,6 +1,6 @@
 // From a log to a trace.
 ghost use Rattle.std.specs.Prelude.{IfErr, IfOk};
-ghost use Rattle.tetri_placing.specs.Reading.{entries};
+ghost use Rattle.tetri_logs.specs.Reading.{entries};
 ghost use Rattle.tetri_workload.specs.Import.{IsImport, IsRefused};
 
 use crate::confirming::is_read_as;
@@ -8,8 +8,7 @@ use crate::ordering::{by_slot, by_submission};
 use crate::taking::take_all;
 use crate::text::trace_text;
 use std::alloc::{AllocError, Global};
-use tetri_logs::{Cause, Format};
-use tetri_placing::{OptionFault, Options, first_submit, read_log, settings_of};
+use tetri_logs::{Cause, Format, OptionFault, Options, first_submit, read_log, settings_of};
 
 /// Why a log is not imported.
 #[derive(Clone, Copy, Debug, PartialEq, Eq)]

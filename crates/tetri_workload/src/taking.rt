@@ -2,14 +2,13 @@
 ghost use Rattle.std.specs.Prelude.{◌≡◌, ◌<◌, IfOk, OnOk, false, length, map};
 ghost use Rattle.tetri_trace.specs.Scenario.{job_names, submission};
 ghost use Rattle.tetri_cluster.specs.Names.{is_among};
-ghost use Rattle.tetri_placing.specs.Options.{AreGood};
-ghost use Rattle.tetri_placing.specs.Placing.{IsPlaced};
+ghost use Rattle.tetri_logs.specs.Options.{AreGood};
+ghost use Rattle.tetri_logs.specs.Placing.{IsPlaced};
 ghost use Rattle.tetri_workload.specs.Taking.{end_of, left_out, nothing_taken, so_far, taken, taken_all, with_logged};
 
 use std::alloc::{AllocError, Global};
 use tetri_cluster::Name;
-use tetri_logs::{Cause, LoggedJob};
-use tetri_placing::{Placing, Settings, place};
+use tetri_logs::{Cause, LoggedJob, Placing, Settings, place};
 use tetri_trace::{Event, Happening, Job, Jobs, Work};
 
 /// The jobs that are taken, with what happens to each, and why others are not.

@@ -4,8 +4,7 @@ ghost use Rattle.tetri_workload.specs.Telling.{cause_line, cause_word, count_of,
 
 use crate::importing::{ImportFault, Imported};
 use std::alloc::{AllocError, Global};
-use tetri_logs::Cause;
-use tetri_placing::OptionFault;
+use tetri_logs::{Cause, OptionFault};
 
 // Whether two causes are the same.
 fn is_cause(one: Cause, other: Cause) -> bool

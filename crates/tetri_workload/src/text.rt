@@ -1,13 +1,13 @@
 // The text of a trace. What it says is read back before it is handed out.
 ghost use Rattle.std.specs.Prelude.{◌≡◌, ◌≤◌, ◌<◌, ◌++◌, IfOk, OnOk, map, string_bytes};
-ghost use Rattle.tetri_placing.specs.Options.{AreGood};
+ghost use Rattle.tetri_logs.specs.Options.{AreGood};
 ghost use Rattle.tetri_trace.specs.Scenario.{demand_of, submission};
 ghost use Rattle.tetri_workload.specs.Taking.{so_far};
 ghost use Rattle.tetri_workload.specs.Text.{arrival_text, ask_text, cancel_text, class_name, closing_text, demand_text, due_text, event_text, header_text, late_text, limits_text, named_arrival_text, named_cancel_text, named_text, node_text, nodes_text, opening_text, run_text, text_of, wanted_text};
 
 use crate::taking::Taken;
 use std::alloc::{AllocError, Global};
-use tetri_placing::Settings;
+use tetri_logs::Settings;
 use tetri_request::{Ask, Class};
 use tetri_trace::{Event, Happening, Job, Work};
 

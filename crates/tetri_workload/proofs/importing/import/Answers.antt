@@ -1,7 +1,7 @@
 use Rattle.std.proofs.Common.{◌≡◌, ◌+◌, ◌∙◌, ◌++◌, length, ap, sym, subst, arith, rules}
 use Rattle.std.specs.Prelude.{All, Ok, string_bytes}
-use Rattle.tetri_placing.specs.Options.{settings_of}
-use Rattle.tetri_placing.specs.Reading.{entries, facts_in, first_submit, jobs_in, left_in, no_facts}
+use Rattle.tetri_logs.specs.Options.{settings_of}
+use Rattle.tetri_logs.specs.Reading.{entries, facts_in, first_submit, jobs_in, left_in, no_facts}
 use Rattle.tetri_workload.specs.Ordering.{IsOrderBy}
 use Rattle.tetri_workload.specs.Saying.{IsAsked, IsReadAs}
 use Rattle.tetri_workload.specs.Taking.{so_far, taken_all}

@@ -1,11 +1,12 @@
 // The place of a job in a trace.
 ghost use Rattle.std.specs.Prelude.{◌≡◌, ◌≤◌, ◌<◌, ◌^◌, IfOk, IfSome};
-ghost use Rattle.tetri_placing.specs.Options.{AreGood};
-ghost use Rattle.tetri_placing.specs.Placing.{IsPlaced, ask_of, cancel_of, is_outside, late_of, place, within_run, within_slots};
+ghost use Rattle.tetri_logs.specs.Options.{AreGood};
+ghost use Rattle.tetri_logs.specs.Placing.{IsPlaced, ask_of, cancel_of, is_outside, late_of, place, within_run, within_slots};
 
+use crate::account::Account;
+use crate::entry::Cause;
 use crate::options::Settings;
 use crate::scale::{moment_of, nodes_of, slot_of, slots_of, worth_of};
-use tetri_logs::{Account, Cause};
 use tetri_request::Ask;
 
 // The slots that a trace has at most, and the greatest worth.

@@ -6,9 +6,9 @@ use Rattle.tetri_logs.specs.declared.account.Account.{Account}
 use Rattle.tetri_logs.specs.declared.entry.Cause.{Cause}
 use Rattle.tetri_logs.specs.declared.entry.Cause.TheVariants.{TooLarge, Outside, Beyond}
 use Rattle.tetri_request.specs.declared.ask.Ask.{Ask}
-use Rattle.tetri_placing.specs.Scale.{moment_of, nodes_of, slot_of, slots_of, worth_of}
-use Rattle.tetri_placing.specs.declared.options.Settings.{Settings}
-use Rattle.tetri_placing.specs.declared.placing.Placing.{Placing}
+use Rattle.tetri_logs.specs.Scale.{moment_of, nodes_of, slot_of, slots_of, worth_of}
+use Rattle.tetri_logs.specs.declared.options.Settings.{Settings}
+use Rattle.tetri_logs.specs.declared.placing.Placing.{Placing}
 
 -- whether a job is outside the part of the log that is wanted
 abbrev pub is_outside : Settings → ℕ → Bool

@@ -1,9 +1,9 @@
 -- Seconds as slots, and processors as nodes.
 use Rattle.std.specs.Prelude.{ℕ, ◌+◌, ◌-◌, ◌*◌, ◌/◌, max}
 use Rattle.tetri_logs.specs.declared.account.Account.{Account}
-use Rattle.tetri_placing.specs.declared.options.Settings.{Settings}
-use Rattle.tetri_placing.specs.declared.options.Worth.{Worth}
-use Rattle.tetri_placing.specs.declared.options.Worth.TheVariants.{NodeSlots, Job}
+use Rattle.tetri_logs.specs.declared.options.Settings.{Settings}
+use Rattle.tetri_logs.specs.declared.options.Worth.{Worth}
+use Rattle.tetri_logs.specs.declared.options.Worth.TheVariants.{NodeSlots, Job}
 
 -- the second since 1970 at which a job was submitted
 abbrev pub moment_of : Settings → Account → ℕ

@@ -1,10 +1,12 @@
 // What a log says.
 ghost use Rattle.std.specs.Prelude.{◌≡◌, ◌+◌, ◌≤◌, ◌++◌, ◌∷◌, [], IfOk, OnOk, length};
 ghost use Rattle.tetri_base.specs.Lists.{count};
-ghost use Rattle.tetri_placing.specs.Reading.{entries, facts_in, first_submit, is_comment, jobs_in, left_in, no_facts, with_fact};
+ghost use Rattle.tetri_logs.specs.Reading.{entries, facts_in, first_submit, is_comment, jobs_in, left_in, no_facts, with_fact};
 
+use crate::comments::Fact;
+use crate::entry::{Cause, Entry, Format, LoggedJob, read_entry};
+use crate::lines::log_lines;
 use std::alloc::{AllocError, Global};
-use tetri_logs::{Cause, Entry, Fact, Format, LoggedJob, log_lines, read_entry};
 
 /// What the comments of a log say.
 #[derive(Clone, Copy, Debug, PartialEq, Eq)]

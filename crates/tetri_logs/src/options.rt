@@ -1,6 +1,6 @@
 // What a caller asks for, and what follows from it and the log.
 ghost use Rattle.std.specs.Prelude.{◌≡◌, ◌≤◌, IfOk};
-ghost use Rattle.tetri_placing.specs.Options.{AreGood, cluster_of, processors_of, settings_of, within};
+ghost use Rattle.tetri_logs.specs.Options.{AreGood, cluster_of, processors_of, settings_of, within};
 
 use crate::reading::Facts;
 use tetri_request::Class;

@@ -7,9 +7,9 @@ use Rattle.tetri_logs.specs.declared.entry.Entry.{Entry}
 use Rattle.tetri_logs.specs.declared.entry.Entry.TheVariants.{Job, Comment, Left}
 use Rattle.tetri_logs.specs.declared.entry.Format.{Format}
 use Rattle.tetri_logs.specs.declared.entry.LoggedJob.{LoggedJob}
-use Rattle.tetri_logs.specs.declared.facts.Fact.{Fact}
-use Rattle.tetri_logs.specs.declared.facts.Fact.TheVariants.{Nodes, Processors, Start}
-use Rattle.tetri_placing.specs.declared.reading.Facts.{Facts}
+use Rattle.tetri_logs.specs.declared.comments.Fact.{Fact}
+use Rattle.tetri_logs.specs.declared.comments.Fact.TheVariants.{Nodes, Processors, Start}
+use Rattle.tetri_logs.specs.declared.reading.Facts.{Facts}
 
 -- what the lines of a log are
 abbrev pub entries : Format → List ℕ → List Entry

@@ -9,8 +9,8 @@ use Rattle.tetri_logs.specs.declared.entry.Entry.{Entry}
 use Rattle.tetri_logs.specs.declared.entry.Format.{Format}
 use Rattle.tetri_logs.specs.declared.entry.Entry.TheVariants.{Job, Comment, Left}
 use Rattle.tetri_logs.specs.declared.entry.LoggedJob.{LoggedJob}
-use Rattle.tetri_placing.specs.declared.reading.Facts.{Facts}
-use Rattle.tetri_placing.specs.Reading.{entries, facts_in, first_submit, is_comment, jobs_in, left_in, with_fact}
+use Rattle.tetri_logs.specs.declared.reading.Facts.{Facts}
+use Rattle.tetri_logs.specs.Reading.{entries, facts_in, first_submit, is_comment, jobs_in, left_in, with_fact}
 
 pub jobs_in-more : (es : List Entry) (e : Entry) → jobs_in (es ++ e ∷ []) ≡ jobs_in es ++ jobs_in (e ∷ [])
 jobs_in-more [] e = refl

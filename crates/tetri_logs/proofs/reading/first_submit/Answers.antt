@@ -1,8 +1,8 @@
 use Rattle.std.proofs.Common.{◌≡◌, ◌-◌, ◌^◌, drop, ap, arith}
 use Rattle.std.proofs.lemmas.List.{drop_all}
-use Rattle.tetri_placing.specs.Reading.{first_submit}
-use Rattle.tetri_placing.proofs.ReadingLemmas.{first_submit-most}
-use Rattle.tetri_placing.proofs.reading.first_submit.Goals as goal
+use Rattle.tetri_logs.specs.Reading.{first_submit}
+use Rattle.tetri_logs.proofs.ReadingLemmas.{first_submit-most}
+use Rattle.tetri_logs.proofs.reading.first_submit.Goals as goal
 
 pub loop-job-init : goal.loop-job-init
 loop-job-init c = record { small = omega arith; rest = omega (arith, first_submit-most c.args.jobs.now) }

@@ -3,9 +3,9 @@ use Rattle.std.proofs.lemmas.List.{length-map}
 use Rattle.tetri_logs.specs.Entry.{entry_of}
 use Rattle.tetri_logs.specs.Lines.{log_lines}
 use Rattle.tetri_logs.specs.declared.entry.Format.{Format}
-use Rattle.tetri_placing.specs.Reading.{entries, facts_in, jobs_in, left_in, no_facts}
-use Rattle.tetri_placing.proofs.ReadingLemmas.{all_entries, all_seen, facts_in-more, jobs_in-more, left_in-more, more_entries}
-use Rattle.tetri_placing.proofs.reading.read_log.Goals as goal
+use Rattle.tetri_logs.specs.Reading.{entries, facts_in, jobs_in, left_in, no_facts}
+use Rattle.tetri_logs.proofs.ReadingLemmas.{all_entries, all_seen, facts_in-more, jobs_in-more, left_in-more, more_entries}
+use Rattle.tetri_logs.proofs.reading.read_log.Goals as goal
 
 -- as many entries as lines
 entry_count : (f : Format) (items : List (Bor (List ℕ))) (log : List ℕ) → map (λ x. x.now) items ≡ log_lines log → length (entries f log) ≡ length items

@@ -1,11 +1,11 @@
 -- What a caller asks for, and what follows from it and the log.
 use Rattle.std.specs.Prelude.{ℕ, ◌+◌, ◌-◌, ◌/◌, ◌≤◌, ◌&&◌, ◌^◌, max, nat_le, nat_lt, Option, Some, None, unwrap_or, Result, Ok, Err, if◌then◌else◌}
 use Rattle.tetri_base.specs.ResultSteps.{◌>>=◌}
-use Rattle.tetri_placing.specs.declared.options.Options.{Options}
-use Rattle.tetri_placing.specs.declared.options.OptionFault.{OptionFault}
-use Rattle.tetri_placing.specs.declared.options.OptionFault.TheVariants as faults
-use Rattle.tetri_placing.specs.declared.options.Settings.{Settings}
-use Rattle.tetri_placing.specs.declared.reading.Facts.{Facts}
+use Rattle.tetri_logs.specs.declared.options.Options.{Options}
+use Rattle.tetri_logs.specs.declared.options.OptionFault.{OptionFault}
+use Rattle.tetri_logs.specs.declared.options.OptionFault.TheVariants as faults
+use Rattle.tetri_logs.specs.declared.options.Settings.{Settings}
+use Rattle.tetri_logs.specs.declared.reading.Facts.{Facts}
 
 -- the number, if it is within its limits
 abbrev pub within : ℕ → ℕ → ℕ → OptionFault → Result ℕ OptionFault

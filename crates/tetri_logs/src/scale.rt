@@ -1,10 +1,10 @@
 // Seconds as slots, and processors as nodes.
 ghost use Rattle.std.specs.Prelude.{◌≡◌, ◌≤◌, ◌<◌, ◌^◌};
-ghost use Rattle.tetri_placing.specs.Options.{AreGood};
-ghost use Rattle.tetri_placing.specs.Scale.{moment_of, nodes_of, slot_of, slots_of, worth_of};
+ghost use Rattle.tetri_logs.specs.Options.{AreGood};
+ghost use Rattle.tetri_logs.specs.Scale.{moment_of, nodes_of, slot_of, slots_of, worth_of};
 
+use crate::account::Account;
 use crate::options::{Settings, Worth};
-use tetri_logs::Account;
 
 /// The second since 1970 at which a job was submitted.
 pub(crate) fn moment_of(settings: &Settings, account: Account) -> u64

@@ -1,7 +1,7 @@
 use Rattle.std.proofs.Common.{◌≡◌, map, take}
 use Rattle.tetri_logs.specs.Entry.{entry_of}
-use Rattle.tetri_placing.specs.Reading.{facts_in, jobs_in, left_in, no_facts}
-use Rattle.tetri_placing.proofs.reading.read_log.Given as goal
+use Rattle.tetri_logs.specs.Reading.{facts_in, jobs_in, left_in, no_facts}
+use Rattle.tetri_logs.proofs.reading.read_log.Given as goal
 
 abbrev pub invariant-loop-line : goal.invariant-loop-line
 invariant-loop-line l =

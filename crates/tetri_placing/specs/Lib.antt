@@ -1,4 +1,0 @@
-pub mod Reading
-pub mod Options
-pub mod Scale
-pub mod Placing
