@@ -19,10 +19,10 @@ fn number(word: &str) -> u32 {
 }
 
 // Weighs the program of a file by so many weights, so often.
-fn weigh(rt: &HostRuntime, file: &str, sizes: [u32; 2], timed: bool) -> io::Result<()> {
+fn weigh(rt: &HostRuntime, file: &str, count: u32, rounds: u32, timed: bool) -> io::Result<()> {
     let text = fs::read_to_string(rt, file)?;
     match programs::program_in(rt.alloc(), text.as_str())? {
-        Some(p) => weighing::weigh_both(rt, rt.alloc(), &p, sizes, timed),
+        Some(p) => weighing::weigh_both(rt, rt.alloc(), &p, count, rounds, timed),
         None => eprintln!(rt; "{file}: not fit"),
     }
 }
@@ -42,7 +42,7 @@ fn try_file(rt: &HostRuntime, file: &str) -> io::Result<()> {
     if file.ends_with(".jsonl") {
         return searches::show(rt, rt.alloc(), file, false);
     }
-    weigh(rt, file, [4, 1], false)?;
+    weigh(rt, file, 4, 1, false)?;
     for kind in &dual::KINDS {
         run_dual(rt, kind, file, false)?;
     }
@@ -65,8 +65,8 @@ fn main(rt: HostRuntime) -> io::Result<()> {
             fractions::measure(&rt, rt.alloc(), u64::from(number(size.as_str())))
         }
         [what, file, weights, rounds] if what.as_str() == "weigh" => {
-            let sizes = [number(weights.as_str()), number(rounds.as_str())];
-            weigh(&rt, file.as_str(), sizes, true)
+            let (weights, rounds) = (number(weights.as_str()), number(rounds.as_str()));
+            weigh(&rt, file.as_str(), weights, rounds, true)
         }
         [what, kind, file] if what.as_str() == "dual" => {
             run_dual(&rt, kind.as_str(), file.as_str(), true)

@@ -43,13 +43,7 @@ fn sum(p: &Program, r: &Region, weights: &[Weight], rounds: u32) -> i128
 
 // The same, over a list of the columns' factors.
 #[inline(never)]
-fn sum_over(
-    p: &Program,
-    r: &Region,
-    weights: &[Weight],
-    factors: &mut [i128],
-    rounds: u32,
-) -> i128
+fn sum_over(p: &Program, r: &Region, weights: &[Weight], factors: &mut [i128], rounds: u32) -> i128
     requires fit { IsFit p.now }
     requires in_box { IsInBox p.now (bounds_of r.now) }
     requires rows { AreOfRows p.now weights.now }
@@ -68,7 +62,8 @@ pub fn weigh_both(
     rt: &(impl CpuClock + Print + Eprint),
     alloc: Global,
     p: &Program,
-    [count, rounds]: [u32; 2],
+    count: u32,
+    rounds: u32,
     timed: bool,
 ) -> io::Result<()>
     requires { IsFit p.now }

@@ -29,4 +29,3 @@ pub fn judge(
         _ => texts::judge(alloc, given, tally, word, more, body),
     }
 }
-

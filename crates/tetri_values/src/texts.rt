@@ -8,7 +8,6 @@ mod parsed;
 mod sets;
 
 pub use devices::judge_files;
-
 use std::alloc::{AllocError, Global};
 use tetri_tables::{Given, Tally};
 
@@ -65,4 +64,3 @@ pub fn judge(
         _ => judge_marks_and_names(alloc, tally, word, more, body),
     }
 }
-

@@ -6,7 +6,7 @@ use std::alloc::{AllocError, Global};
 use tetri_io::{
     Line, LineFault, MemShelf, MemSink, halves_at, number_below, parts_at, read_line_at, send_all,
 };
-use tetri_tables::{Tally, expand, halves};
+use tetri_tables::{Tally, expand, expand_text, halves};
 
 // The text before the first space, and the one behind it.
 fn words(text: &str) -> (&str, &str) {
@@ -85,7 +85,8 @@ pub fn read_lines(alloc: Global, tally: &mut Tally, body: &str) -> Result<(), Al
     for row in body.lines() {
         let (what, wanted) = halves(row);
         let found = content_told(alloc, what)?;
-        tally.expect(row, found.as_str(), wanted)?;
+        let wanted = expand_text(alloc, wanted)?;
+        tally.expect(row, found.as_str(), wanted.as_str())?;
     }
     Ok(())
 }
