@@ -54,12 +54,24 @@ fn run_words(
     Ok(Outcome { written, said })
 }
 
-// The lines of a text that begin with one of these words; all of them where there are none.
+// Whether a line begins with one of these words; any line does where there are none.
+fn is_chosen(line: &str, words: &str) -> bool {
+    if words.is_empty() {
+        return true;
+    }
+    let (first, _) = line.split_once(' ').unwrap_or((line, ""));
+    for word in words.split(',') {
+        if word == first {
+            return true;
+        }
+    }
+    false
+}
+
 fn chosen_lines(alloc: Global, text: &str, words: &str) -> Result<String, AllocError> {
     let mut lines = String::new(alloc);
     for line in text.lines() {
-        let (first, _) = line.split_once(' ').unwrap_or((line, ""));
-        if words.is_empty() || words.split(',').any(|word| word == first) {
+        if is_chosen(line, words) {
             write!(lines, "{line}\n")?;
         }
     }
