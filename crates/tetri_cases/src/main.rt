@@ -4,9 +4,13 @@
 //! section's kind, and the lines below it are its text, blank lines at the end left out. The README lists the kinds. An argument
 //! that ends with `.jsonl` is a trace, and the report beside it is the one that `tetri` plans for it, with its two advisors. One that
 //! ends with `.report` is a report that a check accepts, and one that ends with `.answers` what `tetri admit` writes of the trace.
+//! The argument `pictures` stands for pictures of reports, which are printed as they are.
 #![tactic(auto)]
 
 mod devices;
+mod imports;
+mod panels;
+mod pictures;
 mod runs;
 mod table;
 
@@ -37,17 +41,25 @@ fn judge_example(rt: &HostRuntime, example: &str, name: &str) -> io::Result<Tall
     Ok(table::judge_example(rt.alloc(), trace, report, is_planned)?)
 }
 
+// Judges the cases that an argument names, and prints what differs and how many there were.
+fn judge(rt: &HostRuntime, name: &str) -> io::Result<()> {
+    let tally = match example_of(name) {
+        Some(example) => judge_example(rt, example, name)?,
+        None => {
+            let text = fs::read_to_string(rt, name)?;
+            table::judge(rt.alloc(), text.as_str())?
+        }
+    };
+    print!(rt; "{}", tally.differences)?;
+    println!(rt; "{name}: {} cases", tally.cases)
+}
+
 fn main(rt: HostRuntime) -> io::Result<()> {
     for name in env::args(&rt)?.skip(1) {
-        let tally = match example_of(name.as_str()) {
-            Some(example) => judge_example(&rt, example, name.as_str())?,
-            None => {
-                let text = fs::read_to_string(&rt, name.as_str())?;
-                table::judge(rt.alloc(), text.as_str())?
-            }
-        };
-        print!(rt; "{}", tally.differences)?;
-        println!(rt; "{name}: {} cases", tally.cases)?;
+        match name.as_str() {
+            "pictures" => pictures::draw_all(&rt)?,
+            name => judge(&rt, name)?,
+        }
     }
     Ok(())
 }

@@ -6,7 +6,7 @@ use tetri_advice::{Advisor, Panel};
 use tetri_greedy::{ByDeadline, ByWorth};
 use tetri_io::{MemShelf, MemSink};
 use tetri_run::{Status, Why, conclude, run, say};
-use tetri_tables::{Given, Tally, edited, halves};
+use tetri_tables::{Given, Tally, edited, halves, text_in};
 use tetri_trace::{Field, TraceWhy};
 
 /// How a run is served: the names of its advisors, the bytes of a read and of a write at most, the bytes that there is room for, and
@@ -68,13 +68,6 @@ pub struct Outcome {
     pub said: String,
 }
 
-fn text_of(alloc: Global, bytes: &[u8]) -> Result<String, AllocError> {
-    match str::from_utf8(bytes) {
-        Ok(text) => String::from_str(alloc, text),
-        Err(_) => String::from_str(alloc, "not text"),
-    }
-}
-
 fn words_of(alloc: Global, line: &str) -> Result<Vec<String>, AllocError> {
     let mut words = Vec::new(alloc);
     for word in line.split(' ') {
@@ -88,7 +81,7 @@ fn said_of(alloc: Global, status: &Status) -> Result<String, AllocError> {
     let mut sink = MemSink::new(alloc, 7, 1000, &[])?;
     match say(alloc, status, &mut sink) {
         Ok(()) => {
-            let line = text_of(alloc, sink.written())?;
+            let line = text_in(alloc, sink.written())?;
             String::from_str(alloc, line.as_str().trim_end_matches('\n'))
         }
         Err(_) => String::from_str(alloc, "cannot say it"),
@@ -103,7 +96,7 @@ fn shelf_of(alloc: Global, given: &Given, service: &Service<'_>) -> Result<MemSh
 }
 
 fn outcome_of(alloc: Global, sink: &MemSink, status: &Status) -> Result<Outcome, AllocError> {
-    let written = text_of(alloc, sink.written())?;
+    let written = text_in(alloc, sink.written())?;
     let said = said_of(alloc, status)?;
     Ok(Outcome { written, said })
 }
@@ -340,7 +333,7 @@ fn status_of(number: u8) -> Status {
 fn ending_told(alloc: Global, status: &Status) -> Result<String, AllocError> {
     let mut errors = MemSink::new(alloc, 7, 1000, &[])?;
     let exit = conclude(alloc, status, &mut errors);
-    let said = text_of(alloc, errors.written())?;
+    let said = text_in(alloc, errors.written())?;
     format!(in alloc; "{exit} {}", said.as_str().trim_end_matches('\n'))
 }
 

@@ -1,5 +1,6 @@
 // The sections of a table.
-use crate::{devices, runs};
+use crate::panels::{Trial, try_panel};
+use crate::{devices, imports, runs};
 use std::alloc::{AllocError, Global};
 use tetri_tables::{Given, Tally, expand_text, sections_of};
 
@@ -29,7 +30,7 @@ fn made_run(
     runs::made(alloc, given, tally, words, body)
 }
 
-fn judge_faults(
+fn judge_more(
     alloc: Global,
     given: &mut Given,
     tally: &mut Tally,
@@ -45,7 +46,9 @@ fn judge_faults(
         "each cut" => devices::each_cut(alloc, given, tally),
         "words" => runs::words(alloc, tally, body),
         "endings" => runs::endings(alloc, tally, body),
-        _ => tally.expect("a section", word, "a known kind"),
+        "panel" => try_panel(alloc, given, tally, Trial::Rows(body)),
+        "run" => try_panel(alloc, given, tally, Trial::Run(body)),
+        _ => imports::judge(alloc, given, tally, word, more, body),
     }
 }
 
@@ -67,7 +70,7 @@ fn judge_section(
         "made admit" => made_run(alloc, given, tally, "admit trace", body),
         "no plan" => runs::no_plan(alloc, given, tally, more),
         "check" => runs::check(alloc, given, tally, more),
-        _ => judge_faults(alloc, given, tally, word, more, body),
+        _ => judge_more(alloc, given, tally, word, more, body),
     }
 }
 

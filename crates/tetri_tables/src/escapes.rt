@@ -1,6 +1,7 @@
 // Texts with escapes and repetitions.
 ghost use Rattle.std.specs.Prelude.{◌<◌};
 
+use crate::texts::text_in;
 use std::alloc::{AllocError, Global};
 
 fn digit(byte: u8) -> u8
@@ -92,8 +93,5 @@ pub fn expand(alloc: Global, text: &str) -> Result<Vec<u8>, AllocError> {
 /// The same as text.
 pub fn expand_text(alloc: Global, text: &str) -> Result<String, AllocError> {
     let bytes = expand(alloc, text)?;
-    match str::from_utf8(&bytes) {
-        Ok(text) => String::from_str(alloc, text),
-        Err(_) => String::from_str(alloc, "not text"),
-    }
+    text_in(alloc, &bytes)
 }

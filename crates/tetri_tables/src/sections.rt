@@ -1,5 +1,5 @@
 // The sections of a table.
-use crate::escapes::expand_text;
+use crate::escapes::{expand, expand_text};
 use std::alloc::{AllocError, Global};
 
 /// The texts that sections give to those behind them.
@@ -12,6 +12,12 @@ pub struct Given {
     /// A line that is the header of a trace, and one that is a job of it.
     pub header: String,
     pub job: String,
+    /// The advisors of a panel, one in each line.
+    pub seats: String,
+    /// A program of whole numbers.
+    pub program: String,
+    /// A log that is imported.
+    pub log: Vec<u8>,
 }
 
 impl Given {
@@ -22,6 +28,9 @@ impl Given {
             report: String::new(alloc),
             header: String::new(alloc),
             job: String::new(alloc),
+            seats: String::new(alloc),
+            program: String::new(alloc),
+            log: Vec::new(alloc),
         }
     }
 
@@ -34,6 +43,11 @@ impl Given {
             "made report" => self.report = expand_text(alloc, body)?,
             "header" => self.header = String::from_str(alloc, body)?,
             "job" => self.job = String::from_str(alloc, body)?,
+            "seats" => self.seats = expand_text(alloc, body)?,
+            "program" => self.program = String::from_str(alloc, body)?,
+            "made program" => self.program = expand_text(alloc, body)?,
+            "made log" => self.log = expand(alloc, body)?,
+            "log" => self.log = ended(alloc, body)?,
             _ => return Ok(false),
         }
         Ok(true)
@@ -46,6 +60,13 @@ fn lines_of(alloc: Global, body: &str) -> Result<String, AllocError> {
         return Ok(String::new(alloc));
     }
     format!(in alloc; "{body}\n")
+}
+
+// The bytes of a section with its last line ended.
+fn ended(alloc: Global, body: &str) -> Result<Vec<u8>, AllocError> {
+    let mut bytes = expand(alloc, body)?;
+    bytes.push(b'\n')?;
+    Ok(bytes)
 }
 
 /// The sections of a table in order: the kind of each, and its text without the line feeds at its end. What stands before

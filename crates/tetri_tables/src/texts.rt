@@ -16,3 +16,8 @@ pub fn debug_text<T: Debug>(alloc: Global, value: &T) -> Result<String, AllocErr
 pub fn add_debug<T: Debug>(out: &mut String, value: &T) -> Result<(), AllocError> {
     write!(out, "{value:?}")
 }
+
+/// The text of bytes, or that they are none.
+pub fn text_in(alloc: Global, bytes: &[u8]) -> Result<String, AllocError> {
+    String::from_str(alloc, str::from_utf8(bytes).unwrap_or("not text"))
+}

@@ -1,9 +1,10 @@
 //! Tries the cases of the tables that its arguments name, on the values of libraries, and prints what differs and how many cases
 //! there were. Tables are as those of tetri_cases; the README lists the kinds of sections. Some cases whose values no text says
-//! stand in the code.
+//! stand in the code. `files.txt` is a table of files that are read through a shelf.
 #![tactic(auto)]
 
 mod answers;
+mod cuts;
 mod cycles;
 mod expressions;
 mod fractions;
@@ -11,8 +12,10 @@ mod instances;
 mod node_sets;
 mod parts;
 mod programs;
+mod readings;
 mod runs_of_programs;
 mod table;
+mod texts;
 mod unaligned;
 
 use std::{env, fs, io};
@@ -20,7 +23,11 @@ use std::{env, fs, io};
 fn main(rt: HostRuntime) -> io::Result<()> {
     for name in env::args(&rt)?.skip(1) {
         let text = fs::read_to_string(&rt, name.as_str())?;
-        let tally = table::judge(rt.alloc(), text.as_str())?;
+        let tally = if name.as_str() == "files.txt" {
+            texts::judge_files(rt.alloc(), &rt, text.as_str())?
+        } else {
+            table::judge(rt.alloc(), text.as_str())?
+        };
         print!(rt; "{}", tally.differences)?;
         println!(rt; "{name}: {} cases", tally.cases)?;
     }

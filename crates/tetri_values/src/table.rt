@@ -1,5 +1,7 @@
 // The sections of a table.
-use crate::{cycles, expressions, fractions, node_sets, runs_of_programs, unaligned};
+use crate::{
+    cuts, cycles, expressions, fractions, node_sets, readings, runs_of_programs, unaligned,
+};
 use std::alloc::{AllocError, Global};
 use tetri_tables::{Given, Tally, sections_of};
 
@@ -24,7 +26,8 @@ fn judge_section(
             runs_of_programs::weighed(alloc, tally)?;
             runs_of_programs::dual_runs(alloc, tally)
         }
-        _ => tally.expect("a section", kind, "a known kind"),
+        "cuts" => cuts::judge(alloc, given, tally, body),
+        _ => readings::judge(alloc, given, tally, word, more, body),
     }
 }
 

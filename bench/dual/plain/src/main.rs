@@ -1,11 +1,11 @@
-//! The program tetri_simplex_bench in plain Rust: the same programs, rules and output.
+//! The program tetri_bench dual in plain Rust: the same programs, rules and output.
 //!
 //! `plain full|sparse|general|whole|mirror SIDE KINDS` runs a square of columns, `plain full|sparse|general|whole|mirror FILE` the
 //! program of a file by bench/dual/cycle. `general` is sparse rows without the short ways for 1 and -1, `whole` rows of whole numbers as the proved
 //! program has them, and `mirror` the same with one row for a column's variable and the slack of its bound. `plain bound ..` runs
 //! the full table and writes how often a row leaves the bound of rows of whole numbers, and how often one comes back.
 //! `plain sparse|general|whole|mirror tree FILE TREE` makes the runs of the nodes of a search of that program, whose lines
-//! stand in the file TREE as tetri_search_bench writes them, and tells how many runs and pivots they are.
+//! stand in the file TREE as tetri_bench writes them, and tells how many runs and pivots they are.
 
 mod bound;
 mod frac;

@@ -1,4 +1,4 @@
-//! The program tetri_num_bench in plain Rust, with the same operands and output.
+//! The program tetri_bench num in plain Rust, with the same operands and output.
 
 mod frac;
 

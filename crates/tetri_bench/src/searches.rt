@@ -1,0 +1,93 @@
+// Searches, shown and timed.
+ghost use Rattle.std.specs.Prelude.{IfOk, IfSome};
+ghost use Rattle.tetri_space.specs.Sound.{IsSound as IsSoundSpace};
+ghost use Rattle.tetri_space.specs.Space.{space};
+ghost use Rattle.tetri_trace.specs.Scenario.{scenario};
+ghost use Rattle.tetri_trace.specs.Sound.{IsSound};
+
+mod runs;
+
+use runs::all_runs;
+use std::alloc::{AllocError, Global};
+use std::io;
+use std::rt::Files;
+use std::time::CpuClock;
+use tetri_cert::print_mark;
+use tetri_compile::{compile, size};
+use tetri_io::FileShelf;
+use tetri_search::{Found, search};
+use tetri_space::{Instance, find_partitions};
+use tetri_state::State;
+use tetri_trace::{Trace, read_trace};
+
+// The instance of a trace at slot 0.
+fn first_instance(alloc: Global, trace: &Trace) -> Result<Option<Instance>, AllocError>
+    requires { IsSound (scenario trace.now) }
+    ensures { IfOk result (λ o. IfSome o (λ i. IsSoundSpace (space i))) }
+{
+    let mut state = State::open(alloc, trace)?;
+    if trace.header.until <= state.now() {
+        return Ok(None);
+    }
+    let _happened = state.begin_cycle(alloc, trace)?;
+    Ok(Some(state.instance(alloc, trace)?))
+}
+
+fn tree_lines(alloc: Global, found: &Found) -> Result<String, AllocError> {
+    let mut lines = String::new(alloc);
+    for mark in found.marks.as_slice() {
+        print_mark(&mut lines, mark)?;
+    }
+    Ok(lines)
+}
+
+fn measure(
+    rt: &(impl CpuClock + Print + Eprint),
+    alloc: Global,
+    inst: &Instance,
+    budget: u32,
+    timed: bool,
+) -> io::Result<()>
+    requires { IsSoundSpace (space inst.now) }
+{
+    let parts = find_partitions(alloc, inst)?;
+    let (columns, rows) = size(inst, &parts);
+    if 2000 < columns || 2000 < rows {
+        return println!(rt; "{columns} columns, {rows} rows: too large");
+    }
+    let c = compile(alloc, inst, &parts)?;
+    let start = rt.thread_cpu_time()?;
+    let found = search(alloc, &c, 0, budget)?;
+    let end = rt.thread_cpu_time()?;
+    println!(rt;
+        "{columns} columns, {rows} rows: best {}, bound {}, nodes {}",
+        found.best, found.bound, found.nodes
+    )?;
+    if timed {
+        let runs = all_runs(rt, alloc, &c.program, 0, found.marks.as_slice())?;
+        let whole = end.saturating_sub(start).as_nanos();
+        return eprintln!(rt; "{whole} {} {}", runs.time.as_nanos(), runs.count);
+    }
+    let lines = tree_lines(alloc, &found)?;
+    print!(rt; "{lines}")
+}
+
+/// Searches the program of the instance that the trace in a file has at slot 0, within the trace's budget. It writes the program's
+/// columns and rows, the best objective, the bound and the nodes, and then the tree's lines; where it is timed no lines, but three
+/// numbers to standard error: the nanoseconds of the search, those of the dual runs of its nodes alone, made anew, and how many
+/// runs these are.
+pub fn show(
+    rt: &(impl CpuClock + Print + Eprint + Files),
+    alloc: Global,
+    name: &str,
+    timed: bool,
+) -> io::Result<()> {
+    let mut shelf = FileShelf::new(rt);
+    let Ok(trace) = read_trace(alloc, &mut shelf, name) else {
+        return eprintln!(rt; "{name}: not a trace");
+    };
+    match first_instance(alloc, &trace)? {
+        Some(inst) => measure(rt, alloc, &inst, trace.header.budget, timed),
+        None => Ok(()),
+    }
+}

@@ -1,5 +1,0 @@
-use Rattle.std.proofs.Common.{length}
-use Rattle.tetri_cut_cases.proofs.fitness.+are_of_rows.Given as goal
-
-abbrev pub decreases-are_of_rows : goal.decreases-are_of_rows
-decreases-are_of_rows l = length l.weights.now

@@ -1,5 +1,0 @@
-use Rattle.std.proofs.Common.{◌≡◌, replicate}
-use Rattle.tetri_ip_bench.proofs.made.copies.Given as goal
-
-abbrev pub invariant-loop : goal.invariant-loop
-invariant-loop l = l.list.items ≡ replicate l.counter l.value

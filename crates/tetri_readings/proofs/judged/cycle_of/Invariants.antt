@@ -1,5 +1,0 @@
-use Rattle.std.proofs.Common.{◌≤◌}
-use Rattle.tetri_readings.proofs.judged.cycle_of.Given as goal
-
-abbrev pub invariant-loop-line : goal.invariant-loop-line
-invariant-loop-line l = (l.blocks.lines ≤ l.count) × (l.count ≤ 100000)

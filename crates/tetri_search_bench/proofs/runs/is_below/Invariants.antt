@@ -1,5 +1,0 @@
-use Rattle.tetri_ip.specs.Points.{IsBelow}
-use Rattle.tetri_search_bench.proofs.runs.is_below.Given as goal
-
-abbrev pub invariant-loop-j : goal.invariant-loop-j
-invariant-loop-j l = IsBelow l.j l.lower l.upper

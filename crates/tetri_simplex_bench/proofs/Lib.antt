@@ -1,2 +1,0 @@
-pub mod SmallLemmas
-pub mod ReadLemmas
