@@ -1,6 +1,6 @@
 -- The numbers of a row as a list of fractions.
 use Rattle.std.proofs.Common.{◌≡◌, ℕ, ◌+◌, ◌<◌, ◌≤◌, sym, ap, ◌∙◌, subst, arith, List, [], ◌∷◌, ◌++◌, length, get_or, map, take}
-use Rattle.std.specs.Prelude.{unsigned_abs}
+use Rattle.std.specs.Prelude.{unsigned_abs, Option, None, Some, MatchOption, IfSome}
 use Rattle.std.proofs.lemmas.List.{map-append, length-map, take_more, take_all}
 use Rattle.std.proofs.lemmas.Int.{to_z-of_z, fits_signed_from_abs}
 use lib.IntN.{ℤ, pos, ◌*ℤ◌}
@@ -32,3 +32,7 @@ wide_number z h = to_z-of_z w128 z (fits_signed_from_abs w128 z h)
 pub whole_value : (x : Frac) (n : ℤ) → n ≡ x.num → x.den ≡ pos 1 → fraction n 1 ≡ value x
 whole_value x n ne de =
     fraction_is n 1 (value x) (omega arith) (ap (λ z. z *ℤ pos 1) (num-value x ∙ sym ne) ∙ ap (λ z. n *ℤ z) (sym (den-value x ∙ de)))
+
+pub short_whole : (x : Frac) (z : ℤ) (o : Option ℤ) (P : Type 0) → z ≡ x.num → x.den ≡ pos 1 → MatchOption o P (λ n. n ≡ z) → IfSome o (λ n. fraction n 1 ≡ value x)
+short_whole x z None P ze de h = tt
+short_whole x z (Some n) P ze de h = whole_value x n (h ∙ ze) de

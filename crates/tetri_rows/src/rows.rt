@@ -248,16 +248,28 @@ pub fn fractions(alloc: Global, den: i64, row: &[i64]) -> Result<Vec<Frac>, Allo
     Ok(numbers)
 }
 
-/// A whole number that is short.
+/// The number as one word, where it is short; None where it is not.
 #[inline]
-pub fn short(x: Frac) -> Option<i64>
+pub fn short(x: i128) -> Option<i64>
+    ensures value { MatchOption result (IsShort x → ⊥) (λ n. n ≡ x) }
+    ensures short { IfSome result (λ n. IsShort n) }
+{
+    if x <= -(SHORT as i128) || x >= SHORT as i128 {
+        return None;
+    }
+    Some(x as i64)
+}
+
+// A fraction that is a short whole number.
+#[inline]
+pub(crate) fn short_fraction(x: Frac) -> Option<i64>
     ensures value { IfSome result (λ n. fraction n 1 ≡ value x) }
     ensures short { IfSome result (λ n. IsShort n) }
 {
-    if x.den != 1 || x.num <= -(SHORT as i128) || x.num >= SHORT as i128 {
+    if x.den != 1 {
         return None;
     }
-    Some(x.num as i64)
+    short(x.num)
 }
 
 // The product of two short numbers.

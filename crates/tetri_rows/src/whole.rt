@@ -6,7 +6,7 @@ ghost use Rattle.tetri_num.specs.Frac.{value};
 ghost use Rattle.tetri_rows.specs.Small.{IsShort, IsDenominator};
 ghost use Rattle.tetri_rows.specs.Rows.{meaning};
 
-use crate::rows::{SHORT, is_short, product, short};
+use crate::rows::{SHORT, is_short, product, short_fraction};
 use crate::scaling::scale_for;
 use std::alloc::{AllocError, Global};
 use tetri_num::Frac;
@@ -58,7 +58,7 @@ fn over(x: Frac, den: i64) -> Option<i64>
     ensures short { IfSome result (λ n. IsShort n) }
 {
     match x.mul(Frac::whole(den as i128)) {
-        Ok(scaled) => short(scaled),
+        Ok(scaled) => short_fraction(scaled),
         Err(_) => None,
     }
 }

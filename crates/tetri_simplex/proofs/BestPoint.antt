@@ -125,7 +125,7 @@ point_is bs rows j (c ∷ cs) (l ∷ ls) (u ∷ us) xs h e =
 point_is bs rows j cs ls us xs h e = absurd h
 
 -- ---- in the box
-nonnegative : (d : ℚ) → NotBelow d → zero_ℚ ≤ℚ d
+pub nonnegative : (d : ℚ) → NotBelow d → zero_ℚ ≤ℚ d
 unfolding whole_ℚ
 nonnegative d h = record { cross = cross d.num d.den h.sign }
   where

@@ -1,37 +1,36 @@
--- The first dictionary of pairs, from the lines of the first sparse one.
-use Rattle.std.proofs.Common.{◌≡◌, ℕ, ◌+◌, sym, ap, ◌∙◌, subst, arith, List, [], ◌∷◌, ◌++◌, length, get_or}
-use Rattle.std.proofs.lemmas.List.{get_or_append_left, length-append, length-map, map-append}
-use Rattle.std.proofs.Math.Seq.{get_or-append_seam}
-use Rattle.tetri_algebra.specs.Rational.{ℚ}
-use Rattle.tetri_simplex.specs.declared.lines.Line.{Line}
-use Rattle.tetri_simplex.specs.declared.pairs_start.Sorted.{Sorted}
-use Rattle.tetri_simplex.specs.declared.sparse.Sparse.{Sparse}
+-- The places of the first dictionary of pairs.
+use Rattle.std.proofs.Common.{◌≡◌, ℕ, ◌+◌, sym, ap, ◌∙◌, subst, arith, List, [], ◌∷◌, ◌++◌, length, map}
+use Rattle.std.proofs.lemmas.List.{length-append, length-map}
+use lib.IntN.{ℤ}
+use Rattle.tetri_algebra.specs.Rational.{ℚ, whole_ℚ}
+use Rattle.tetri_ip.specs.declared.programs.Program.{Program}
+use Rattle.tetri_ip.specs.Points.{Bounds}
+use Rattle.tetri_simplex.specs.declared.mixed.MixedRow.{MixedRow}
+use Rattle.tetri_simplex.specs.declared.pairs_start.Draft.{Draft}
+use Rattle.tetri_simplex.specs.Drafts.{draft_rows}
 use Rattle.tetri_simplex.specs.Mirrors.{row_from}
-use Rattle.tetri_simplex.specs.Sorting.{sorted_rows}
-use Rattle.tetri_simplex.specs.Sparse.{table_of, AreEntries, AreLines, line_of, lines_of}
-use Rattle.tetri_simplex.specs.Tables.{Table}
+use Rattle.tetri_simplex.specs.Mixed.{mixed_row, mixed_rows}
+use Rattle.tetri_simplex.specs.Start.{bound_rows, corner, first_rows, objective_row, slack_row}
+use Rattle.tetri_simplex.proofs.FirstTable.{wholes}
+use Rattle.tetri_simplex.proofs.WholeStart.{rows_are}
 
-pub lines_front : (n : ℕ) (ls front : List Line) (x : Line) → ls ≡ front ++ (x ∷ []) → AreLines n ls → AreLines n front
-lines_front n ls front x e h q d l =
-    let m : length ls ≡ length front + 1 = ap (λ (us : List Line). length us) e ∙ length-append front (x ∷ []) in
-    subst (λ (y : Line). AreEntries n y.entries.items) (ap (λ (us : List Line). get_or us q d) e ∙ get_or_append_left front (x ∷ []) d q l) (h q d (omega (arith, m, l)))
+pub all_rows : (p : Program) (b : Bounds) (start : List ℤ) (n : ℕ) (d0 d1 d2 d3 : Draft) (o : MixedRow) → n ≡ length p.costs.items → start ≡ corner p.costs.items b.lower b.upper → draft_rows n d0 ≡ [] →
+    draft_rows (length p.costs.items) d1 ≡ draft_rows (length p.costs.items) d0 ++ wholes (map (slack_row p.costs.items start) p.rows.items) →
+    draft_rows (length p.costs.items) d2 ≡ draft_rows (length p.costs.items) d1 ++ wholes (bound_rows 0 p.costs.items b.lower b.upper) → mixed_row o ≡ map whole_ℚ (objective_row p.costs.items start) →
+    draft_rows n d3 ≡ draft_rows n d2 ++ (mixed_row o ∷ []) → draft_rows (length p.costs.items) d3 ≡ wholes (first_rows p b)
+all_rows p b start n d0 d1 d2 d3 o ne se e0 e1 e2 oe e3 =
+    let m = length p.costs.items in
+    rows_are p b start (draft_rows m d1) (draft_rows m d2) (draft_rows m d3) (mixed_row o) se
+    (e1 ∙ ap (λ (zs : List (List ℚ)). zs ++ wholes (map (slack_row p.costs.items start) p.rows.items)) (subst (λ k. draft_rows k d0 ≡ []) ne e0))
+    e2 oe (subst (λ k. draft_rows k d3 ≡ draft_rows k d2 ++ (mixed_row o ∷ [])) ne e3)
 
-pub lines_last : (n : ℕ) (ls front : List Line) (x : Line) → ls ≡ front ++ (x ∷ []) → AreLines n ls → AreEntries n x.entries.items
-lines_last n ls front x e h =
-    let m : length ls ≡ length front + 1 = ap (λ (us : List Line). length us) e ∙ length-append front (x ∷ []) in
-    subst (λ (y : Line). AreEntries n y.entries.items) (ap (λ (us : List Line). get_or us (length front) x) e ∙ get_or-append_seam front x [] x) (h (length front) x (omega (arith, m)))
+pub row_for_each : (n : ℕ) (d : Draft) → length (draft_rows n d) ≡ length d.origins.items
+row_for_each n d = length-map d.origins.items (row_from n (mixed_rows d.rows.items))
 
-pub rows_joined : (n : ℕ) (ls front : List Line) (x : Line) (s t : Sorted) → ls ≡ front ++ (x ∷ []) → sorted_rows n s ≡ lines_of n front → sorted_rows n t ≡ sorted_rows n s ++ (line_of n x ∷ []) → sorted_rows n t ≡ lines_of n ls
-rows_joined n ls front x s t e f g = g ∙ ap (λ (us : List (List ℚ)). us ++ (line_of n x ∷ [])) f ∙ sym (map-append (line_of n) front (x ∷ [])) ∙ ap (lines_of n) (sym e)
-
-pub origins_before : (n c : ℕ) (ls front : List Line) (x : Line) (s : Sorted) → ls ≡ front ++ (x ∷ []) → length ls ≡ c + 1 → sorted_rows n s ≡ lines_of n front → length s.origins.items ≡ c
-origins_before n c ls front x s e count f =
-    let m : length ls ≡ length front + 1 = ap (λ (us : List Line). length us) e ∙ length-append front (x ∷ []) in
-    let g : length s.origins.items ≡ length front = sym (length-map s.origins.items (row_from n (lines_of n s.kept.items))) ∙ ap (λ (us : List (List ℚ)). length us) f ∙ length-map front (line_of n) in
-    omega (arith, m, g, count)
-
-pub first_of : (s : Sparse) (rows : List (List ℚ)) (t : Table) → rows ≡ lines_of (length s.nonbasic.items) s.lines.items → table_of s ≡ t → record { nonbasic = s.nonbasic.items; basic = s.basic.items; rows = rows } ≡ t
-first_of s rows t e f = ap (λ (us : List (List ℚ)). with_rows us) e ∙ f
-  where
-    with_rows : List (List ℚ) → Table
-    with_rows us = record { nonbasic = s.nonbasic.items; basic = s.basic.items; rows = us }
+-- the place of the last row
+pub last_place : (n k : ℕ) (d2 d3 : Draft) (x : List ℚ) → draft_rows n d3 ≡ draft_rows n d2 ++ (x ∷ []) → length d3.origins.items ≡ k + 1 → k ≡ length d2.origins.items
+last_place n k d2 d3 x e f =
+    let a : length (draft_rows n d3) ≡ length (draft_rows n d2) + 1 = ap (λ (us : List (List ℚ)). length us) e ∙ length-append (draft_rows n d2) (x ∷ []) in
+    let g = row_for_each n d2 in
+    let h = row_for_each n d3 in
+    omega (arith, a, g, h, f)

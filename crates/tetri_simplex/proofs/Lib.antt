@@ -1,15 +1,18 @@
 pub mod BasicValues
 pub mod BelowRows
+pub mod BestEnds
 pub mod BestPoint
 pub mod Choosing
 pub mod Corners
 pub mod Dots
+pub mod Drafts
 pub mod DualRunLaws
 pub mod EachPlace
 pub mod EndFacts
 pub mod EndForms
 pub mod Entries
 pub mod FirstKept
+pub mod FirstRows
 pub mod FirstPairs
 pub mod FirstPlaces
 pub mod FirstTable
@@ -56,7 +59,6 @@ pub mod Signed
 pub mod SignedNumbers
 pub mod Signs
 pub mod SmallSteps
-pub mod SortedLines
 pub mod Sound
 pub mod SparseChoices
 pub mod SparsePivots

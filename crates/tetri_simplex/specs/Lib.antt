@@ -25,4 +25,4 @@ pub mod Pairs
 pub mod Forms
 pub mod PairPivots
 pub mod SignedNumbers
-pub mod Sorting
+pub mod Drafts

@@ -9,10 +9,8 @@ ghost use Rattle.tetri_simplex.specs.Faults.{IsFault};
 ghost use Rattle.tetri_simplex.specs.Holders.{bit, words_at, IsHolder, AreHolders};
 ghost use Rattle.tetri_simplex.specs.Mixed.{mixed_row, mixed_rows, IsMixedRow, AreMixedRows, AreTermsOfRow};
 ghost use Rattle.tetri_simplex.specs.Pivots.{pivoted_rows};
-ghost use Rattle.tetri_simplex.specs.Sparse.{AreEntries, AreLines, lines_of, number_of};
 
 use crate::fault::PivotFault;
-use crate::lines::{Entry, Line};
 use crate::mixed::{MixedRow, is_zero_at, pivot_mixed};
 use std::alloc::{AllocError, Global};
 use tetri_rows::Terms;
@@ -127,19 +125,20 @@ pub(crate) fn spread(
     }
 }
 
-// Sets a row's bit in each column of which the row has an entry.
-fn hold_entries(columns: u32, holders: &mut [Vec<u64>], words: usize, entries: &[Entry], k: usize)
-    requires entries { AreEntries columns entries.now }
+// Sets a row's bit in each column in which the row is not 0.
+fn hold_row(columns: u32, holders: &mut [Vec<u64>], words: usize, row: &MixedRow, k: usize)
+    requires row { IsMixedRow columns row.now }
     requires columns { length holders.old ≡ columns }
     requires words { All (λ v. length v.items ≡ words) holders.old }
     requires within { k / 64 < words }
     ensures words { All (λ v. length v.items ≡ words) holders.new }
     ensures before { (p q : ℕ) → bit (words_at holders.new p) q ≡ 0 → bit (words_at holders.old p) q ≡ 0 }
-    ensures own { (p : ℕ) → bit (words_at holders.new p) k ≡ 0 → number_of entries.now p ≡ zero_ℚ }
+    ensures own { (p : ℕ) → p < columns → bit (words_at holders.new p) k ≡ 0 → get_or (mixed_row row.now) (suc p) zero_ℚ ≡ zero_ℚ }
 {
-    for t in 0..entries.len() {
-        let place = entries[t].place as usize;
-        set_bit(&mut holders[place], k);
+    for p in 0..holders.len() {
+        if !is_zero_at(columns, row, p + 1) {
+            set_bit(&mut holders[p], k);
+        }
     }
 }
 
@@ -155,19 +154,19 @@ fn none(alloc: Global, columns: u32, words: usize) -> Result<Vec<Vec<u64>>, Allo
     Ok(holders)
 }
 
-/// The bits of a dictionary's rows, which are given by their entries.
+/// The bits of a dictionary's rows.
 pub(crate) fn holders_of(
     alloc: Global,
     columns: u32,
-    lines: &[Line],
+    rows: &[MixedRow],
 ) -> Result<Vec<Vec<u64>>, AllocError>
-    requires { AreLines columns lines.now }
-    ensures { IfOk result (λ h. AreHolders columns h.items (lines_of columns lines.now)) }
+    requires { AreMixedRows columns rows.now }
+    ensures { IfOk result (λ h. AreHolders columns h.items (mixed_rows rows.now)) }
 {
-    let words = lines.len() / 64 + 1;
+    let words = rows.len() / 64 + 1;
     let mut holders = none(alloc, columns, words)?;
-    for k in 0..lines.len() {
-        hold_entries(columns, &mut holders, words, &lines[k].entries, k);
+    for k in 0..rows.len() {
+        hold_row(columns, &mut holders, words, &rows[k], k);
     }
     Ok(holders)
 }

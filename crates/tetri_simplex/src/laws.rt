@@ -3,10 +3,13 @@
 
 ghost use Rattle.std.specs.Prelude.{◌≡◌, ◌≢◌, ◌<◌, ℕ, List, length, map, All, ◌≤ℤ◌, ◌<ℤ◌};
 ghost use Rattle.tetri_algebra.specs.Rational.{ℚ, whole_ℚ};
-ghost use Rattle.tetri_algebra.specs.RationalOrder.{floor_ℚ};
+ghost use Rattle.tetri_algebra.specs.RationalOrder.{◌≤ℚ◌, floor_ℚ};
+ghost use lib.IntN.{ℤ};
 ghost use Rattle.tetri_ip.specs.Points.{Bounds, IsInBox, IsPoint, number_at, objective};
 ghost use Rattle.tetri_ip.specs.declared.programs.Program.{Program};
+ghost use Rattle.tetri_ip.specs.declared.programs.Weight.{Weight};
 ghost use Rattle.tetri_simplex.specs.Certificates.{Certifies};
+ghost use Rattle.tetri_simplex.specs.Ends.{best};
 ghost use Rattle.tetri_simplex.specs.Machine.{machine};
 ghost use Rattle.tetri_simplex.specs.Relaxation.{IsRelaxedPoint, IsWhole, coordinate, numerators, objective_value};
 
@@ -15,11 +18,15 @@ ghost use Rattle.tetri_simplex.specs.Relaxation.{IsRelaxedPoint, IsWhole, coordi
 /// and in range, and the weighed number is formed with them. The multiplier of the first two is
 /// above 0. With the best point, the point is in the region and meets each row, the floor of its
 /// objective is above the best objective known, and the weighed number is the multiplier times
-/// its objective, so that no whole point of the region is worth more. With a cut, the floor of
+/// its objective, so that no point of the region, whole or not, is worth more. With a cut, the floor of
 /// the weighed number by the multiplier is at most the best objective known. With an empty
 /// region, the number weighed with the multiplier 0 is below 0.
 pub fn ends_certify()
-    ensures { (p : Program) (b : Bounds) (known : ℕ) → IsInBox p b → Certifies p b known (machine p b known) }
+    ensures certified { (p : Program) (b : Bounds) (known : ℕ) → IsInBox p b →
+        Certifies p b known (machine p b known) }
+    ensures best { (p : Program) (b : Bounds) (known : ℕ) (point other : List ℚ) (q : ℤ) (ws : List Weight) →
+        IsInBox p b → machine p b known ≡ best point q ws → IsRelaxedPoint p b other →
+        objective_value p other ≤ℚ objective_value p point }
 {}
 
 /// A point of the relaxation whose coordinates are whole is a point of the region with the same

@@ -6,6 +6,7 @@ mod dictionary;
 mod ends;
 mod fault;
 mod first_places;
+mod first_rows;
 mod fractions;
 mod full;
 mod holders;

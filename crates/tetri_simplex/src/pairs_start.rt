@@ -1,117 +1,170 @@
-//! The first dictionary that keeps one row for the two variables of a column, from the first sparse one.
+//! The first dictionary that keeps one row for the two variables of a column.
 
-ghost use Rattle.std.specs.Prelude.{◌≡◌, ◌+◌, ◌-◌, ◌<◌, ◌^◌, ◌∷◌, ◌++◌, [], All, length, IfOk, IfSome, IsTrue};
+ghost use Rattle.std.specs.Prelude.{◌≡◌, ◌≢◌, ℕ, ◌+◌, ◌-◌, ◌<◌, ◌≤◌, ◌≤ℤ◌, ◌^◌, ◌∷◌, ◌++◌, [], All, length, get_or, map, pos, None, IfOk, IfSome, IsTrue};
+ghost use Rattle.tetri_algebra.specs.Rational.{whole_ℚ};
+ghost use Rattle.tetri_algebra.specs.Range.{IsWithin};
 ghost use Rattle.tetri_ip.specs.Points.{IsFit, IsInBox, bounds_of};
 ghost use Rattle.tetri_simplex.specs.declared.origins.Origin.TheVariants.{Kept};
-ghost use Rattle.tetri_simplex.specs.Below.{below_of};
-ghost use Rattle.tetri_simplex.specs.Mixed.{AreMixedRows, IsMixedRow};
+ghost use Rattle.tetri_simplex.specs.Drafts.{draft_rows, IsDraft};
+ghost use Rattle.tetri_simplex.specs.Mirrors.{mirror, variable_row, IsMirrorWithin};
+ghost use Rattle.tetri_simplex.specs.Mixed.{mixed_row, AreMixedRows, IsMixedRow};
 ghost use Rattle.tetri_simplex.specs.Pairs.{table_of, origin_at, IsPairs, IsWholeRow};
-ghost use Rattle.tetri_simplex.specs.Sorting.{sorted_rows, IsColumnRow, IsSorted};
-ghost use Rattle.tetri_simplex.specs.Sparse.{AreEntries, AreLines, line_of, lines_of};
-ghost use Rattle.tetri_simplex.specs.Start.{first_table};
+ghost use Rattle.tetri_simplex.specs.Start.{IsStart, bound_rows, first_table, minus_one_at, slack_row};
 
-use crate::fractions::is_negative;
+use crate::first_rows::{bound, objective, slack};
 use crate::holders::holders_of;
-use crate::lines::Line;
-use crate::mixed::{MixedRow, below_of};
+use crate::mixed::{MixedRow, below_of, is_negative_at};
 use crate::origins::Origin;
 use crate::pairs::Pairs;
-use crate::short_ways::is_minus_one;
-use crate::sparse::Sparse;
-use crate::start_lines::first_sparse;
-use crate::whole_start::rows_of_lines;
+use crate::start::{corner, numbers_from, width_at};
 use std::alloc::{AllocError, Global};
 use tetri_ip::{Program, Region};
-use tetri_rows::{Terms, short};
+use tetri_rows::Terms;
 
 // Where a mirror's width ends.
-const WIDE: i64 = 1024;
+const WIDE: i128 = 1024;
 
-/// Lines of which some are kept, and others are the width less a variable.
+/// The first dictionary, place by place.
 #[derive(Drop)]
-pub(crate) struct Sorted {
-    kept: Vec<Line>,
-    // where the rows of all lines come from
-    origins: Vec<Origin>,
-    // the place of each kept line
+pub(crate) struct Draft {
+    // the rows that are kept, and the place of each
+    rows: Vec<MixedRow>,
     homes: Vec<usize>,
-    // for each nonbasic place that of the line that is the width less its variable
+    // for each place where its row comes from, and whether its constant is below 0
+    origins: Vec<Origin>,
+    below: Vec<bool>,
+    // for each nonbasic place that whose row is a width less its variable
     columns: Vec<Option<usize>>,
 }
 
-// The place and the width where the line is a small width less the variable of a nonbasic place.
-fn column_line(columns: u32, line: &Line) -> Option<(usize, i64)>
-    requires { AreEntries columns line.now.entries.items }
-    ensures { IfSome result (λ c. IsColumnRow columns (line_of columns line.now) c.0 c.1) }
+// No place yet.
+fn no_places(alloc: Global, columns: u32) -> Result<Draft, AllocError>
+    ensures draft { IfOk result (λ d. IsDraft columns d) }
+    ensures rows { IfOk result (λ d. draft_rows columns d ≡ []) }
+    ensures free { IfOk result (λ d. (p : ℕ) → get_or d.columns.items p None ≡ None) }
 {
-    if line.entries.len() != 1 || !is_minus_one(line.entries[0].number) {
-        return None;
-    }
-    match short(line.constant) {
-        Some(width) if 0 <= width && width < WIDE => Some((line.entries[0].place as usize, width)),
-        _ => None,
-    }
+    Ok(Draft {
+        rows: Vec::new(alloc),
+        homes: Vec::new(alloc),
+        origins: Vec::new(alloc),
+        below: Vec::new(alloc),
+        columns: vec![in alloc; None; columns as usize]?,
+    })
 }
 
-// Keeps the line behind those so far.
-fn keep(columns: u32, sorted: &mut Sorted, line: Line) -> Result<(), AllocError>
-    requires sorted { IsSorted columns sorted.old }
-    requires line { AreEntries columns line.entries.items }
-    ensures sorted { IfOk result (λ _. IsSorted columns sorted.new) }
-    ensures rows { IfOk result (λ _. sorted_rows columns sorted.new ≡ sorted_rows columns sorted.old ++ (line_of columns line ∷ [])) }
-    ensures last { IfOk result (λ _. origin_at sorted.new.origins.items (length sorted.old.origins.items) ≡ Kept (length sorted.new.kept.items - 1)) }
-    ensures some { IfOk result (λ _. 0 < length sorted.new.kept.items) }
+// Keeps the row of the next place.
+fn keep(columns: u32, draft: &mut Draft, row: MixedRow) -> Result<(), AllocError>
+    requires draft { IsDraft columns draft.old }
+    requires row { IsMixedRow columns row }
+    ensures draft { IfOk result (λ _. IsDraft columns draft.new) }
+    ensures rows { IfOk result (λ _.
+        draft_rows columns draft.new ≡ draft_rows columns draft.old ++ (mixed_row row ∷ [])) }
+    ensures last { IfOk result (λ _. origin_at draft.new.origins.items (length draft.old.origins.items)
+        ≡ Kept (length draft.new.rows.items - 1)) }
+    ensures some { IfOk result (λ _. 0 < length draft.new.rows.items) }
+    ensures columns { IfOk result (λ _. draft.new.columns.items ≡ draft.old.columns.items) }
 {
-    sorted.homes.push(sorted.origins.len())?;
-    sorted.origins.push(Origin::Kept(sorted.kept.len()))?;
-    sorted.kept.push(line)?;
+    draft.below.push(is_negative_at(columns, &row, 0))?;
+    draft.homes.push(draft.origins.len())?;
+    draft.origins.push(Origin::Kept(draft.rows.len()))?;
+    draft.rows.push(row)?;
     Ok(())
 }
 
-// Sorts one line more.
-fn sort_line(columns: u32, sorted: &mut Sorted, line: Line) -> Result<(), AllocError>
-    requires sorted { IsSorted columns sorted.old }
-    requires line { AreEntries columns line.entries.items }
-    ensures sorted { IfOk result (λ _. IsSorted columns sorted.new) }
-    ensures rows { IfOk result (λ _. sorted_rows columns sorted.new ≡ sorted_rows columns sorted.old ++ (line_of columns line ∷ [])) }
+// The row of the next place is the width less the variable of a nonbasic place, which has no such place yet.
+fn mirror_column(
+    columns: u32,
+    draft: &mut Draft,
+    place: usize,
+    width: i64,
+) -> Result<(), AllocError>
+    requires draft { IsDraft columns draft.old }
+    requires within { IsMirrorWithin columns place width }
+    requires free { get_or draft.old.columns.items place None ≡ None }
+    ensures draft { IfOk result (λ _. IsDraft columns draft.new) }
+    ensures rows { IfOk result (λ _. draft_rows columns draft.new
+        ≡ draft_rows columns draft.old ++ (mirror width (variable_row columns place) ∷ [])) }
+    ensures others { IfOk result (λ _. (q : ℕ) → q ≢ place →
+        get_or draft.new.columns.items q None ≡ get_or draft.old.columns.items q None) }
 {
-    if let Some((place, width)) = column_line(columns, &line) {
-        if sorted.columns[place].is_none() {
-            sorted.columns[place] = Some(sorted.origins.len());
-            sorted.origins.push(Origin::Column { place, width })?;
-            return Ok(());
-        }
-    }
-    keep(columns, sorted, line)
+    draft.columns[place] = Some(draft.origins.len());
+    draft.below.push(false)?;
+    draft.origins.push(Origin::Column { place, width })?;
+    Ok(())
 }
 
-// The lines, sorted.
-fn sort_lines(alloc: Global, columns: u32, lines: Vec<Line>) -> Result<Sorted, AllocError>
-    requires { AreLines columns lines.items }
-    ensures sorted { IfOk result (λ s. IsSorted columns s) }
-    ensures rows { IfOk result (λ s. sorted_rows columns s ≡ lines_of columns lines.items) }
+// The slacks of the program's rows.
+fn add_slacks(
+    alloc: Global,
+    p: &Program,
+    start: &[i128],
+    draft: &mut Draft,
+) -> Result<(), AllocError>
+    requires fit { IsFit p.now }
+    requires start { IsStart p.now start.now }
+    requires draft { IsDraft (length p.now.costs.items) draft.old }
+    ensures draft { IfOk result (λ _. IsDraft (length p.now.costs.items) draft.new) }
+    ensures rows { IfOk result (λ _. draft_rows (length p.now.costs.items) draft.new
+        ≡ draft_rows (length p.now.costs.items) draft.old
+        ++ map (map whole_ℚ) (map (slack_row p.now.costs.items start.now) p.now.rows.items)) }
+    ensures columns { IfOk result (λ _. draft.new.columns.items ≡ draft.old.columns.items) }
 {
-    let mut sorted = Sorted {
-        kept: Vec::new(alloc),
-        origins: Vec::new(alloc),
-        homes: Vec::new(alloc),
-        columns: vec![in alloc; None; columns as usize]?,
-    };
-    for line in lines {
-        sort_line(columns, &mut sorted, line)?;
+    let columns = p.costs.len() as u32;
+    for i in 0..p.rows.len() {
+        keep(columns, draft, slack(alloc, p, &p.rows[i], start)?)?;
     }
-    Ok(sorted)
+    Ok(())
 }
 
-// Which lines' constants are below 0.
-fn lines_below(alloc: Global, columns: u32, lines: &[Line]) -> Result<Vec<bool>, AllocError>
-    ensures { IfOk result (λ v. v.items ≡ below_of (lines_of columns lines.now)) }
+// The slack of the bounds of column j, with this width.
+fn add_bound(
+    alloc: Global,
+    p: &Program,
+    j: usize,
+    width: i128,
+    draft: &mut Draft,
+) -> Result<(), AllocError>
+    requires fit { IsFit p.now }
+    requires column { j < length p.now.costs.items }
+    requires width { IsWithin width }
+    requires sign { pos 0 ≤ℤ width }
+    requires draft { IsDraft (length p.now.costs.items) draft.old }
+    requires free { get_or draft.old.columns.items j None ≡ None }
+    ensures draft { IfOk result (λ _. IsDraft (length p.now.costs.items) draft.new) }
+    ensures rows { IfOk result (λ _. draft_rows (length p.now.costs.items) draft.new
+        ≡ draft_rows (length p.now.costs.items) draft.old
+        ++ (map whole_ℚ (width ∷ minus_one_at j 0 p.now.costs.items) ∷ [])) }
+    ensures others { IfOk result (λ _. (q : ℕ) → q ≢ j →
+        get_or draft.new.columns.items q None ≡ get_or draft.old.columns.items q None) }
 {
-    let mut below = Vec::new(alloc);
-    for k in 0..lines.len() {
-        below.push(is_negative(lines[k].constant))?;
+    let columns = p.costs.len() as u32;
+    if width < WIDE {
+        mirror_column(columns, draft, j, width as i64)
+    } else {
+        keep(columns, draft, bound(alloc, p, j, width)?)
     }
-    Ok(below)
+}
+
+// The slacks of the columns' bounds.
+fn add_bounds(
+    alloc: Global,
+    p: &Program,
+    r: &Region,
+    draft: &mut Draft,
+) -> Result<(), AllocError>
+    requires fit { IsFit p.now }
+    requires in_box { IsInBox p.now (bounds_of r.now) }
+    requires draft { IsDraft (length p.now.costs.items) draft.old }
+    requires free { (q : ℕ) → get_or draft.old.columns.items q None ≡ None }
+    ensures draft { IfOk result (λ _. IsDraft (length p.now.costs.items) draft.new) }
+    ensures rows { IfOk result (λ _. draft_rows (length p.now.costs.items) draft.new
+        ≡ draft_rows (length p.now.costs.items) draft.old
+        ++ map (map whole_ℚ) (bound_rows 0 p.now.costs.items r.now.lower.items r.now.upper.items)) }
+{
+    for j in 0..p.costs.len() {
+        add_bound(alloc, p, j, width_at(p, r, j), draft)?;
+    }
+    Ok(())
 }
 
 // Whether a row is of short whole numbers.
@@ -138,42 +191,40 @@ fn are_whole(columns: u32, rows: &[MixedRow]) -> bool
     true
 }
 
-// The dictionary of sorted lines, whose last one is the objective's. None where a kept row is not of short whole numbers.
+// The dictionary of a draft, whose last place is the objective's. None where a kept row is not of short whole numbers.
 fn pairs_of(
     alloc: Global,
     nonbasic: Vec<usize>,
     basic: Vec<usize>,
-    below: Vec<bool>,
-    sorted: Sorted,
+    draft: Draft,
 ) -> Result<Option<Pairs>, AllocError>
-    requires sorted { IsSorted (length nonbasic.items) sorted }
-    requires some { 0 < length sorted.kept.items }
-    requires objective { origin_at sorted.origins.items (length basic.items) ≡ Kept (length sorted.kept.items - 1) }
-    requires count { length sorted.origins.items ≡ length basic.items + 1 }
-    requires below { below.items ≡ below_of (sorted_rows (length nonbasic.items) sorted) }
-    requires few_rows { length sorted.origins.items < 2 ^ 32 }
+    requires draft { IsDraft (length nonbasic.items) draft }
+    requires some { 0 < length draft.rows.items }
+    requires objective { origin_at draft.origins.items (length basic.items) ≡ Kept (length draft.rows.items - 1) }
+    requires count { length draft.origins.items ≡ length basic.items + 1 }
+    requires few_rows { length draft.origins.items < 2 ^ 32 }
     requires few_columns { length nonbasic.items < 2 ^ 31 }
-    ensures table { IfOk result (λ o. IfSome o (λ t. table_of t ≡ record { nonbasic = nonbasic.items; basic = basic.items; rows = sorted_rows (length nonbasic.items) sorted })) }
+    ensures table { IfOk result (λ o. IfSome o (λ t. table_of t
+        ≡ record { nonbasic = nonbasic.items; basic = basic.items; rows = draft_rows (length nonbasic.items) draft })) }
     ensures sound { IfOk result (λ o. IfSome o (λ t. IsPairs t)) }
 {
     let columns = nonbasic.len() as u32;
-    let rows = rows_of_lines(alloc, columns, &sorted.kept)?;
-    if !are_whole(columns, &rows) {
+    if !are_whole(columns, &draft.rows) {
         return Ok(None);
     }
-    let row_below = below_of(alloc, columns, &rows)?;
-    let holders = holders_of(alloc, columns, &sorted.kept)?;
-    let mirrors = vec![in alloc; None; rows.len()]?;
+    let row_below = below_of(alloc, columns, &draft.rows)?;
+    let holders = holders_of(alloc, columns, &draft.rows)?;
+    let mirrors = vec![in alloc; None; draft.rows.len()]?;
     Ok(Some(Pairs {
         nonbasic,
         basic,
-        origins: sorted.origins,
-        below,
-        rows,
+        origins: draft.origins,
+        below: draft.below,
+        rows: draft.rows,
         row_below,
-        homes: sorted.homes,
+        homes: draft.homes,
         mirrors,
-        columns: sorted.columns,
+        columns: draft.columns,
         holders,
         terms: Terms::new(alloc),
     }))
@@ -191,18 +242,13 @@ pub(crate) fn first_pairs(
     ensures table { IfOk result (λ o. IfSome o (λ t. table_of t ≡ first_table p.now (bounds_of r.now))) }
     ensures sound { IfOk result (λ o. IfSome o (λ t. IsPairs t)) }
 {
-    let Sparse {
-        nonbasic,
-        basic,
-        mut lines,
-        scratch: _,
-    } = first_sparse(alloc, p, r)?;
-    let columns = nonbasic.len() as u32;
-    let below = lines_below(alloc, columns, &lines)?;
-    let Some(objective) = lines.pop() else {
-        return Ok(None);
-    };
-    let mut sorted = sort_lines(alloc, columns, lines)?;
-    keep(columns, &mut sorted, objective)?;
-    pairs_of(alloc, nonbasic, basic, below, sorted)
+    let columns = p.costs.len();
+    let start = corner(alloc, p, r)?;
+    let mut draft = no_places(alloc, columns as u32)?;
+    add_slacks(alloc, p, &start, &mut draft)?;
+    add_bounds(alloc, p, r, &mut draft)?;
+    keep(columns as u32, &mut draft, objective(alloc, p, &start)?)?;
+    let nonbasic = numbers_from(alloc, 0, columns)?;
+    let basic = numbers_from(alloc, columns, p.rows.len() + columns)?;
+    pairs_of(alloc, nonbasic, basic, draft)
 }

@@ -1,6 +1,6 @@
 //! The first table: each column starts at the bound that its cost prefers.
 
-ghost use Rattle.std.specs.Prelude.{◌≡◌, ◌+◌, ◌<◌, ◌^◌, ◌∷◌, ◌++◌, length, map, cond, ◌==◌, pos, ◌-ℤ◌, ◌*ℤ◌, IfOk};
+ghost use Rattle.std.specs.Prelude.{◌≡◌, ◌+◌, ◌<◌, ◌^◌, ◌∷◌, ◌++◌, length, map, cond, ◌==◌, pos, ◌-ℤ◌, ◌*ℤ◌, ◌≤ℤ◌, IfOk};
 ghost use Rattle.std.specs.List.{range_with_len};
 ghost use lib.IntN.{negsuc, neg_ℤ};
 ghost use Rattle.tetri_algebra.specs.IntegerRing.{ℤ_ring};
@@ -75,6 +75,16 @@ pub(crate) fn slack_at(p: &Program, row: &Row, start: &[i128]) -> i128
     row.right - left
 }
 
+/// The coefficient of a column's variable in a slack with so much of the column.
+pub(crate) fn slack_number(p: &Program, by: i128, j: usize) -> i128
+    requires column { j < length p.now.costs.items }
+    requires within { IsWithin by }
+    ensures value { result ≡ neg_ℤ (by *ℤ direction (number_at p.now.costs.items j)) }
+    ensures within { IsWithin result }
+{
+    -directed(by, p.costs[j])
+}
+
 // The coefficient of a column's variable in a row's slack.
 fn slack_coefficient(p: &Program, row: &Row, j: usize) -> i128
     requires fit { IsFit p.now }
@@ -84,11 +94,11 @@ fn slack_coefficient(p: &Program, row: &Row, j: usize) -> i128
     ensures within { IsWithin result }
 {
     let by = coefficient_of(row, j as u32);
-    -directed(by, p.costs[j])
+    slack_number(p, by, j)
 }
 
 // The slack of a row of the program.
-fn slack_row(alloc: Global, p: &Program, row: &Row, start: &[i128]) -> Result<Vec<Frac>, AllocError>
+pub(crate) fn slack_row(alloc: Global, p: &Program, row: &Row, start: &[i128]) -> Result<Vec<Frac>, AllocError>
     requires fit { IsFit p.now }
     requires row { IsFitRow p.now row.now.terms.items row.now.right }
     requires start { IsStart p.now start.now }
@@ -111,7 +121,7 @@ fn bound_coefficient(j: usize, k: usize) -> i128
 }
 
 // The slack of the bounds of column j, with this width.
-fn bound_row(alloc: Global, p: &Program, j: usize, width: i128) -> Result<Vec<Frac>, AllocError>
+pub(crate) fn bound_row(alloc: Global, p: &Program, j: usize, width: i128) -> Result<Vec<Frac>, AllocError>
     requires { IsWithin width }
     ensures { IfOk result (λ v. values v.items ≡ whole_ℚ width ∷ map whole_ℚ (minus_one_at j 0 p.now.costs.items)) }
 {
@@ -139,7 +149,7 @@ pub(crate) fn objective_at(p: &Program, start: &[i128]) -> i128
 }
 
 // The row of the objective.
-fn objective_row(alloc: Global, p: &Program, start: &[i128]) -> Result<Vec<Frac>, AllocError>
+pub(crate) fn objective_row(alloc: Global, p: &Program, start: &[i128]) -> Result<Vec<Frac>, AllocError>
     requires fit { IsFit p.now }
     requires start { IsStart p.now start.now }
     ensures { IfOk result (λ v. values v.items ≡ map whole_ℚ (objective_row p.now.costs.items start.now)) }
@@ -173,6 +183,7 @@ pub(crate) fn width_at(p: &Program, r: &Region, j: usize) -> i128
     requires column { j < length p.now.costs.items }
     ensures value { result ≡ number_at r.now.upper.items j -ℤ number_at r.now.lower.items j }
     ensures within { IsWithin result }
+    ensures sign { pos 0 ≤ℤ result }
 {
     r.upper[j] - r.lower[j]
 }

@@ -10,20 +10,10 @@ ghost use Rattle.tetri_simplex.specs.Start.{IsStart, bound_rows, direction, firs
 
 use crate::lines::{Entry, Line};
 use crate::sparse::Sparse;
-use crate::start::{corner, directed, numbers_from, objective_at, slack_at, width_at};
+use crate::start::{corner, directed, numbers_from, objective_at, slack_at, slack_number, width_at};
 use std::alloc::{AllocError, Global};
 use tetri_ip::{Program, Region, Row};
 use tetri_num::Frac;
-
-// The coefficient of a column's variable in a slack with so much of the column.
-fn slack_number(p: &Program, by: i128, j: usize) -> i128
-    requires column { j < length p.now.costs.items }
-    requires within { IsWithin by }
-    ensures value { result ≡ neg_ℤ (by *ℤ direction (number_at p.now.costs.items j)) }
-    ensures within { IsWithin result }
-{
-    -directed(by, p.costs[j])
-}
 
 // The entries of the slack of a row of the program.
 fn slack_entries(alloc: Global, p: &Program, row: &Row) -> Result<Vec<Entry>, AllocError>

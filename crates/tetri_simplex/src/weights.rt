@@ -1,11 +1,10 @@
 //! The weights that a row of a table gives the program's rows: the simplex multipliers.
 
-ghost use Rattle.std.specs.Prelude.{◌≡◌, ℕ, ◌+◌, ◌<◌, ◌≤◌, ◌^◌, length, get_or, pos, ◌<ℤ◌, ◌*ℤ◌, Ok, Err, IfOk, IfSome, MatchResult, All, unsigned_abs, cond, ◌==◌};
+ghost use Rattle.std.specs.Prelude.{◌≡◌, ℕ, ◌+◌, ◌<◌, ◌≤◌, ◌^◌, length, get_or, pos, ◌<ℤ◌, Ok, Err, IfOk, IfSome, MatchResult, All, unsigned_abs, cond, ◌==◌};
 ghost use Rattle.tetri_algebra.specs.Rational.{whole_ℚ};
 ghost use Rattle.tetri_algebra.specs.RationalRing.{neg_ℚ};
 ghost use Rattle.tetri_num.specs.Frac.{value};
 ghost use Rattle.tetri_algebra.specs.Range.{IsWithin};
-ghost use Rattle.tetri_ip.specs.Forming.{within};
 ghost use Rattle.tetri_simplex.specs.FirstPlaces.{IsFirstPlace};
 ghost use Rattle.tetri_simplex.specs.Fractions.{values};
 ghost use Rattle.tetri_simplex.specs.Faults.{IsFault};
@@ -17,7 +16,7 @@ use crate::fault::PivotFault;
 use crate::first_places::first_places;
 use crate::fractions::negated;
 use std::alloc::{AllocError, Global};
-use tetri_ip::{Row, Weight};
+use tetri_ip::{Row, Weight, product};
 use tetri_num::{Frac, Kind, Place, lcm};
 
 // The coefficient in a row of the variable whose nonbasic place is that at place i of the list: 0
@@ -110,16 +109,6 @@ pub(crate) fn common_denominator(weights: &[Frac]) -> Result<i128, Place>
         }
     }
     Ok(q)
-}
-
-// The product, if it is from -(2^127 - 1) to 2^127 - 1.
-fn product(a: i128, b: i128) -> Option<i128>
-    ensures { result ≡ within (a *ℤ b) }
-{
-    match a.checked_mul(b) {
-        Some(x) if x != i128::MIN => Some(x),
-        _ => None,
-    }
 }
 
 /// `q` times each weight, without zeros.

@@ -1,106 +1,52 @@
-//! The first dictionary of whole numbers, from the first sparse one.
+//! The first dictionary of whole numbers.
 
-ghost use Rattle.std.specs.Prelude.{◌≡◌, ℕ, ◌+◌, ◌<◌, ◌∷◌, ◌^◌, All, length, get_or, IfOk, IfSome, IsTrue, pos};
-ghost use Rattle.tetri_num.specs.Frac.{value};
+ghost use Rattle.std.specs.Prelude.{◌≡◌, ◌++◌, length, map, IfOk};
+ghost use Rattle.tetri_algebra.specs.Rational.{whole_ℚ};
 ghost use Rattle.tetri_ip.specs.Points.{IsFit, IsInBox, bounds_of};
-ghost use Rattle.tetri_algebra.specs.Rational.{fraction};
-ghost use Rattle.tetri_rows.specs.Rows.{meaning};
-ghost use Rattle.tetri_rows.specs.Small.{IsShort};
-ghost use Rattle.tetri_simplex.specs.Fractions.{values};
-ghost use Rattle.tetri_simplex.specs.Mixed.{mixed_row, mixed_rows, AreWholeNumbers, IsMixedRow, AreMixedRows};
-ghost use Rattle.tetri_simplex.specs.Sparse.{AreEntries, AreLines, line_of, lines_of, number_of};
-ghost use Rattle.tetri_simplex.specs.Start.{first_table};
+ghost use Rattle.tetri_simplex.specs.Mixed.{mixed_rows, AreMixedRows};
+ghost use Rattle.tetri_simplex.specs.Start.{IsStart, bound_rows, first_table, slack_row};
 ghost use Rattle.tetri_simplex.specs.Whole.{table_of, IsWhole};
 
+use crate::first_rows::{bound, objective, slack};
 use crate::holders::holders_of;
-use crate::lines::{Entry, Line, number_of};
 use crate::mixed::{MixedRow, below_of};
-use crate::start_lines::first_sparse;
+use crate::start::{corner, numbers_from, width_at};
 use crate::whole::Whole;
 use std::alloc::{AllocError, Global};
 use tetri_ip::{Program, Region};
-use tetri_num::Frac;
-use tetri_rows::{Terms, short};
+use tetri_rows::Terms;
 
-// Writes the numbers of entries behind a constant, where all other coefficients are 0. False where a number is not
-// whole or not short.
-fn set_entries(columns: u32, numbers: &mut [i64], entries: &[Entry]) -> bool
-    requires entries { AreEntries columns entries.now }
-    requires wide { length numbers.old ≡ columns + 1 }
-    requires short { All IsShort numbers.old }
-    requires zeros { (q : ℕ) → q < columns → get_or numbers.old (q + 1) (pos 0) ≡ pos 0 }
-    ensures coefficients { IsTrue result → (q : ℕ) → q < columns → fraction (get_or numbers.new (q + 1) (pos 0)) 1 ≡ number_of entries.now q }
-    ensures constant { get_or numbers.new 0 (pos 0) ≡ get_or numbers.old 0 (pos 0) }
-    ensures short { All IsShort numbers.new }
+// The slacks of the program's rows.
+fn slacks(alloc: Global, p: &Program, start: &[i128]) -> Result<Vec<MixedRow>, AllocError>
+    requires fit { IsFit p.now }
+    requires start { IsStart p.now start.now }
+    ensures numbers { IfOk result (λ v. mixed_rows v.items
+        ≡ map (map whole_ℚ) (map (slack_row p.now.costs.items start.now) p.now.rows.items)) }
+    ensures sound { IfOk result (λ v. AreMixedRows (length p.now.costs.items) v.items) }
 {
-    for k in 0..entries.len() {
-        let entry = entries[k];
-        let Some(number) = short(entry.number) else {
-            return false;
-        };
-        numbers[entry.place as usize + 1] = number;
+    let mut rows = Vec::with_capacity(alloc, p.rows.len())?;
+    for i in 0..p.rows.len() {
+        rows.push(slack(alloc, p, &p.rows[i], start)?)?;
     }
-    true
+    Ok(rows)
 }
 
-// The numbers of a line, where all are whole and short.
-fn whole_numbers(alloc: Global, columns: u32, line: &Line) -> Result<Option<Vec<i64>>, AllocError>
-    requires { AreEntries columns line.now.entries.items }
-    ensures numbers { IfOk result (λ o. IfSome o (λ v. meaning (pos 1) v.items ≡ line_of columns line.now)) }
-    ensures sound { IfOk result (λ o. IfSome o (λ v. AreWholeNumbers columns (pos 1) v.items)) }
-{
-    let Some(constant) = short(line.constant) else {
-        return Ok(None);
-    };
-    let mut numbers = vec![in alloc; 0i64; columns as usize + 1]?;
-    numbers[0] = constant;
-    if set_entries(columns, &mut numbers, &line.entries) {
-        Ok(Some(numbers))
-    } else {
-        Ok(None)
-    }
-}
-
-// The numbers of a line.
-fn fraction_numbers(alloc: Global, columns: u32, line: &Line) -> Result<Vec<Frac>, AllocError>
-    requires { AreEntries columns line.now.entries.items }
-    ensures numbers { IfOk result (λ v. values v.items ≡ line_of columns line.now) }
-    ensures wide { IfOk result (λ v. length v.items ≡ columns + 1) }
-{
-    let mut numbers = Vec::new(alloc);
-    numbers.push(line.constant)?;
-    for j in 0..columns {
-        numbers.push(number_of(&line.entries, j))?;
-    }
-    Ok(numbers)
-}
-
-// The row of a line.
-fn row_of_line(alloc: Global, columns: u32, line: &Line) -> Result<MixedRow, AllocError>
-    requires { AreEntries columns line.now.entries.items }
-    ensures numbers { IfOk result (λ r. mixed_row r ≡ line_of columns line.now) }
-    ensures sound { IfOk result (λ r. IsMixedRow columns r) }
-{
-    if let Some(numbers) = whole_numbers(alloc, columns, line)? {
-        return Ok(MixedRow::Whole { den: 1, numbers });
-    }
-    let numbers = fraction_numbers(alloc, columns, line)?;
-    Ok(MixedRow::Fractions(numbers))
-}
-
-/// The rows of lines.
-pub(crate) fn rows_of_lines(
+// The rows with the slacks of the columns' bounds behind them.
+fn with_bounds(
     alloc: Global,
-    columns: u32,
-    lines: &[Line],
+    p: &Program,
+    r: &Region,
+    mut rows: Vec<MixedRow>,
 ) -> Result<Vec<MixedRow>, AllocError>
-    requires { AreLines columns lines.now }
-    ensures numbers { IfOk result (λ v. mixed_rows v.items ≡ lines_of columns lines.now) }
-    ensures sound { IfOk result (λ v. AreMixedRows columns v.items) }
+    requires fit { IsFit p.now }
+    requires in_box { IsInBox p.now (bounds_of r.now) }
+    requires sound { AreMixedRows (length p.now.costs.items) rows.items }
+    ensures numbers { IfOk result (λ v. mixed_rows v.items ≡ mixed_rows rows.items
+        ++ map (map whole_ℚ) (bound_rows 0 p.now.costs.items r.now.lower.items r.now.upper.items)) }
+    ensures sound { IfOk result (λ v. AreMixedRows (length p.now.costs.items) v.items) }
 {
-    let mut rows = Vec::new(alloc);
-    for k in 0..lines.len() {
-        rows.push(row_of_line(alloc, columns, &lines[k])?)?;
+    for j in 0..p.costs.len() {
+        rows.push(bound(alloc, p, j, width_at(p, r, j))?)?;
     }
     Ok(rows)
 }
@@ -112,14 +58,18 @@ pub(crate) fn first_whole(alloc: Global, p: &Program, r: &Region) -> Result<Whol
     ensures table { IfOk result (λ t. table_of t ≡ first_table p.now (bounds_of r.now)) }
     ensures sound { IfOk result (λ t. IsWhole t) }
 {
-    let sparse = first_sparse(alloc, p, r)?;
-    let columns = sparse.nonbasic.len() as u32;
-    let rows = rows_of_lines(alloc, columns, &sparse.lines)?;
-    let below = below_of(alloc, columns, &rows)?;
-    let holders = holders_of(alloc, columns, &sparse.lines)?;
+    let start = corner(alloc, p, r)?;
+    let slacks = slacks(alloc, p, &start)?;
+    let mut rows = with_bounds(alloc, p, r, slacks)?;
+    rows.push(objective(alloc, p, &start)?)?;
+    let columns = p.costs.len();
+    let below = below_of(alloc, columns as u32, &rows)?;
+    let holders = holders_of(alloc, columns as u32, &rows)?;
+    let nonbasic = numbers_from(alloc, 0, columns)?;
+    let basic = numbers_from(alloc, columns, p.rows.len() + columns)?;
     Ok(Whole {
-        nonbasic: sparse.nonbasic,
-        basic: sparse.basic,
+        nonbasic,
+        basic,
         rows,
         below,
         holders,

@@ -9,4 +9,4 @@ use Rattle.tetri_rows.proofs.whole.over.Goals as goal
 
 pub returns-in-Ok-clause-value : goal.returns-in-Ok-clause-value
 returns-in-Ok-clause-value c =
-    over_value c.short.result c.args.den (to_z w128 (of_z w128 (to_z w64 (of_z w64 c.args.den)))) (value c.args.x) (value c.in-Ok.scaled) c.requires (wide_short c.args.den c.requires.short) (c.in-Ok.ensures.rational ∙ ap (λ q. value c.args.x *ℚ q) c.whole.ensures.rational) c.short.ensures.value
+    over_value c.short_fraction.result c.args.den (to_z w128 (of_z w128 (to_z w64 (of_z w64 c.args.den)))) (value c.args.x) (value c.in-Ok.scaled) c.requires (wide_short c.args.den c.requires.short) (c.in-Ok.ensures.rational ∙ ap (λ q. value c.args.x *ℚ q) c.whole.ensures.rational) c.short_fraction.ensures.value

@@ -1,47 +1,104 @@
-use Rattle.std.proofs.Common.{◌≡◌, List, IfOk, IfSome, length, sym, ap, subst, ◌∙◌}
-use Rattle.tetri_algebra.specs.Rational.{ℚ}
+use Rattle.std.proofs.Common.{◌≡◌, ◌+◌, ◌-◌, List, length, map, sym, ap, subst, ◌∙◌, arith}
+use Rattle.std.specs.Prelude.{IfOk, IfSome}
+use lib.IntN.{ℤ}
+use Rattle.tetri_algebra.specs.Rational.{whole_ℚ}
 use Rattle.tetri_ip.specs.Points.{bounds_of}
-use Rattle.tetri_simplex.specs.declared.lines.Line.{Line}
-use Rattle.tetri_simplex.specs.Below.{below_of}
+use Rattle.tetri_simplex.specs.declared.origins.Origin.TheVariants.{Kept}
+use Rattle.tetri_simplex.specs.Drafts.{draft_rows, IsDraft}
+use Rattle.tetri_simplex.specs.Mixed.{IsMixedRow}
 use Rattle.tetri_simplex.specs.Pairs.{origin_at, table_of}
-use Rattle.tetri_simplex.specs.Sorting.{sorted_rows}
-use Rattle.tetri_simplex.specs.Sparse.{AreEntries, AreLines, lines_of}
-use Rattle.tetri_simplex.specs.Start.{first_table}
+use Rattle.tetri_simplex.specs.Start.{first_rows, objective_row}
 use Rattle.tetri_simplex.specs.Tables.{Table}
-use Rattle.tetri_simplex.proofs.FirstPairs.{first_of, lines_front, lines_last, origins_before, rows_joined}
+use Rattle.tetri_simplex.proofs.FirstPairs.{all_rows, last_place, row_for_each}
+use Rattle.tetri_simplex.proofs.FirstTable.{wholes}
+use Rattle.tetri_simplex.proofs.WholeStart.{first_is, sized}
 use Rattle.tetri_simplex.proofs.pairs_start.first_pairs.Goals as goal
 
-pub sort_lines-requires : goal.sort_lines-requires
-sort_lines-requires c =
-    let s = c.in_ok-nonbasic.field-0 in
-    subst (λ n. AreLines n c.pop.new.self.items) (sym (c.len-columns.ensures ∙ s.nonbasic.ok.0))
-    (lines_front (length s.nonbasic.items) s.lines.items c.pop.new.self.items c.in-Some.objective c.in-Some.ensures.items c.in_ok-nonbasic.ensures.sound.lines)
+pub add_slacks-requires-clause-draft : goal.add_slacks-requires-clause-draft
+add_slacks-requires-clause-draft c = subst (λ k. IsDraft k c.in_ok-draft.draft) (c.len-columns.ensures ∙ c.args.p.now.costs.ok.0) c.in_ok-draft.ensures.draft
 
-pub keep-requires-clause-line : goal.keep-requires-clause-line
-keep-requires-clause-line c =
-    let s = c.in_ok-nonbasic.field-0 in
-    subst (λ n. AreEntries n c.in-Some.objective.entries.items) (sym (c.len-columns.ensures ∙ s.nonbasic.ok.0))
-    (lines_last (length s.nonbasic.items) s.lines.items c.pop.new.self.items c.in-Some.objective c.in-Some.ensures.items c.in_ok-nonbasic.ensures.sound.lines)
+pub keep-requires-clause-draft : goal.keep-requires-clause-draft
+keep-requires-clause-draft c = subst (λ k. IsDraft k c.add_bounds.new.draft) (sym (c.len-columns.ensures ∙ c.args.p.now.costs.ok.0)) c.in_ok-add_bounds.ensures.draft
+
+pub keep-requires-clause-row : goal.keep-requires-clause-row
+keep-requires-clause-row c = subst (λ k. IsMixedRow k c.in_ok-objective.field-0) (sym (c.len-columns.ensures ∙ c.args.p.now.costs.ok.0)) c.in_ok-objective.ensures.sound
+
+pub pairs_of-requires-clause-draft : goal.pairs_of-requires-clause-draft
+pairs_of-requires-clause-draft c =
+    let p = c.args.p.now in
+    let b = bounds_of c.args.r.now in
+    let n = c.len-columns.result in
+    let ne : n ≡ length p.costs.items = c.len-columns.ensures ∙ p.costs.ok.0 in
+    let ke : c.len.result + n ≡ length p.rows.items + length p.costs.items = omega (arith, ne, c.len.ensures, p.rows.ok.0) in
+    let g : draft_rows (length p.costs.items) c.keep.new.draft ≡ wholes (first_rows p b) =
+    all_rows p b c.deref.result.now n c.in_ok-draft.draft c.add_slacks.new.draft c.add_bounds.new.draft c.keep.new.draft c.in_ok-objective.field-0 ne (c.deref.ensures.value ∙ c.in_ok-start.ensures.corner) c.in_ok-draft.ensures.rows c.in_ok-add_slacks.ensures.rows c.in_ok-add_bounds.ensures.rows
+    (c.in_ok-objective.ensures.numbers ∙ ap (λ (s : List ℤ). map whole_ℚ (objective_row p.costs.items s)) (c.deref-2.ensures.value ∙ sym c.deref.ensures.value)) c.in_ok-keep.ensures.rows in
+    let z = sized p b n (c.len.result + n) (length c.keep.new.draft.origins.items) c.in_ok-nonbasic.nonbasic.items c.in_ok-basic.basic.items (draft_rows (length p.costs.items) c.keep.new.draft) c.requires.fit c.requires.in_box ne ke c.in_ok-nonbasic.ensures c.in_ok-basic.ensures g (row_for_each (length p.costs.items) c.keep.new.draft) in
+    subst (λ k. IsDraft k c.keep.new.draft) (ne ∙ sym z.nonbasic) c.in_ok-keep.ensures.draft
 
 pub pairs_of-requires-clause-objective : goal.pairs_of-requires-clause-objective
 pairs_of-requires-clause-objective c =
-    let s = c.in_ok-nonbasic.field-0 in
-    let e = origins_before c.len-columns.result (length s.basic.items) s.lines.items c.pop.new.self.items c.in-Some.objective c.in_ok-sorted.sorted c.in-Some.ensures.items c.in_ok-nonbasic.ensures.sound.rows c.in_ok-sorted.ensures.rows in
-    ap (λ k. origin_at c.keep.new.sorted.origins.items k) (sym e) ∙ c.in_ok-keep.ensures.last
-
-pub pairs_of-requires-clause-below : goal.pairs_of-requires-clause-below
-pairs_of-requires-clause-below c =
-    let s = c.in_ok-nonbasic.field-0 in
+    let p = c.args.p.now in
+    let b = bounds_of c.args.r.now in
     let n = c.len-columns.result in
-    c.in_ok-below.ensures ∙ ap (λ (ls : List Line). below_of (lines_of n ls)) c.deref.ensures.value
-    ∙ ap (λ (us : List (List ℚ)). below_of us) (sym (rows_joined n s.lines.items c.pop.new.self.items c.in-Some.objective c.in_ok-sorted.sorted c.keep.new.sorted c.in-Some.ensures.items c.in_ok-sorted.ensures.rows c.in_ok-keep.ensures.rows))
-    ∙ ap (λ k. below_of (sorted_rows k c.keep.new.sorted)) (c.len-columns.ensures ∙ s.nonbasic.ok.0)
+    let ne : n ≡ length p.costs.items = c.len-columns.ensures ∙ p.costs.ok.0 in
+    let ke : c.len.result + n ≡ length p.rows.items + length p.costs.items = omega (arith, ne, c.len.ensures, p.rows.ok.0) in
+    let g : draft_rows (length p.costs.items) c.keep.new.draft ≡ wholes (first_rows p b) =
+    all_rows p b c.deref.result.now n c.in_ok-draft.draft c.add_slacks.new.draft c.add_bounds.new.draft c.keep.new.draft c.in_ok-objective.field-0 ne (c.deref.ensures.value ∙ c.in_ok-start.ensures.corner) c.in_ok-draft.ensures.rows c.in_ok-add_slacks.ensures.rows c.in_ok-add_bounds.ensures.rows
+    (c.in_ok-objective.ensures.numbers ∙ ap (λ (s : List ℤ). map whole_ℚ (objective_row p.costs.items s)) (c.deref-2.ensures.value ∙ sym c.deref.ensures.value)) c.in_ok-keep.ensures.rows in
+    let z = sized p b n (c.len.result + n) (length c.keep.new.draft.origins.items) c.in_ok-nonbasic.nonbasic.items c.in_ok-basic.basic.items (draft_rows (length p.costs.items) c.keep.new.draft) c.requires.fit c.requires.in_box ne ke c.in_ok-nonbasic.ensures c.in_ok-basic.ensures g (row_for_each (length p.costs.items) c.keep.new.draft) in
+    ap (λ k. origin_at c.keep.new.draft.origins.items k) (last_place n (length c.in_ok-basic.basic.items) c.add_bounds.new.draft c.keep.new.draft _ c.in_ok-keep.ensures.rows z.rows) ∙ c.in_ok-keep.ensures.last
+
+pub pairs_of-requires-clause-count : goal.pairs_of-requires-clause-count
+pairs_of-requires-clause-count c =
+    let p = c.args.p.now in
+    let b = bounds_of c.args.r.now in
+    let n = c.len-columns.result in
+    let ne : n ≡ length p.costs.items = c.len-columns.ensures ∙ p.costs.ok.0 in
+    let ke : c.len.result + n ≡ length p.rows.items + length p.costs.items = omega (arith, ne, c.len.ensures, p.rows.ok.0) in
+    let g : draft_rows (length p.costs.items) c.keep.new.draft ≡ wholes (first_rows p b) =
+    all_rows p b c.deref.result.now n c.in_ok-draft.draft c.add_slacks.new.draft c.add_bounds.new.draft c.keep.new.draft c.in_ok-objective.field-0 ne (c.deref.ensures.value ∙ c.in_ok-start.ensures.corner) c.in_ok-draft.ensures.rows c.in_ok-add_slacks.ensures.rows c.in_ok-add_bounds.ensures.rows
+    (c.in_ok-objective.ensures.numbers ∙ ap (λ (s : List ℤ). map whole_ℚ (objective_row p.costs.items s)) (c.deref-2.ensures.value ∙ sym c.deref.ensures.value)) c.in_ok-keep.ensures.rows in
+    let z = sized p b n (c.len.result + n) (length c.keep.new.draft.origins.items) c.in_ok-nonbasic.nonbasic.items c.in_ok-basic.basic.items (draft_rows (length p.costs.items) c.keep.new.draft) c.requires.fit c.requires.in_box ne ke c.in_ok-nonbasic.ensures c.in_ok-basic.ensures g (row_for_each (length p.costs.items) c.keep.new.draft) in
+    z.rows
+
+pub pairs_of-requires-clause-few_rows : goal.pairs_of-requires-clause-few_rows
+pairs_of-requires-clause-few_rows c =
+    let p = c.args.p.now in
+    let b = bounds_of c.args.r.now in
+    let n = c.len-columns.result in
+    let ne : n ≡ length p.costs.items = c.len-columns.ensures ∙ p.costs.ok.0 in
+    let ke : c.len.result + n ≡ length p.rows.items + length p.costs.items = omega (arith, ne, c.len.ensures, p.rows.ok.0) in
+    let g : draft_rows (length p.costs.items) c.keep.new.draft ≡ wholes (first_rows p b) =
+    all_rows p b c.deref.result.now n c.in_ok-draft.draft c.add_slacks.new.draft c.add_bounds.new.draft c.keep.new.draft c.in_ok-objective.field-0 ne (c.deref.ensures.value ∙ c.in_ok-start.ensures.corner) c.in_ok-draft.ensures.rows c.in_ok-add_slacks.ensures.rows c.in_ok-add_bounds.ensures.rows
+    (c.in_ok-objective.ensures.numbers ∙ ap (λ (s : List ℤ). map whole_ℚ (objective_row p.costs.items s)) (c.deref-2.ensures.value ∙ sym c.deref.ensures.value)) c.in_ok-keep.ensures.rows in
+    let z = sized p b n (c.len.result + n) (length c.keep.new.draft.origins.items) c.in_ok-nonbasic.nonbasic.items c.in_ok-basic.basic.items (draft_rows (length p.costs.items) c.keep.new.draft) c.requires.fit c.requires.in_box ne ke c.in_ok-nonbasic.ensures c.in_ok-basic.ensures g (row_for_each (length p.costs.items) c.keep.new.draft) in
+    z.few_rows
+
+pub pairs_of-requires-clause-few_columns : goal.pairs_of-requires-clause-few_columns
+pairs_of-requires-clause-few_columns c =
+    let p = c.args.p.now in
+    let b = bounds_of c.args.r.now in
+    let n = c.len-columns.result in
+    let ne : n ≡ length p.costs.items = c.len-columns.ensures ∙ p.costs.ok.0 in
+    let ke : c.len.result + n ≡ length p.rows.items + length p.costs.items = omega (arith, ne, c.len.ensures, p.rows.ok.0) in
+    let g : draft_rows (length p.costs.items) c.keep.new.draft ≡ wholes (first_rows p b) =
+    all_rows p b c.deref.result.now n c.in_ok-draft.draft c.add_slacks.new.draft c.add_bounds.new.draft c.keep.new.draft c.in_ok-objective.field-0 ne (c.deref.ensures.value ∙ c.in_ok-start.ensures.corner) c.in_ok-draft.ensures.rows c.in_ok-add_slacks.ensures.rows c.in_ok-add_bounds.ensures.rows
+    (c.in_ok-objective.ensures.numbers ∙ ap (λ (s : List ℤ). map whole_ℚ (objective_row p.costs.items s)) (c.deref-2.ensures.value ∙ sym c.deref.ensures.value)) c.in_ok-keep.ensures.rows in
+    let z = sized p b n (c.len.result + n) (length c.keep.new.draft.origins.items) c.in_ok-nonbasic.nonbasic.items c.in_ok-basic.basic.items (draft_rows (length p.costs.items) c.keep.new.draft) c.requires.fit c.requires.in_box ne ke c.in_ok-nonbasic.ensures c.in_ok-basic.ensures g (row_for_each (length p.costs.items) c.keep.new.draft) in
+    z.few_columns
 
 pub returns-clause-table : goal.returns-clause-table
 returns-clause-table c =
-    let s = c.in_ok-nonbasic.field-0 in
-    let n = length s.nonbasic.items in
-    let e : sorted_rows n c.keep.new.sorted ≡ lines_of n s.lines.items =
-    subst (λ k. sorted_rows k c.keep.new.sorted ≡ lines_of k s.lines.items) (c.len-columns.ensures ∙ s.nonbasic.ok.0)
-    (rows_joined c.len-columns.result s.lines.items c.pop.new.self.items c.in-Some.objective c.in_ok-sorted.sorted c.keep.new.sorted c.in-Some.ensures.items c.in_ok-sorted.ensures.rows c.in_ok-keep.ensures.rows) in
-    subst (λ (z : Table). IfOk c.pairs_of.result (λ o. IfSome o (λ t. table_of t ≡ z))) (first_of s (sorted_rows n c.keep.new.sorted) (first_table c.args.p.now (bounds_of c.args.r.now)) e c.in_ok-nonbasic.ensures.table) c.pairs_of.ensures.table
+    let p = c.args.p.now in
+    let b = bounds_of c.args.r.now in
+    let n = c.len-columns.result in
+    let ne : n ≡ length p.costs.items = c.len-columns.ensures ∙ p.costs.ok.0 in
+    let ke : c.len.result + n ≡ length p.rows.items + length p.costs.items = omega (arith, ne, c.len.ensures, p.rows.ok.0) in
+    let g : draft_rows (length p.costs.items) c.keep.new.draft ≡ wholes (first_rows p b) =
+    all_rows p b c.deref.result.now n c.in_ok-draft.draft c.add_slacks.new.draft c.add_bounds.new.draft c.keep.new.draft c.in_ok-objective.field-0 ne (c.deref.ensures.value ∙ c.in_ok-start.ensures.corner) c.in_ok-draft.ensures.rows c.in_ok-add_slacks.ensures.rows c.in_ok-add_bounds.ensures.rows
+    (c.in_ok-objective.ensures.numbers ∙ ap (λ (s : List ℤ). map whole_ℚ (objective_row p.costs.items s)) (c.deref-2.ensures.value ∙ sym c.deref.ensures.value)) c.in_ok-keep.ensures.rows in
+    let z = sized p b n (c.len.result + n) (length c.keep.new.draft.origins.items) c.in_ok-nonbasic.nonbasic.items c.in_ok-basic.basic.items (draft_rows (length p.costs.items) c.keep.new.draft) c.requires.fit c.requires.in_box ne ke c.in_ok-nonbasic.ensures c.in_ok-basic.ensures g (row_for_each (length p.costs.items) c.keep.new.draft) in
+    subst (λ (t : Table). IfOk c.pairs_of.result (λ o. IfSome o (λ d. table_of d ≡ t)))
+    (first_is p b n (c.len.result + n) c.in_ok-nonbasic.nonbasic.items c.in_ok-basic.basic.items (draft_rows (length c.in_ok-nonbasic.nonbasic.items) c.keep.new.draft) ne ke c.in_ok-nonbasic.ensures c.in_ok-basic.ensures (ap (λ k. draft_rows k c.keep.new.draft) z.nonbasic ∙ g))
+    c.pairs_of.ensures.table

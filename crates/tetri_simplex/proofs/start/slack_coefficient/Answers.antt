@@ -4,8 +4,8 @@ use Rattle.tetri_ip.proofs.IntegerProgramLaws.{coefficient_within}
 use Rattle.tetri_simplex.proofs.Numbers.{number_read}
 use Rattle.tetri_simplex.proofs.start.slack_coefficient.Goals as goal
 
-pub directed-requires : goal.directed-requires
-directed-requires c =
+pub slack_number-requires-clause-within : goal.slack_number-requires-clause-within
+slack_number-requires-clause-within c =
     let w = coefficient_within c.args.row.now.terms.items c.args.j c.requires.row.ascending c.requires.row.numbers in
     let v = subst IsWithin (sym c.coefficient_of-by.ensures) w in
     subst IsWithin (sym (number_read c.coefficient_of-by.result v)) v

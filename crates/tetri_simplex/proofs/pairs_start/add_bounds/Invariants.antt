@@ -1,0 +1,14 @@
+use Rattle.std.proofs.Common.{◌≡◌, ◌≤◌, ◌++◌, ℕ, None, drop, get_or, map, length}
+use Rattle.tetri_algebra.specs.Rational.{whole_ℚ}
+use Rattle.tetri_simplex.specs.Drafts.{draft_rows, IsDraft}
+use Rattle.tetri_simplex.specs.Start.{bound_rows}
+use Rattle.tetri_simplex.proofs.pairs_start.add_bounds.Given as goal
+
+abbrev pub invariant-loop-j : goal.invariant-loop-j
+invariant-loop-j l = record {
+  draft : IsDraft (length l.p.costs.items) l.draft;
+  rows :
+      draft_rows (length l.p.costs.items) l.draft ++ map (map whole_ℚ) (bound_rows l.j l.p.costs.items (drop l.j l.r.lower.items) (drop l.j l.r.upper.items))
+      ≡ draft_rows (length l.p.costs.items) l.fn.draft ++ map (map whole_ℚ) (bound_rows 0 l.p.costs.items l.r.lower.items l.r.upper.items);
+  free : (q : ℕ) → l.j ≤ q → get_or l.draft.columns.items q None ≡ None;
+}
