@@ -1,62 +1,33 @@
 -- A launch that is made ready.
-use Rattle.std.proofs.Common.{◌≡◌, ℕ, ◌+◌, ◌<◌, ◌==◌, ◌&&◌, ◌||◌, Bool, true, false, cond, List, [], ◌∷◌, ◌++◌, length, get_or, map, filter, not, All, Contains, Some, refl, sym, ap, ◌∙◌, subst, arith, suc}
-use Rattle.std.specs.List.{cons_option, filter_map, list_any}
+use Rattle.std.proofs.Common.{◌≡◌, ℕ, ◌+◌, ◌<◌, ◌==◌, ◌&&◌, Bool, true, false, cond, List, [], ◌∷◌, ◌++◌, length, get_or, map, filter, not, Contains, refl, sym, ap, ◌∙◌, subst, arith, suc}
 use Rattle.std.proofs.lemmas.Bool.Decides.{nat_tests}
-use Rattle.std.proofs.lemmas.List.{get_or-map, length-map}
 use Rattle.tetri_base.specs.Lists.{Each, has}
-use Rattle.tetri_base.proofs.ListLaws.{Each-filter, Each-from, Each-get, Each-map, any_from, has-filter, test_from_eq}
-use Rattle.tetri_space.proofs.InstanceLaws.{leaf_in-within}
+use Rattle.tetri_base.proofs.ListLaws.{Each-from, Each-map, any_from, has-filter, test_from_eq}
 use Rattle.tetri_trace.specs.Scenario.{Scenario}
 use Rattle.tetri_trace.specs.Sound.{IsSound}
-use Rattle.std.specs.Option.{option_map}
-use Rattle.std.proofs.lemmas.List.Elements.{All-contains_itself, Contains-get_or}
+use Rattle.std.proofs.lemmas.List.Elements.{Contains-get_or}
 use Rattle.std.proofs.lemmas.List.Folds.{list_any_at}
-use Rattle.tetri_strl.specs.declared.expr.Leaf.{Leaf}
 use Rattle.tetri_strl.specs.declared.grants.Grant.{Grant}
-use Rattle.tetri_space.specs.Lawful.{IsLawful, MayBeGranted}
-use Rattle.tetri_space.specs.Space.{Bid, Space, leaf_in}
-use Rattle.tetri_state.specs.declared.pieces.Piece.{Piece}
-use Rattle.tetri_state.specs.After.{after, new_pieces, piece_of}
+use Rattle.tetri_space.specs.Lawful.{IsLawful}
+use Rattle.tetri_space.specs.Space.{Bid, Space}
+use Rattle.tetri_state.specs.declared.launches.Launch.{Launch}
+use Rattle.tetri_state.specs.After.{after, starting_pieces}
 use Rattle.tetri_state.specs.Launch.{launched_in, start_of, start_or_0, starts_now}
 use Rattle.tetri_space.specs.Trimmed.{IsThriftyForAll}
 use Rattle.tetri_state.specs.Planning.{bid_of, instance_of}
-use Rattle.tetri_state.specs.Reached.{IsPlan}
-use Rattle.tetri_state.specs.Readied.{IsLaunchOf, Readied, launched_from}
-use Rattle.tetri_state.specs.Snapshot.{ArrivedBefore, Snapshot}
+use Rattle.tetri_state.specs.Reached.{IsPlan, IsReached, begun}
+use Rattle.tetri_state.specs.Readied.{IsFoundFor, IsLaunchOf, Readied, launched_from}
+use Rattle.tetri_state.specs.Snapshot.{Snapshot}
 use Rattle.tetri_state.proofs.Ascending.{each_from}
 use Rattle.tetri_state.proofs.BeginLemmas.{same_state}
 use Rattle.tetri_state.proofs.LaunchLemmas.{grant_leaf, starts_here}
 use Rattle.tetri_state.proofs.StandLemmas.{Stands}
-
--- a job of one of the pieces
-pub any_job : (ps : List Piece) (job : ℕ) → has (map (λ (p : Piece). p.job) ps) job ≡ list_any (λ p. p.job == job) ps
-any_job [] job = refl
-any_job (p ∷ ps) job = ap (λ b. p.job == job || b) (any_job ps job)
 
 module _ {X : Type 0} (p q : X → Bool) where
   -- tests that agree on the elements keep the same
   pub filter_on : (xs : List X) → Each (λ x. p x ≡ q x) xs → filter p xs ≡ filter q xs
   filter_on [] same = refl
   filter_on (x ∷ xs) same = ap (λ b. cond b (x ∷ filter p xs) (filter p xs)) same.0 ∙ ap (λ ys. cond (q x) (x ∷ ys) ys) (filter_on xs same.1)
-
-  -- one of those that pass a test
-  any_filtered : (xs : List X) → list_any q (filter p xs) ≡ list_any (λ x. q x && p x) xs
-  any_filtered [] = refl
-  any_filtered (x ∷ xs) = by_test (p x) refl (any_filtered xs)
-    where
-      dropped : (s : Bool) (b : Bool) → b ≡ (s && false || b)
-      dropped true b = refl
-      dropped false b = refl
-
-      kept : (s : Bool) (b : Bool) → (s || b) ≡ (s && true || b)
-      kept true b = refl
-      kept false b = refl
-
-      by_test : (b : Bool) → p x ≡ b → list_any q (filter p xs) ≡ list_any (λ y. q y && p y) xs →
-          list_any q (cond b (x ∷ filter p xs) (filter p xs)) ≡ (q x && p x || list_any (λ y. q y && p y) xs)
-      by_test true is rest =
-          kept (q x) (list_any q (filter p xs)) ∙ ap (λ b. q x && true || b) rest ∙ ap (λ b. q x && b || list_any (λ y. q y && p y) xs) (sym is)
-      by_test false is rest = rest ∙ dropped (q x) (list_any (λ y. q y && p y) xs) ∙ ap (λ b. q x && b || list_any (λ y. q y && p y) xs) (sym is)
 
 each_itself : (f : ℕ → Bool) (ns : List ℕ) → Each (λ n. has (filter f ns) n ≡ f n) ns
 each_itself f ns =
@@ -138,40 +109,19 @@ module _ (t : Scenario) (s : Snapshot) (sound : IsSound t) (stands : Stands t (s
   pub pieces_alike : filter (λ g. start_of i g == i.now) a ≡ filter (λ g. starts_now i a g.job) a
   pieces_alike = filter_on (λ g. start_of i g == i.now) (λ g. starts_now i a g.job) a starts_alike
 
-  any_made : (job : ℕ) (gs : List Grant) → Each (Contains a) gs →
-      list_any (λ p. p.job == job) (filter_map (λ g. option_map (piece_of t g) (leaf_in i.bids g.job g.leaf)) gs) ≡ list_any (λ g. g.job == job) gs
-  any_made job [] at = refl
-  any_made job (g ∷ gs) at = by_leaf (grant_leaf t s sound stands early a plan g at.0) (any_made job gs at.1)
-    where
-      by_leaf : (l : Leaf) × (leaf_in i.bids g.job g.leaf ≡ Some l) × MayBeGranted i l g.nodes →
-          list_any (λ p. p.job == job) (filter_map (λ h. option_map (piece_of t h) (leaf_in i.bids h.job h.leaf)) gs) ≡ list_any (λ h. h.job == job) gs →
-          list_any (λ p. p.job == job) (cons_option (option_map (piece_of t g) (leaf_in i.bids g.job g.leaf))
-          (filter_map (λ h. option_map (piece_of t h) (leaf_in i.bids h.job h.leaf)) gs)) ≡ (g.job == job || list_any (λ h. h.job == job) gs)
-      by_leaf l rest =
-          ap (λ o. list_any (λ (p : Piece). p.job == job) (cons_option (option_map (piece_of t g) o) (filter_map (λ h. option_map (piece_of t h) (leaf_in i.bids h.job h.leaf)) gs))) l.1
-          ∙ ap (λ b. g.job == job || b) rest
-
-  -- a job is launched exactly where one of the new pieces is its
-  pub pieces_tell : (job : ℕ) → list_any (λ p. p.job == job) (new_pieces t i a) ≡ starts_now i a job
-  pieces_tell job =
-      any_made job (filter (λ g. starts_now i a g.job) a)
-      (Each-filter (Contains a) (λ g. starts_now i a g.job) a (each_from (Contains a) a (All-contains_itself a)))
-      ∙ ap (list_any (λ (g : Grant). g.job == job)) (sym pieces_alike)
-      ∙ any_filtered (λ g. start_of i g == i.now) (λ (g : Grant). g.job == job) a
-
-  -- each grant's job is there
-  pub grants_known : All (λ g. g.job < length t.submissions) a
-  grants_known k d lt =
-      let g = get_or a k d in
-      let l = grant_leaf t s sound stands early a plan g (Contains-get_or a k d lt) in
-      let b = leaf_in-within i.bids g.job g.leaf l.0 l.1 in
-      let m : b.1.pending.0 < length s.pending = omega (arith, b.1.pending.1, length-map s.pending (bid_of t s.now)) in
-      let is : b.0 ≡ bid_of t s.now (get_or s.pending b.1.pending.0 0) = sym b.1.pending.2 ∙ get_or-map (bid_of t s.now) s.pending b.1.pending.0 0 b.0 m in
-      let job : get_or s.pending b.1.pending.0 0 ≡ g.job = sym (ap (λ (c : Bid). c.job) is) ∙ b.1.of_job in
-      omega (arith, job, (Each-get (ArrivedBefore t (s.now + 1)) s.pending b.1.pending.0 0 stands.arrived m).0)
-
-pub plan_of : (t : Scenario) (s : Snapshot) (a : List Grant) (i : Space) → i ≡ instance_of t s → IsLawful i a → IsThriftyForAll i a → IsPlan t s a
+plan_of : (t : Scenario) (s : Snapshot) (a : List Grant) (i : Space) → i ≡ instance_of t s → IsLawful i a → IsThriftyForAll i a → IsPlan t s a
 plan_of t s a i is lawful thrifty = record {
   lawful = subst (λ j. IsLawful j a) is lawful;
   thrifty = subst (λ j. IsThriftyForAll j a) is thrifty;
+}
+
+-- a launch that was found for the instance of the state
+pub found_for : (t : Scenario) (s : Snapshot) (a : List Grant) (i : Space) (l : Launch) → IsSound t → IsReached t begun s → i ≡ instance_of t s →
+    IsLawful i a → IsThriftyForAll i a → l.jobs.items ≡ launched_in i a → l.pieces.items ≡ starting_pieces t i a → IsFoundFor t s a l
+found_for t s a i l sound reached is lawful thrifty jobs pieces = record {
+  sound = sound;
+  reached = reached;
+  plan = plan_of t s a i is lawful thrifty;
+  jobs = jobs ∙ ap (λ (j : Space). launched_in j a) is;
+  pieces = pieces ∙ ap (λ (j : Space). starting_pieces t j a) is;
 }

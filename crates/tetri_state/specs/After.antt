@@ -1,12 +1,12 @@
 -- The end of a cycle: what its plan launches runs from now on.
-use Rattle.std.specs.Prelude.{ℕ, ℤ, pos, negsuc, ◌+◌, ◌-◌, max, not, List, ◌++◌, filter, option_map}
+use Rattle.std.specs.Prelude.{ℕ, ℤ, pos, negsuc, ◌+◌, ◌-◌, ◌==◌, max, not, List, ◌++◌, filter, option_map}
 use Rattle.std.specs.List.{filter_map}
 use Rattle.tetri_strl.specs.declared.expr.Leaf.{Leaf}
 use Rattle.tetri_strl.specs.declared.grants.Grant.{Grant}
 use Rattle.tetri_space.specs.Space.{Space, leaf_in}
 use Rattle.tetri_trace.specs.Scenario.{Scenario, submission_of}
 use Rattle.tetri_state.specs.declared.pieces.Piece.{Piece}
-use Rattle.tetri_state.specs.Launch.{starts_now, launched_in}
+use Rattle.tetri_state.specs.Launch.{start_of, starts_now, launched_in}
 use Rattle.tetri_state.specs.Planning.{instance_of}
 use Rattle.tetri_state.specs.Snapshot.{Snapshot}
 
@@ -26,9 +26,17 @@ piece_of t g l = record {
   real = l.start + real_dur l.dur (submission_of t g.job).late;
 }
 
+-- these grants as pieces, but for those that name no leaf
+abbrev pub pieces_of : Scenario → Space → List Grant → List Piece
+pieces_of t i a = filter_map (λ g. option_map (piece_of t g) (leaf_in i.bids g.job g.leaf)) a
+
+-- the grants that start now, as pieces
+abbrev pub starting_pieces : Scenario → Space → List Grant → List Piece
+starting_pieces t i a = pieces_of t i (filter (λ g. start_of i g == i.now) a)
+
 -- all grants of the jobs that have one which starts now, as pieces
 abbrev pub new_pieces : Scenario → Space → List Grant → List Piece
-new_pieces t i a = filter_map (λ g. option_map (piece_of t g) (leaf_in i.bids g.job g.leaf)) (filter (λ g. starts_now i a g.job) a)
+new_pieces t i a = pieces_of t i (filter (λ g. starts_now i a g.job) a)
 
 -- the state after its slot, in which these grants were planned
 abbrev pub after : Scenario → Snapshot → List Grant → Snapshot

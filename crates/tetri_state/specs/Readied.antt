@@ -3,11 +3,13 @@ use Rattle.std.specs.Prelude.{◌≡◌, ℕ, ◌+◌, ◌<◌, ◌≤◌, not, 
 use Rattle.tetri_base.specs.Lists.{has}
 use Rattle.tetri_strl.specs.declared.grants.Grant.{Grant}
 use Rattle.tetri_trace.specs.Scenario.{Scenario}
+use Rattle.tetri_trace.specs.Sound.{IsSound}
+use Rattle.tetri_state.specs.declared.launches.Launch.{Launch}
 use Rattle.tetri_state.specs.declared.pieces.Piece.{Piece}
-use Rattle.tetri_state.specs.After.{new_pieces}
+use Rattle.tetri_state.specs.After.{new_pieces, starting_pieces}
 use Rattle.tetri_state.specs.Launch.{launched_in}
 use Rattle.tetri_state.specs.Planning.{instance_of}
-use Rattle.tetri_state.specs.Reached.{IsPlan}
+use Rattle.tetri_state.specs.Reached.{IsPlan, IsReached, begun}
 use Rattle.tetri_state.specs.Snapshot.{Snapshot}
 
 -- the jobs, ascending, their pieces, all grants of the plan, and room for this many pieces
@@ -16,6 +18,14 @@ pub record Readied : Type 0 where
   pub pieces : List Piece
   pub grants : List Grant
   pub room : ℕ
+
+-- these jobs and pieces were found as those of the grants, which may be planned in a state of the trace whose slot has begun
+pub record IsFoundFor (t : Scenario) (s : Snapshot) (a : List Grant) (l : Launch) : Type 0 where
+  pub sound : IsSound t
+  pub reached : IsReached t begun s
+  pub plan : IsPlan t s a
+  pub jobs : l.jobs.items ≡ launched_in (instance_of t s) a
+  pub pieces : l.pieces.items ≡ starting_pieces t (instance_of t s) a
 
 -- it is the launch of these grants, which may be planned in the state
 pub record IsLaunchOf (t : Scenario) (s : Snapshot) (a : List Grant) (r : Readied) : Type 0 where

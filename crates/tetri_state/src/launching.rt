@@ -7,21 +7,22 @@ ghost use Rattle.tetri_space.specs.Trimmed.{IsThriftyForAll};
 ghost use Rattle.tetri_state.specs.Planning.{instance_of};
 ghost use Rattle.tetri_state.specs.Reached as moment;
 ghost use Rattle.tetri_state.specs.Reached.{IsReached};
-ghost use Rattle.tetri_state.specs.Readied.{Fits, IsLaunchOf, launched_from};
+ghost use Rattle.tetri_state.specs.Readied.{Fits, IsFoundFor, IsLaunchOf, launched_from};
 ghost use Rattle.tetri_strl.specs.declared.grants.Grant.{Grant};
 ghost use Rattle.tetri_trace.specs.Scenario.{Scenario, scenario};
 ghost use Rattle.tetri_trace.specs.Sound.{IsSound};
 
 use crate::State;
-use crate::prepared::{Prepared, common_jobs, jobs_of, leave, new_pieces};
+use crate::launches::{Launch, find_launch};
+use crate::prepared::{Prepared, leave};
 use std::alloc::{AllocError, Global};
 use tetri_space::Instance;
 use tetri_strl::{Allotment, copy_grants};
 use tetri_trace::Trace;
 
 impl State {
-    /// Makes the launch of grants ready, which are lawful and thrifty in the instance of this state. It takes all memory
-    /// of the launch, and its only error is want of it.
+    /// Makes the launch of grants ready, which are lawful and thrifty in the instance of this state: it is found, and then
+    /// made ready as `prepare_launch` does. It takes all memory of the launch, and its only error is want of it.
     pub fn prepare(
         &self,
         alloc: Global,
@@ -37,9 +38,30 @@ impl State {
         ensures launch { IfOk result (IsLaunchOf (scenario trace.entry.now) self.entry.now grants.now) }
         ensures fits { IfOk result (Fits self.entry.now) }
     {
-        let pieces = new_pieces(alloc, trace, inst, grants.as_slice())?;
-        let starting = jobs_of(alloc, &pieces)?;
-        let jobs = common_jobs(alloc, &self.pending, &starting)?;
+        let launch = find_launch(alloc, trace, inst, grants.as_slice())?;
+        self.prepare_launch(alloc, launch, grants)
+    }
+
+    /// Makes a launch ready that was found of these grants, which are lawful and thrifty in the instance of this state. It
+    /// takes all further memory of the launch, and its only error is want of it.
+    pub fn prepare_launch(
+        &self,
+        alloc: Global,
+        launch: Launch,
+        grants: &Allotment,
+    ) -> Result<Prepared, AllocError>
+        requires { (t : Scenario) × IsFoundFor t self.now grants.now launch }
+        ensures launch { IfOk result (λ p. (t : Scenario)
+            → IsFoundFor t self.entry.now grants.now launch
+            → IsLaunchOf t self.entry.now grants.now p) }
+        ensures fits { IfOk result (Fits self.entry.now) }
+    {
+        let Launch {
+            starts: _starts,
+            jobs,
+            pieces,
+            worth: _worth,
+        } = launch;
         let room = Vec::with_capacity(alloc, self.pieces.len() + pieces.len())?;
         Ok(Prepared {
             jobs,

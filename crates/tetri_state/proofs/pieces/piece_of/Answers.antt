@@ -3,7 +3,7 @@ use mir.Val.{SFits}
 use Rattle.std.proofs.lemmas.Int.{to_z-of_z}
 use Rattle.tetri_trace.proofs.TraceLaws.{submission_sound}
 use Rattle.tetri_trace.specs.Scenario.{Submission, scenario}
-use Rattle.tetri_state.proofs.prepared.piece_of.Goals as goal
+use Rattle.tetri_state.proofs.pieces.piece_of.Goals as goal
 
 pub real_dur-requires-clause-not_too_early : goal.real_dur-requires-clause-not_too_early
 real_dur-requires-clause-not_too_early c =

@@ -1,0 +1,12 @@
+use Rattle.std.proofs.Common.{◌≡◌, ◌++◌, drop, map}
+use Rattle.tetri_space.specs.Space.{space}
+use Rattle.tetri_state.specs.After.{starting_pieces}
+use Rattle.tetri_state.specs.Launch.{start_of}
+use Rattle.tetri_trace.specs.Scenario.{scenario}
+use Rattle.tetri_state.proofs.launches.find_pieces.Given as goal
+
+abbrev pub invariant-loop-grant : goal.invariant-loop-grant
+invariant-loop-grant l = record {
+  starts : l.starts.items ++ map (start_of (space l.inst)) (drop l.grant-index l.grants) ≡ map (start_of (space l.inst)) l.grants;
+  pieces : l.pieces.items ++ starting_pieces (scenario l.trace) (space l.inst) (drop l.grant-index l.grants) ≡ starting_pieces (scenario l.trace) (space l.inst) l.grants;
+}
