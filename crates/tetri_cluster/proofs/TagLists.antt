@@ -2,10 +2,11 @@
 use Rattle.std.proofs.Common.{◌≡◌, ◌∙◌, ℕ, zero, suc, ◌+◌, ◌<◌, ◌≤◌, ◌==◌, ◌||◌, ◌&&◌, Bool, true, false, cond, nat_lt, List, [], ◌∷◌, ◌++◌, map, length, get_or, set, not, All, Option, inl, inr, refl, sym, ap, arith, bytes_eq, length-append, add-zero}
 use Rattle.std.specs.Prelude.{filter, nat_eq, Some, None}
 use Rattle.std.specs.List.{list_any, position_or_len}
+use Rattle.std.specs.List.Sorted.{IsNonDecreasing}
 use Rattle.std.proofs.lemmas.Bool.{cases_lt, eq-eqb, false≢true, lt-ltb, ltb-true}
 use Rattle.std.proofs.lemmas.Bool.Decides.{nat_tests}
 use Rattle.std.proofs.lemmas.List.{append-nil, get_or-set_same, get_or-set_other}
-use Rattle.std.proofs.lemmas.List.Elements.{All-nil, All-cons, All-append}
+use Rattle.std.proofs.lemmas.List.Elements.{All-nil, All-cons, All-append, All-weaker}
 use Rattle.std.proofs.lemmas.List.Folds.{list_any-append, position_or_len_push}
 use Rattle.std.proofs.lemmas.List.Quantifiers.{position-Some}
 use Rattle.std.proofs.lemmas.List.Sums.{prefix_len-le-length}
@@ -186,3 +187,32 @@ known_listed at q (x ∷ xs) =
     ap (λ b. b || knows_tag xs q) (some_copies at q x.tags)
     ∙ ap (λ b. nat_lt 0 (length (map (λ (_ : List ℕ). at) (filter (bytes_eq q) x.tags))) || b) (known_listed (at + 1) q xs)
     ∙ sym (some_of_two (map (λ (_ : List ℕ). at) (filter (bytes_eq q) x.tags)) (tagged_from (at + 1) q xs))
+
+-- a number before others that do not fall and are no less
+rises-cons : (x : ℕ) (xs : List ℕ) → All (λ y. x ≤ y) xs → IsNonDecreasing xs → IsNonDecreasing (x ∷ xs)
+rises-cons x xs low up zero zero d le lt = omega arith
+rises-cons x xs low up zero (suc j) d le lt = low j d (omega arith)
+rises-cons x xs low up (suc i) zero d le lt = absurd (omega (arith, le))
+rises-cons x xs low up (suc i) (suc j) d le lt = up i j d (omega (arith, le)) (omega (arith, lt))
+
+low_copies : (at : ℕ) (names : List (List ℕ)) (others : List ℕ) → All (λ n. at ≤ n) others → All (λ n. at ≤ n) (map (λ _. at) names ++ others)
+low_copies at [] others low = low
+low_copies at (x ∷ xs) others low = All-cons (λ n. at ≤ n) at (map (λ _. at) xs ++ others) (omega arith) (low_copies at xs others low)
+
+rising_copies : (at : ℕ) (names : List (List ℕ)) (others : List ℕ) → All (λ n. at ≤ n) others → IsNonDecreasing others → IsNonDecreasing (map (λ _. at) names ++ others)
+rising_copies at [] others low up = up
+rising_copies at (x ∷ xs) others low up = rises-cons at (map (λ _. at) xs ++ others) (low_copies at xs others low) (rising_copies at xs others low up)
+
+listed_from : (at : ℕ) (q : List ℕ) (nodes : List NodeText) → All (λ n. at ≤ n) (tagged_from at q nodes)
+listed_from at q [] = All-nil (λ n. at ≤ n)
+listed_from at q (x ∷ xs) =
+    low_copies at (filter (bytes_eq q) x.tags) (tagged_from (at + 1) q xs)
+    (All-weaker (λ n. at + 1 ≤ n) (λ n. at ≤ n) (λ n h. omega arith) (tagged_from (at + 1) q xs) (listed_from (at + 1) q xs))
+
+-- they ascend
+pub listed_ascend : (at : ℕ) (q : List ℕ) (nodes : List NodeText) → IsNonDecreasing (tagged_from at q nodes)
+listed_ascend at q [] = λ i j d le lt. absurd (omega (arith, lt))
+listed_ascend at q (x ∷ xs) =
+    rising_copies at (filter (bytes_eq q) x.tags) (tagged_from (at + 1) q xs)
+    (All-weaker (λ n. at + 1 ≤ n) (λ n. at ≤ n) (λ n h. omega arith) (tagged_from (at + 1) q xs) (listed_from (at + 1) q xs))
+    (listed_ascend (at + 1) q xs)

@@ -1,6 +1,7 @@
 // The nodes of a cluster.
 ghost use Rattle.std.specs.Prelude.{◌≡◌, ◌<◌, ◌≤◌, ℕ, All, length, true, nat_eq, nat_lt, None, Some, IfOk, IfSome, IsErrOf};
 ghost use Rattle.std.specs.List.{list_any};
+ghost use Rattle.std.specs.List.Sorted.{IsNonDecreasing};
 ghost use Rattle.tetri_cluster.specs.Names.{differ, is_among, number_of, first_repeated};
 
 use crate::tags::tag_lists;
@@ -121,11 +122,12 @@ impl Cluster {
         holds_name(&self.nodes[node as usize].tags, tag)
     }
 
-    /// The nodes that have a tag, each perhaps more than once. They are looked up by an index.
+    /// The nodes that have a tag, ascending, each perhaps more than once. They are looked up by an index.
     pub fn nodes_with(&self, tag: &[u8]) -> &[u32]
         ensures members { (node : ℕ) → list_any (nat_eq node) result.now ≡ is_among tag.now (tags_at self.now node) }
         ensures within { All (λ node. node < length self.now) result.now }
         ensures known { knows_tag self.now tag.now ≡ nat_lt 0 (length result.now) }
+        ensures ascending { IsNonDecreasing result.now }
     {
         match self.tags.number(tag) {
             Some(number) => self.by_tag[number].as_slice(),

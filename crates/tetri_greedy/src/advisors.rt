@@ -65,7 +65,9 @@ impl Advisor for ByDeadline {
         alloc: Global,
         inst: &Instance,
         chosen: &Allotment,
-    ) -> Result<(), AllocError> {
+    ) -> Result<(), AllocError>
+        ensures { self.new ≡ self.old }
+    {
         Ok(())
     }
 }
@@ -101,7 +103,9 @@ impl Advisor for ByWorth {
         alloc: Global,
         inst: &Instance,
         chosen: &Allotment,
-    ) -> Result<(), AllocError> {
+    ) -> Result<(), AllocError>
+        ensures { self.new ≡ self.old }
+    {
         Ok(())
     }
 }

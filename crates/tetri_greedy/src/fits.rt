@@ -1,12 +1,12 @@
 // The fit of an expression.
-ghost use Rattle.std.specs.Prelude.{◌≡◌, ◌<◌, ◌∷◌, [], ℕ, IfOk, OnOk, true, false, length, take};
+ghost use Rattle.std.specs.Prelude.{◌≡◌, ◌<◌, ◌∷◌, [], ℕ, List, IfOk, OnOk, true, false, length, slice_index_or, take};
 ghost use Rattle.std.specs.List.Sorted.{IsStrictlyIncreasing};
-ghost use Rattle.tetri_advice.specs.Fit.{all_fit, best_fit, enough, fit_beside, fit_worth, fits, is_available, is_live, lowest};
+ghost use Rattle.tetri_advice.specs.Fit.{Placement, all_fit, best_fit, enough, fit_beside, fit_worth, fits, is_available, is_held, is_live, lowest};
 ghost use Rattle.tetri_greedy.specs.Fitted.{grown, with_fit};
 ghost use Rattle.tetri_space.specs.Slots.{is_marked};
 ghost use Rattle.tetri_space.specs.Free.{is_free_throughout};
 ghost use Rattle.tetri_space.specs.Sound.{HasKnownSet, IsSound};
-ghost use Rattle.tetri_space.specs.Space.{space};
+ghost use Rattle.tetri_space.specs.Space.{set_of, space};
 ghost use Rattle.tetri_strl.specs.Aligned.{EachLeaf, EachLeafOf};
 ghost use Rattle.tetri_strl.specs.Tree.{one, tree, trees};
 ghost use Rattle.tetri_strl.specs.WellMade as made;
@@ -52,43 +52,53 @@ fn is_free(inst: &Instance, leaf: &Leaf, node: u32) -> bool
     free_throughout(inst, leaf, node)
 }
 
-// Whether the node is free, and not held, in every slot of the live leaf. Closures, whose look-up costs
-// most, come last.
-fn is_open(inst: &Instance, held: &HeldSlots, own: &Placements, leaf: &Leaf, node: u32) -> bool
+fn is_taken(taken: &[bool], node: u32) -> bool
+    ensures { result ≡ slice_index_or taken.now node false }
+{
+    taken.get(node as usize).copied().unwrap_or(false)
+}
+
+// Whether the node is free, and neither held nor taken, in every slot of the live leaf. Closures, whose look-up
+// costs most, come last.
+fn is_open(inst: &Instance, held: &HeldSlots, taken: &[bool], leaf: &Leaf, node: u32) -> bool
     requires sound { IsSound (space inst.now) }
     requires good { made.IsGoodLeaf leaf.now }
     requires live { is_live (space inst.now) leaf.now ≡ true }
     requires as_many { length held.now ≡ (space inst.now).nodes }
     requires there { node < (space inst.now).nodes }
-    ensures { result
-        ≡ is_available (space inst.entry.now) (is_marked held.now (space inst.entry.now).now) own.now.placements leaf.now node }
+    ensures { (own : List Placement) → slice_index_or taken.now node false ≡ is_held own leaf.now node
+        → result ≡ is_available (space inst.entry.now)
+        (is_marked held.now (space inst.entry.now).now) own leaf.now node }
 {
-    !held.holds(inst.now, leaf, node) && !own.holds(leaf, node) && is_free(inst, leaf, node)
+    !held.holds(inst.now, leaf, node) && !is_taken(taken, node) && is_free(inst, leaf, node)
 }
 
-// The lowest nodes that are open to the live leaf, at most `k`.
+// The lowest nodes of the leaf's set that are open to the live leaf, at most `k`.
 fn lowest(
     alloc: Global,
     inst: &Instance,
     held: &HeldSlots,
     own: &Placements,
     leaf: &Leaf,
+    set: &[u32],
 ) -> Result<NodeList, AllocError>
     requires sound { IsSound (space inst.now) }
     requires good { made.IsGoodLeaf leaf.now }
     requires known { HasKnownSet (space inst.now) leaf.now }
     requires live { is_live (space inst.now) leaf.now ≡ true }
     requires as_many { length held.now ≡ (space inst.now).nodes }
+    requires set { set.now ≡ set_of (space inst.now) leaf.now }
     ensures { IfOk result (λ nodes. nodes
         ≡ lowest (space inst.entry.now) (is_marked held.now (space inst.entry.now).now) own.now.placements leaf.now) }
 {
+    let taken = own.taken(alloc, leaf)?;
     let mut nodes = NodeList::new(alloc);
     let mut left = leaf.k;
-    for node in inst.sets.nodes_of(leaf.set).as_slice() {
+    for node in set {
         if left == 0 {
             return Ok(nodes);
         }
-        if is_open(inst, held, own, leaf, *node) {
+        if is_open(inst, held, &taken, leaf, *node) {
             nodes.push(*node)?;
             left -= 1;
         }
@@ -112,11 +122,11 @@ fn fit_leaf(
     if !is_live(inst, leaf) {
         return Ok(());
     }
-    let _sets = inst.sets.len();
+    let set = inst.sets.nodes_of(leaf.set).as_slice();
     if !held.may_have(inst.now, leaf, least_nodes(leaf)) {
         return Ok(());
     }
-    let nodes = lowest(alloc, inst, held, own, leaf)?;
+    let nodes = lowest(alloc, inst, held, own, leaf, set)?;
     if is_enough(leaf, nodes.as_slice().len()) {
         own.push(*leaf, nodes)?;
     }

@@ -1,5 +1,6 @@
 // The placements of one job.
-ghost use Rattle.std.specs.Prelude.{◌≡◌, ◌∷◌, [], ◌++◌, ◌≤◌, ◌+◌, nat_lt, drop, length, take, IfOk, OnOk};
+ghost use Rattle.std.specs.Prelude.{◌≡◌, ◌==◌, ◌||◌, ◌∷◌, [], ◌++◌, ◌≤◌, ◌+◌, ℕ, false, nat_lt, drop, length, slice_index_or, take, IfOk, OnOk};
+ghost use Rattle.std.specs.List.{list_any};
 ghost use Rattle.tetri_advice.specs.Fit.{fit_worth, grants_of, is_held, is_held_by};
 ghost use Rattle.tetri_greedy.specs.Fitted.{grown, placement_of, placements_of};
 ghost use Rattle.tetri_greedy.specs.Held.{AreHoldable, IsHoldable, all_marked};
@@ -43,23 +44,63 @@ fn begins_before_end(first: &Leaf, other: &Leaf) -> bool
     u64::from(first.start) < u64::from(other.start) + u64::from(other.dur)
 }
 
-// Whether one of the grants, to these leaves, holds the node in some slot of the leaf.
-fn any_holds(leaves: &[Leaf], grants: &[Grant], leaf: &Leaf, node: u32) -> bool
-    requires { length leaves.now ≡ length grants.now }
-    ensures { result ≡ is_held (placements_of leaves.now grants.now) leaf.now node }
+// Marks a node; a node past the end is not marked.
+fn mark(marks: &mut Vec<bool>, node: u32) -> Result<(), AllocError>
+    ensures { OnOk result ((n : ℕ) → slice_index_or marks.new.items n false
+        ≡ (slice_index_or marks.old.items n false || node == n)) }
 {
-    for (place, own) in leaves.iter().enumerate() {
-        if holds_by(own, &grants[place], leaf, node) {
-            return true;
-        }
+    let place = node as usize;
+    if marks.len() <= place {
+        marks.resize(place + 1, false)?;
     }
-    false
+    marks[place] = true;
+    Ok(())
 }
 
-fn holds_by(own: &Leaf, grant: &Grant, leaf: &Leaf, node: u32) -> bool
-    ensures { result ≡ is_held_by leaf.now node (placement_of own.now grant.now) }
+fn mark_each(marks: &mut Vec<bool>, nodes: &[u32]) -> Result<(), AllocError>
+    ensures { OnOk result ((n : ℕ) → slice_index_or marks.new.items n false
+        ≡ (slice_index_or marks.old.items n false || list_any (λ m. m == n) nodes.now)) }
 {
-    overlap(leaf, own) && grant.nodes.as_slice().contains(&node)
+    for node in nodes {
+        mark(marks, *node)?;
+    }
+    Ok(())
+}
+
+// Marks the nodes of a grant where its leaf has a slot in common with the leaf.
+fn mark_common(
+    marks: &mut Vec<bool>,
+    own: &Leaf,
+    grant: &Grant,
+    leaf: &Leaf,
+) -> Result<(), AllocError>
+    ensures { OnOk result ((n : ℕ) → slice_index_or marks.new.items n false
+        ≡ (slice_index_or marks.old.items n false
+        || is_held_by leaf.now n (placement_of own.now grant.now))) }
+{
+    if !overlap(leaf, own) {
+        return Ok(());
+    }
+    mark_each(marks, grant.nodes.as_slice())
+}
+
+// For each node up to the last one that is held, whether one of the grants, to these leaves, holds it in some slot
+// of the leaf.
+fn taken_by(
+    alloc: Global,
+    leaves: &[Leaf],
+    grants: &[Grant],
+    leaf: &Leaf,
+) -> Result<Vec<bool>, AllocError>
+    requires { length leaves.now ≡ length grants.now }
+    ensures { IfOk result (λ taken. (n : ℕ) → slice_index_or taken.items n false
+        ≡ is_held (placements_of leaves.now grants.now) leaf.now n) }
+{
+    let mut taken = Vec::new(alloc);
+    for (place, own) in leaves.iter().enumerate() {
+        mark_common(&mut taken, own, &grants[place], leaf)?;
+    }
+    Ok(taken)
 }
 
 // The grants from a place on.
@@ -163,11 +204,13 @@ impl Placements {
         }
     }
 
-    /// Whether one of the placements holds the node in some slot of the leaf.
-    pub fn holds(&self, leaf: &Leaf, node: u32) -> bool
-        ensures { result ≡ is_held self.now.placements leaf.now node }
+    /// For each node up to the last one that is held, whether one of the placements holds it in some slot of the
+    /// leaf. Its only error is want of memory.
+    pub fn taken(&self, alloc: Global, leaf: &Leaf) -> Result<Vec<bool>, AllocError>
+        ensures { IfOk result (λ taken. (n : ℕ) → slice_index_or taken.items n false
+            ≡ is_held self.now.placements leaf.now n) }
     {
-        any_holds(&self.leaves, &self.grants, leaf, node)
+        taken_by(alloc, &self.leaves, &self.grants, leaf)
     }
 
     /// What the placements from a place on are worth to the expression.

@@ -31,7 +31,6 @@ fn serve(
     ensures served { OnOk result ((before : List Placement) → TellsOf (space inst.entry.now) before held.old
         → IsServed (space inst.entry.now) before (bid offer.entry.now) held.new grants.old.items grants.new.items) }
 {
-    let _sets = inst.sets.len();
     let mut own = Placements::new(alloc, offer.job);
     fit(alloc, inst, held, &offer.expr, &mut own)?;
     own.hold(inst.now, held);

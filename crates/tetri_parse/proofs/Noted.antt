@@ -31,19 +31,20 @@ module _ (nodes : List NodeText) where
       by_first false is others = (index.0, others)
 
   -- sets that come leave it true
-  pub still_true : (sets more : List (List ℕ)) → take (length sets) more ≡ sets → (es : List (Vec ℕ Global × ℕ)) → IsTrueIndex nodes sets es → IsTrueIndex nodes more es
-  still_true sets more kept [] index = tt
-  still_true sets more kept (e ∷ es) index = (
+  pub still_true : (sets more : List (List ℕ)) → AreSets more → take (length sets) more ≡ sets → (es : List (Vec ℕ Global × ℕ)) → IsTrueIndex nodes sets es → IsTrueIndex nodes more es
+  still_true sets more lawful kept [] index = tt
+  still_true sets more lawful kept (e ∷ es) index = (
     record {
+      lawful = lawful;
       known = omega (arith, index.0.known, ap length kept, length-take (length sets) more);
       named = index.0.named ∙ ap Some (ap (λ xs. get_or xs e.1 []) (sym kept) ∙ get_or-take (length sets) more e.1 [] index.0.known);
     },
-    still_true sets more kept es index.1,
+    still_true sets more lawful kept es index.1,
   )
 
   -- a text whose set is known names it again
-  pub set_again : (left : ℕ) (sets : List (List ℕ)) (text : List ℕ) (n : ℕ) → AreSets sets → NamesSet nodes sets text n → settled_set left (nodes_in nodes text) sets ≡ Ok (n, sets)
-  set_again left sets text n lawful names = ap (λ o. settled_set left o sets) names.named ∙ ap (set_in left) (known_set sets n lawful names.known)
+  pub set_again : (left : ℕ) (sets : List (List ℕ)) (text : List ℕ) (n : ℕ) → NamesSet nodes sets text n → settled_set left (nodes_in nodes text) sets ≡ Ok (n, sets)
+  set_again left sets text n names = ap (λ o. settled_set left o sets) names.named ∙ ap (set_in left) (known_set sets n names.lawful names.known)
 
   -- whether or not there was memory
   pub still_noted : {E : Type 0} (sets : List (List ℕ)) (eq : Vec ℕ Global → Vec ℕ Global → Bool) (text : Vec ℕ Global) (n : ℕ) → ((k : Vec ℕ Global) → eq text k ≡ true → text.items ≡ k.items) → NamesSet nodes sets text.items n → (old new : List (Vec ℕ Global × ℕ)) (r : Result (Option ℕ) E) → OnOk r (new ≡ insert_entry eq old text n) → OnErr r (new ≡ old) → IsTrueIndex nodes sets old → IsTrueIndex nodes sets new

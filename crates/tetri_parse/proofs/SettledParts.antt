@@ -40,18 +40,15 @@ module _ (cluster : List NodeText) (parts : List Syntax) (i : ℕ) (lt : i < len
         ≡ (settled unit arrival wanted (phrase cluster p) sets >>= λ first. made_of (λ ts. first.0 ∷ ts) (settled_all unit arrival wanted (line_up (phrases cluster (drop (i + 1) parts))) first.1))
     turn p is = ap (λ ps. settled_all unit arrival wanted (line_up (phrases cluster ps)) sets) (here p is)
 
-    stopped : (p : Syntax) → p ≡ get_or parts i p → (e : Stop) → Stops e (settled unit arrival wanted (phrase cluster p) sets) → Stops e total
-    stopped p is stops.NoMemory h = tt
-    stopped p is (stops.Missed m) h =
+    pub part_stops : (p : Syntax) → p ≡ get_or parts i p → (e : Stop) → Stops e (settled unit arrival wanted (phrase cluster p) sets) → Stops e total
+    part_stops p is stops.NoMemory h = tt
+    part_stops p is (stops.Missed m) h =
         sym so_far
         ∙ ap (λ r. r >>= λ x. Ok (made ++ x.0, x.1)) (turn p is ∙ ap (λ r. r >>= λ first. made_of (λ ts. first.0 ∷ ts) (settled_all unit arrival wanted (line_up (phrases cluster (drop (i + 1) parts))) first.1)) h)
 
-    pub part_stops : (there : List NodeText) → there ≡ cluster → (p : Syntax) → p ≡ get_or parts i p → (e : Stop) → Stops e (settled unit arrival wanted (phrase there p) sets) → Stops e total
-    part_stops there same p is e h = stopped p is e (subst (λ nodes. Stops e (settled unit arrival wanted (phrase nodes p) sets)) same h)
-
-    goes : (p : Syntax) → p ≡ get_or parts i p → (t : Tree) (more : List (List ℕ)) → settled unit arrival wanted (phrase cluster p) sets ≡ Ok (t, more)
+    pub part_goes : (p : Syntax) → p ≡ get_or parts i p → (t : Tree) (more : List (List ℕ)) → settled unit arrival wanted (phrase cluster p) sets ≡ Ok (t, more)
         → (settled_all unit arrival wanted (line_up (phrases cluster (drop (i + 1) parts))) more >>= λ x. Ok ((made ++ t ∷ []) ++ x.0, x.1)) ≡ total
-    goes p is t more h =
+    part_goes p is t more h =
         regroup (settled_all unit arrival wanted (line_up (phrases cluster (drop (i + 1) parts))) more)
         ∙ sym (ap (λ r. r >>= λ x. Ok (made ++ x.0, x.1)) (turn p is ∙ ap (λ r. r >>= λ first. made_of (λ ts. first.0 ∷ ts) (settled_all unit arrival wanted (line_up (phrases cluster (drop (i + 1) parts))) first.1)) h))
         ∙ so_far
@@ -59,7 +56,3 @@ module _ (cluster : List NodeText) (parts : List Syntax) (i : ℕ) (lt : i < len
         regroup : (r : Result (List Tree × List (List ℕ)) Miss) → Path (Result (List Tree × List (List ℕ)) Miss) (r >>= λ x. Ok ((made ++ t ∷ []) ++ x.0, x.1)) (made_of (λ ts. t ∷ ts) r >>= λ x. Ok (made ++ x.0, x.1))
         regroup (Ok x) = ap (λ ts. Ok (ts, x.1)) (simp append_assoc)
         regroup (Err m) = refl
-
-    pub part_goes : (there : List NodeText) → there ≡ cluster → (p : Syntax) → p ≡ get_or parts i p → (t : Tree) (more : List (List ℕ)) → settled unit arrival wanted (phrase there p) sets ≡ Ok (t, more)
-        → (settled_all unit arrival wanted (line_up (phrases cluster (drop (i + 1) parts))) more >>= λ x. Ok ((made ++ t ∷ []) ++ x.0, x.1)) ≡ total
-    part_goes there same p is t more h = goes p is t more (subst (λ nodes. settled unit arrival wanted (phrase nodes p) sets ≡ Ok (t, more)) same h)

@@ -2,6 +2,7 @@
 use Rattle.std.specs.Prelude.{ℕ, ◌≡◌, ◌<◌, List, [], length, slice_index_or, Some, Vec}
 use Rattle.std.specs.List.{AllByRecursion}
 use Rattle.tetri_cluster.specs.declared.cluster.NodeText.{NodeText}
+use Rattle.tetri_cluster.specs.Sets.{AreSets}
 use Rattle.tetri_parse.specs.SetText.{nodes_in}
 
 -- the nodes of a cluster, and the sets that texts have named so far
@@ -9,8 +10,9 @@ pub record NamedSets : Type 0 where
   pub nodes : List NodeText
   pub sets : List (List ℕ)
 
--- a text names the set of this number
+-- a text names the set of this number among sets that differ
 pub record NamesSet (nodes : List NodeText) (sets : List (List ℕ)) (text : List ℕ) (set : ℕ) : Type 0 where
+  pub lawful : AreSets sets
   pub known : set < length sets
   pub named : nodes_in nodes text ≡ Some (slice_index_or sets set [])
 

@@ -3,6 +3,7 @@
 
 mod fault;
 mod laws;
+mod naming;
 mod nodes;
 mod number;
 mod peak;
@@ -19,4 +20,5 @@ mod token;
 pub use fault::{Fault, ParseFault};
 pub use laws::{faults_ascend, grammar_fault_stays, reading_meets_the_first_fault};
 pub use print::print_expr;
+pub use read::{read_expr, read_set};
 pub use reader::ClusterReader;

@@ -1,16 +1,25 @@
 // What is kept from one text over the nodes of a cluster to the next.
-ghost use Rattle.std.specs.Prelude.{◌≡◌, ◌<◌, [], length, take, IfOk, IfErr, IfSome, OnErr};
-ghost use Rattle.tetri_parse.specs.Answers.{Gives};
-ghost use Rattle.tetri_parse.specs.Reader.{NamesSet};
-ghost use Rattle.tetri_parse.specs.Settling.{settled_set};
-ghost use Rattle.tetri_parse.specs.SetText.{nodes_in, IsNodeSet};
+ghost use Rattle.std.specs.Prelude.{◌≡◌, ◌<◌, ◌≤◌, ◌+◌, All, [], length, take, map, None, IfOk, OnErr};
+ghost use Rattle.std.specs.List.{range_with_len};
+ghost use Rattle.tetri_strl.specs.Aligned.{EachLeaf};
+ghost use Rattle.tetri_strl.specs.Tree.{tree, numbers, leaves};
+ghost use Rattle.tetri_strl.specs.WellMade.{IsWellMade};
+ghost use Rattle.tetri_parse.specs.Ascending.{LeastFault};
+ghost use Rattle.tetri_parse.specs.Answers.{Answers};
+ghost use Rattle.tetri_parse.specs.Expression.{expression, node_set};
+ghost use Rattle.tetri_parse.specs.Faults.{first_fault, AnswersFault};
+ghost use Rattle.tetri_parse.specs.TextTree.{IsTextTree};
+ghost use Rattle.tetri_cluster.specs.Sets.{HaveNodesBelow};
 
-use crate::fault::{Fault, Miss, Stop};
-use crate::set_text::set_nodes;
+use crate::fault::ParseFault;
+use crate::naming::NotedTexts;
+use crate::read::{read_noting_expr, read_noting_set};
+use crate::settling::Terms;
 use indexmap::IndexMap;
 use std::alloc::Global;
 use std::marker::Model;
-use tetri_cluster::{Cluster, NodeSet, Sets, SetsFault};
+use tetri_cluster::{Cluster, Sets};
+use tetri_strl::Expr;
 
 /// A cluster, the sets that texts over it have named so far, and the numbers of the sets by their texts, so
 /// that a text that comes again is looked up.
@@ -18,18 +27,17 @@ use tetri_cluster::{Cluster, NodeSet, Sets, SetsFault};
 pub struct ClusterReader {
     cluster: Cluster,
     sets: Sets,
-    numbers: IndexMap<Vec<u8>, u32>,
+    noted: NotedTexts,
 }
 
 impl Model for ClusterReader {
-    ghost use Rattle.tetri_cluster.specs.Sets.{AreSets};
     ghost use Rattle.tetri_parse.specs.Reader.{NamedSets, IsTrueIndex};
 
     ghost Value = { NamedSets };
 
     ghost view = { λ r. record { nodes = r.cluster; sets = r.sets } };
 
-    ghost invariant = { λ r. AreSets r.sets × IsTrueIndex r.cluster r.sets r.numbers.entries };
+    ghost invariant = { λ r. IsTrueIndex r.cluster r.sets r.noted.entries };
 }
 
 impl ClusterReader {
@@ -40,7 +48,7 @@ impl ClusterReader {
         ClusterReader {
             cluster,
             sets: Sets::new(alloc),
-            numbers: IndexMap::new(alloc),
+            noted: IndexMap::new(alloc),
         }
     }
 
@@ -65,76 +73,53 @@ impl ClusterReader {
         (self.cluster, self.sets)
     }
 
-    /// Keeps the first `len` sets with their numbers, and drops the others.
-    pub(crate) fn truncate(&mut self, len: u32)
-        ensures { self.new ≡ record { nodes = self.old.nodes; sets = take len self.old.sets } }
+    /// The expression that a text says. Its values are multiplied by the unit, its slots are counted
+    /// from the arrival on, its leaves are numbered from 0 in the order of the text, and its sets are
+    /// numbered among those of the reader, where new ones come last. `At` comes exactly with the first fault
+    /// of the text: of those behind the grammar that of least offset, at one offset that of least number. Any
+    /// refusal leaves the sets as they were.
+    pub fn read_expr(
+        &mut self,
+        alloc: Global,
+        text: &[u8],
+        unit: u64,
+        arrival: u32,
+    ) -> Result<Expr, ParseFault>
+        requires unit { (1 ≤ unit) × (unit ≤ 1000000) }
+        requires arrival { arrival ≤ 10000 }
+        ensures value { Answers (λ e. (tree e, self.new.sets)) result (expression text.entry.now unit arrival self.old.nodes self.old.sets) }
+        ensures first { AnswersFault text.entry.now (first_fault text.entry.now unit self.old.nodes self.old.sets) result }
+        ensures least { LeastFault text.entry.now unit self.old.nodes self.old.sets result }
+        ensures nodes { self.new.nodes ≡ self.old.nodes }
+        ensures refused { OnErr result (self.new.sets ≡ self.old.sets) }
+        ensures kept { take (length self.old.sets) self.new.sets ≡ self.old.sets }
+        ensures well_made { IfOk result (λ e. IsWellMade (tree e)) }
+        ensures starts { IfOk result (λ e. EachLeaf (λ l. (arrival ≤ l.start) × (l.start ≤ arrival + 10000)) (tree e)) }
+        ensures numbered { IfOk result (λ e. numbers (tree e) ≡ range_with_len 0 (length (leaves (tree e)))) }
+        ensures known { IfOk result (λ e. EachLeaf (λ l. l.set < length self.new.sets) (tree e)) }
+        ensures text_tree { IfOk result (λ e. IsTextTree arrival (length self.new.sets) (tree e)) }
+        ensures within { HaveNodesBelow (length self.old.nodes) self.old.sets → HaveNodesBelow (length self.old.nodes) self.new.sets }
     {
-        self.numbers.clear();
-        self.sets.truncate(len);
+        read_noting_expr(
+            alloc,
+            text,
+            Terms { unit, arrival },
+            &self.cluster,
+            &mut self.sets,
+            &mut self.noted,
+        )
     }
 
-    /// The number of the set that a text names, a new one last. A text that was seen before is looked up.
-    pub(crate) fn set_named(&mut self, alloc: Global, left: usize, text: &[u8]) -> Result<u32, Stop>
-        ensures value { Gives (λ n. (n, self.new.sets)) result (settled_set left (nodes_in self.old.nodes text.now) self.old.sets) }
+    /// The number of the set that a text says, a new one last. `At` comes exactly with the first fault of
+    /// the text; any refusal leaves the sets as they were.
+    pub fn read_set(&mut self, alloc: Global, text: &[u8]) -> Result<u32, ParseFault>
+        ensures value { Answers (λ n. (n, self.new.sets)) result (node_set text.entry.now self.old.nodes self.old.sets) }
         ensures nodes { self.new.nodes ≡ self.old.nodes }
-        ensures err { OnErr result (self.new.sets ≡ self.old.sets) }
+        ensures refused { OnErr result (self.new.sets ≡ self.old.sets) }
         ensures kept { take (length self.old.sets) self.new.sets ≡ self.old.sets }
         ensures number { IfOk result (λ n. n < length self.new.sets) }
+        ensures within { HaveNodesBelow (length self.old.nodes) self.old.sets → HaveNodesBelow (length self.old.nodes) self.new.sets }
     {
-        match self.numbers.get(text).copied() {
-            Some(set) => Ok(set),
-            None => self.add_named(alloc, left, text),
-        }
-    }
-
-    // The number of the set that a text names, which is noted.
-    fn add_named(&mut self, alloc: Global, left: usize, text: &[u8]) -> Result<u32, Stop>
-        ensures value { Gives (λ n. (n, self.new.sets)) result (settled_set left (nodes_in self.old.nodes text.now) self.old.sets) }
-        ensures nodes { self.new.nodes ≡ self.old.nodes }
-        ensures err { OnErr result (self.new.sets ≡ self.old.sets) }
-        ensures kept { take (length self.old.sets) self.new.sets ≡ self.old.sets }
-        ensures number { IfOk result (λ n. n < length self.new.sets) }
-    {
-        let Some(nodes) = named_nodes(alloc, &self.cluster, text)? else {
-            return Err(Stop::Missed(Miss {
-                fault: Fault::UnknownSet,
-                left,
-            }));
-        };
-        match self.sets.find_or_add(nodes) {
-            Ok(set) => {
-                self.note(alloc, text, set);
-                Ok(set)
-            }
-            Err(SetsFault::Full) => Err(Stop::Missed(Miss {
-                fault: Fault::TooManySets,
-                left,
-            })),
-            Err(SetsFault::NoMemory) => Err(Stop::NoMemory),
-        }
-    }
-
-    // Notes the number of a text's set. Without memory the text is read anew when it comes again.
-    fn note(&mut self, alloc: Global, text: &[u8], set: u32)
-        requires { NamesSet self.old.nodes self.old.sets text.now set }
-        ensures { self.new ≡ self.old }
-    {
-        if let Ok(text) = Vec::from_slice(alloc, text) {
-            let _ = self.numbers.insert(text, set);
-        }
-    }
-}
-
-// The nodes that a text names, none where it names what the cluster has not.
-#[tactic(auto, unfolding(crate::specs::SetText::nodes_in))]
-fn named_nodes(alloc: Global, cluster: &Cluster, text: &[u8]) -> Result<Option<NodeSet>, Stop>
-    ensures value { IfOk result (λ o. o ≡ nodes_in cluster.now text.now) }
-    ensures memory { IfErr result (λ e. e ≡ Stop.NoMemory) }
-    ensures good { IfOk result (λ o. IfSome o (IsNodeSet (length cluster.now))) }
-{
-    match set_nodes(alloc, cluster, text) {
-        Ok((nodes, _)) => Ok(nodes),
-        Err(Stop::Missed(_)) => Ok(None),
-        Err(Stop::NoMemory) => Err(Stop::NoMemory),
+        read_noting_set(alloc, text, &self.cluster, &mut self.sets, &mut self.noted)
     }
 }

@@ -4,14 +4,16 @@ ghost use Rattle.tetri_strl.specs.Tree.{tree, join, row};
 ghost use Rattle.tetri_strl.specs.WellMade.{PEAK};
 ghost use Rattle.tetri_parse.specs.Answers.{Gives};
 ghost use Rattle.tetri_parse.specs.Phrase.{leaf_text, phrase, phrases, line_up, operator};
+ghost use Rattle.tetri_parse.specs.Reader.{IsTrueIndex};
 ghost use Rattle.tetri_parse.specs.Settling.{wanted_below, first_start_of, peak_of, settled_leaf, settled, settled_all};
 ghost use Rattle.tetri_parse.specs.Written.{IsWrittenLeaf, IsWritten, AreWritten};
 
 use crate::fault::{Fault, Miss, Stop};
+use crate::naming::{NotedTexts, set_named};
 use crate::peak::{first_start_of, peak};
-use crate::reader::ClusterReader;
 use crate::syntax::{Join, LeafText, Syntax};
 use std::alloc::Global;
+use tetri_cluster::{Cluster, Sets};
 use tetri_strl::{Expr, Leaf};
 
 const MAX_PEAK: u64 = 1_000_000_000_000;
@@ -36,13 +38,16 @@ fn settle_leaf(
     terms: Terms,
     wanted: Option<u32>,
     leaf: &LeafText<'_>,
-    reader: &mut ClusterReader,
+    cluster: &Cluster,
+    sets: &mut Sets,
+    noted: &mut NotedTexts,
 ) -> Result<Leaf, Stop>
     requires terms { (terms.unit ≤ 1000000) × (terms.arrival ≤ 10000) }
-    requires written { IsWrittenLeaf (leaf_text reader.old.nodes leaf.now) }
-    ensures value { Gives (λ l. (l, reader.new.sets)) result (settled_leaf terms.unit terms.arrival wanted (leaf_text reader.old.nodes leaf.entry.now) reader.old.sets) }
-    ensures nodes { reader.new.nodes ≡ reader.old.nodes }
-    ensures kept { take (length reader.old.sets) reader.new.sets ≡ reader.old.sets }
+    requires written { IsWrittenLeaf (leaf_text cluster.now leaf.now) }
+    requires noted { IsTrueIndex cluster.now sets.old noted.old.entries }
+    ensures value { Gives (λ l. (l, sets.new)) result (settled_leaf terms.unit terms.arrival wanted (leaf_text cluster.entry.now leaf.entry.now) sets.old) }
+    ensures kept { take (length sets.old) sets.new ≡ sets.old }
+    ensures noted { IsTrueIndex cluster.entry.now sets.new noted.new.entries }
 {
     if let Some(start) = wanted {
         if start != leaf.start {
@@ -53,7 +58,7 @@ fn settle_leaf(
     if v > MAX_PEAK {
         return Err(fault_at(Fault::TooRich, leaf.left));
     }
-    let set = reader.set_named(alloc, leaf.set_left, leaf.set)?;
+    let set = set_named(alloc, leaf.set_left, leaf.set, cluster, sets, noted)?;
     if leaf.linear && v % u64::from(leaf.k) != 0 {
         return Err(fault_at(Fault::Uneven, leaf.value_left));
     }
@@ -68,33 +73,34 @@ fn settle_leaf(
     })
 }
 
-// Whether what is spelled may be worth too much, whatever nodes the reader has.
-fn is_rich(reader: &ClusterReader, unit: u64, syntax: &Syntax<'_>) -> bool
-    ensures { result ≡ nat_lt PEAK (peak_of unit (phrase reader.now.nodes syntax.now)) }
+// Whether what is spelled may be worth too much, whatever nodes the cluster has.
+fn is_rich(cluster: &Cluster, unit: u64, syntax: &Syntax<'_>) -> bool
+    ensures { result ≡ nat_lt PEAK (peak_of unit (phrase cluster.now syntax.now)) }
 {
     peak(unit, syntax) > MAX_PEAK
 }
 
-// The written start of the first leaf below these parts, whatever nodes the reader has.
-fn first_start_below(reader: &ClusterReader, parts: &[Syntax<'_>]) -> u32
-    ensures { result ≡ first_start_of (line_up (phrases reader.now.nodes parts.now)) }
+// The written start of the first leaf below these parts, whatever nodes the cluster has.
+fn first_start_below(cluster: &Cluster, parts: &[Syntax<'_>]) -> u32
+    ensures { result ≡ first_start_of (line_up (phrases cluster.now parts.now)) }
 {
     first_start_of(parts)
 }
 
 // The start that the leaves below a join must have.
 fn wanted_below(
-    reader: &ClusterReader,
+    cluster: &Cluster,
     kind: Join,
     wanted: Option<u32>,
     parts: &[Syntax<'_>],
 ) -> Option<u32>
-    ensures { result ≡ wanted_below (operator kind) wanted (first_start_of (line_up (phrases reader.now.nodes parts.now))) }
+    ensures { result ≡ wanted_below (operator kind) wanted
+        (first_start_of (line_up (phrases cluster.now parts.now))) }
 {
     match (kind, wanted) {
         (Join::Max, _) => wanted,
         (_, Some(start)) => Some(start),
-        (_, None) => Some(first_start_below(reader, parts)),
+        (_, None) => Some(first_start_below(cluster, parts)),
     }
 }
 
@@ -115,35 +121,43 @@ pub(crate) fn settle(
     terms: Terms,
     wanted: Option<u32>,
     syntax: &Syntax<'_>,
-    reader: &mut ClusterReader,
+    cluster: &Cluster,
+    sets: &mut Sets,
+    noted: &mut NotedTexts,
 ) -> Result<Expr, Stop>
     requires terms { (terms.unit ≤ 1000000) × (terms.arrival ≤ 10000) }
-    requires written { IsWritten (phrase reader.old.nodes syntax.now) }
-    ensures value { Gives (λ e. (tree e, reader.new.sets)) result (settled terms.unit terms.arrival wanted (phrase reader.old.nodes syntax.entry.now) reader.old.sets) }
-    ensures nodes { reader.new.nodes ≡ reader.old.nodes }
-    ensures kept { take (length reader.old.sets) reader.new.sets ≡ reader.old.sets }
+    requires written { IsWritten (phrase cluster.now syntax.now) }
+    requires noted { IsTrueIndex cluster.now sets.old noted.old.entries }
+    ensures value { Gives (λ e. (tree e, sets.new)) result (settled terms.unit terms.arrival wanted (phrase cluster.entry.now syntax.entry.now) sets.old) }
+    ensures kept { take (length sets.old) sets.new ≡ sets.old }
+    ensures noted { IsTrueIndex cluster.entry.now sets.new noted.new.entries }
 {
     match syntax {
-        Syntax::Leaf(leaf) => Ok(Expr::One(settle_leaf(alloc, terms, wanted, leaf, reader)?)),
+        Syntax::Leaf(leaf) => Ok(Expr::One(settle_leaf(
+            alloc, terms, wanted, leaf, cluster, sets, noted,
+        )?)),
         Syntax::Join(kind, left, parts) => {
-            if is_rich(reader, terms.unit, syntax) {
+            if is_rich(cluster, terms.unit, syntax) {
                 return Err(fault_at(Fault::TooRich, *left));
             }
-            let wanted = wanted_below(reader, *kind, wanted, parts);
-            Ok(joined(*kind, settle_parts(alloc, terms, wanted, parts, reader)?))
+            let wanted = wanted_below(cluster, *kind, wanted, parts);
+            Ok(joined(
+                *kind,
+                settle_parts(alloc, terms, wanted, parts, cluster, sets, noted)?,
+            ))
         }
         Syntax::Scale(left, part, by) => {
-            if is_rich(reader, terms.unit, syntax) {
+            if is_rich(cluster, terms.unit, syntax) {
                 return Err(fault_at(Fault::TooRich, *left));
             }
-            let part = settle(alloc, terms, wanted, part, reader)?;
+            let part = settle(alloc, terms, wanted, part, cluster, sets, noted)?;
             Ok(Expr::Scale(Box::new(alloc, part)?, *by))
         }
         Syntax::Barrier(left, part, least) => {
-            if is_rich(reader, terms.unit, syntax) {
+            if is_rich(cluster, terms.unit, syntax) {
                 return Err(fault_at(Fault::TooRich, *left));
             }
-            let part = settle(alloc, terms, wanted, part, reader)?;
+            let part = settle(alloc, terms, wanted, part, cluster, sets, noted)?;
             Ok(Expr::Barrier(Box::new(alloc, part)?, *least * terms.unit))
         }
     }
@@ -155,17 +169,20 @@ fn settle_parts(
     terms: Terms,
     wanted: Option<u32>,
     parts: &[Syntax<'_>],
-    reader: &mut ClusterReader,
+    cluster: &Cluster,
+    sets: &mut Sets,
+    noted: &mut NotedTexts,
 ) -> Result<Vec<Expr>, Stop>
     requires terms { (terms.unit ≤ 1000000) × (terms.arrival ≤ 10000) }
-    requires written { AreWritten (line_up (phrases reader.old.nodes parts.now)) }
-    ensures value { Gives (λ es. (map tree es.items, reader.new.sets)) result (settled_all terms.unit terms.arrival wanted (line_up (phrases reader.old.nodes parts.entry.now)) reader.old.sets) }
-    ensures nodes { reader.new.nodes ≡ reader.old.nodes }
-    ensures kept { take (length reader.old.sets) reader.new.sets ≡ reader.old.sets }
+    requires written { AreWritten (line_up (phrases cluster.now parts.now)) }
+    requires noted { IsTrueIndex cluster.now sets.old noted.old.entries }
+    ensures value { Gives (λ es. (map tree es.items, sets.new)) result (settled_all terms.unit terms.arrival wanted (line_up (phrases cluster.entry.now parts.entry.now)) sets.old) }
+    ensures kept { take (length sets.old) sets.new ≡ sets.old }
+    ensures noted { IsTrueIndex cluster.entry.now sets.new noted.new.entries }
 {
     let mut made = Vec::new(alloc);
     for part in parts {
-        made.push(settle(alloc, terms, wanted, part, reader)?)?;
+        made.push(settle(alloc, terms, wanted, part, cluster, sets, noted)?)?;
     }
     Ok(made)
 }

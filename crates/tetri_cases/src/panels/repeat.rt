@@ -1,5 +1,5 @@
 // An advisor that says what was chosen last.
-ghost use Rattle.std.specs.Prelude.{◌≡◌, [], None};
+ghost use Rattle.std.specs.Prelude.{◌≡◌, [], None, OnErr, OnOk};
 
 use std::alloc::{AllocError, Global};
 use tetri_advice::Advisor;
@@ -48,7 +48,11 @@ impl Advisor for Repeat {
         alloc: Global,
         inst: &Instance,
         chosen: &Allotment,
-    ) -> Result<(), AllocError> {
+    ) -> Result<(), AllocError>
+        ensures ok { OnOk result (self.new.last ≡ chosen.now) }
+        ensures err { OnErr result (self.new.last ≡ self.old.last) }
+        ensures missed { self.new.missed ≡ self.old.missed }
+    {
         self.last = copy_grants(alloc, chosen)?;
         Ok(())
     }

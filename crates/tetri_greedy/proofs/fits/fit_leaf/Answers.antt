@@ -1,4 +1,4 @@
-use Rattle.std.proofs.Common.{◌<◌, All, [], ℕ, subst, sym}
+use Rattle.std.proofs.Common.{◌≡◌, ◌<◌, ◌∙◌, All, List, [], ℕ, ap, slice_index_or, subst, sym}
 use Rattle.std.specs.List.Sorted.{IsStrictlyIncreasing}
 use Rattle.tetri_space.specs.Slots.{is_marked}
 use Rattle.tetri_space.specs.Space.{set_of, space}
@@ -12,8 +12,8 @@ returns-then-not-may_have c =
     let l = c.args.leaf.now in
     let own = c.args.own.now in
     let taken = is_marked c.args.held.now s.now in
-    let sets : All IsStrictlyIncreasing s.sets = subst (All IsStrictlyIncreasing) c.deref.ensures c.len-sets.ensures.are_sets.ascending in
-    let up : IsStrictlyIncreasing (set_of s l) = sets l.set [] c.requires.known.known in
+    let is : c.nodes_of.result.now ≡ set_of s l = c.nodes_of.ensures.value ∙ ap (λ (sets : List (List ℕ)). slice_index_or sets l.set []) c.deref.ensures in
+    let up : IsStrictlyIncreasing (set_of s l) = subst IsStrictlyIncreasing is c.nodes_of.ensures.ascending in
     grown_by_none own (fit_of_leaf s taken own.placements l)
     (no_fit s taken own.placements l up c.requires.known.there c.least_nodes.result
     (λ nodes ascends within open_nodes.

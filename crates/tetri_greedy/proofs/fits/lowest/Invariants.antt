@@ -7,5 +7,5 @@ use Rattle.tetri_greedy.proofs.fits.lowest.Given as goal
 abbrev pub invariant-loop-node : goal.invariant-loop-node
 invariant-loop-node l =
     l.nodes
-    ++ take l.left (filter (is_available (space l.inst) (is_marked l.held (space l.inst).now) l.own.placements l.leaf) (drop l.node-index l.node-items)) ≡
+    ++ take l.left (filter (is_available (space l.inst) (is_marked l.held (space l.inst).now) l.own.placements l.leaf) (drop l.node-index l.set)) ≡
     lowest (space l.inst) (is_marked l.held (space l.inst).now) l.own.placements l.leaf

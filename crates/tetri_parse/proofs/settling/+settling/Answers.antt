@@ -1,4 +1,4 @@
-use Rattle.std.proofs.Common.{◌≡◌, ◌++◌, ◌∷◌, [], map, ◌∙◌}
+use Rattle.std.proofs.Common.{◌≡◌, ◌++◌, ◌∷◌, [], map}
 use Rattle.std.proofs.lemmas.List.{map_push}
 use Rattle.std.proofs.lemmas.Result.{err_from_is_err_and}
 use Rattle.tetri_strl.specs.Tree.{tree}
@@ -11,7 +11,7 @@ settle_parts-returns-in_err-settle-clause-value t c =
     let e = c.in_err-settle.field-0.0 in
     let u = c.args.terms.unit in
     let a = c.args.terms.arrival in
-    rw (p.1, p.2) (part_stops c.args.reader.now.nodes c.args.parts.now c.loop-part.part-index c.loop-part-test.true u a c.args.wanted (map tree c.loop-part.made.items) c.loop-part.reader.sets _ c.loop-part.invariant.so_far c.loop-part.reader.nodes c.loop-part.invariant.nodes c.part-item.result c.part-item.is e c.in_err-settle.ensures.value)
+    rw (p.1, p.2) (part_stops c.args.cluster.now c.args.parts.now c.loop-part.part-index c.loop-part-test.true u a c.args.wanted (map tree c.loop-part.made.items) c.loop-part.sets _ c.loop-part.invariant.so_far c.part-item.result c.part-item.is e c.in_err-settle.ensures.value)
 
 pub settle_parts-loop-part-preserved : goal.settle_parts-loop-part-preserved
 settle_parts-loop-part-preserved t c =
@@ -20,8 +20,8 @@ settle_parts-loop-part-preserved t c =
     let expr = c.in_ok-settle.field-0 in
     let pushed : map tree c.push.new.self.items ≡ map tree c.loop-part.made.items ++ tree expr ∷ [] = rw c.in_ok-push.ensures.items (map_push tree c.loop-part.made.items expr) in
     record {
-      so_far = rw pushed (part_goes c.args.reader.now.nodes c.args.parts.now c.loop-part.part-index c.loop-part-test.true u a c.args.wanted (map tree c.loop-part.made.items) c.loop-part.reader.sets _ c.loop-part.invariant.so_far c.loop-part.reader.nodes c.loop-part.invariant.nodes c.part-item.result c.part-item.is (tree expr) c.settle.new.reader.sets c.in_ok-settle.ensures.value);
-      written = written_on c.args.reader.now.nodes c.args.parts.now c.loop-part.part-index c.loop-part-test.true c.loop-part.invariant.written;
-      nodes = c.settle.ensures.nodes ∙ c.loop-part.invariant.nodes;
-      kept = kept_on c.args.reader.now.sets c.loop-part.reader.sets c.settle.new.reader.sets c.loop-part.invariant.kept c.settle.ensures.kept;
+      so_far = rw pushed (part_goes c.args.cluster.now c.args.parts.now c.loop-part.part-index c.loop-part-test.true u a c.args.wanted (map tree c.loop-part.made.items) c.loop-part.sets _ c.loop-part.invariant.so_far c.part-item.result c.part-item.is (tree expr) c.settle.new.sets c.in_ok-settle.ensures.value);
+      written = written_on c.args.cluster.now c.args.parts.now c.loop-part.part-index c.loop-part-test.true c.loop-part.invariant.written;
+      kept = kept_on c.args.sets.now c.loop-part.sets c.settle.new.sets c.loop-part.invariant.kept c.settle.ensures.kept;
+      noted = c.settle.ensures.noted;
     }

@@ -4,4 +4,4 @@ use Rattle.tetri_parse.proofs.Peaks.{same_peak}
 use Rattle.tetri_parse.proofs.settling.is_rich.Goals as goal
 
 pub returns : goal.returns
-returns c = let e = same_peak c.args.reader.now.nodes c.args.unit c.args.syntax.now in grind (arith, nat_tests)
+returns c = let e = same_peak c.args.cluster.now c.args.unit c.args.syntax.now in grind (arith, nat_tests)

@@ -1,17 +1,8 @@
-use Rattle.std.proofs.Common.{Ok, Err}
-use Rattle.tetri_strl.specs.declared.expr.Expr.{Expr}
-use Rattle.tetri_parse.proofs.FirstFaults.{faultless, refused_first}
-use Rattle.tetri_parse.proofs.FaultOrder.{least_answered}
+use Rattle.std.proofs.Common.{length, subst}
+use Rattle.tetri_cluster.specs.Sets.{HaveNodesBelow}
+use Rattle.tetri_parse.specs.Reader.{NamedSets}
 use Rattle.tetri_parse.proofs.reader.ClusterReader.read_expr.Goals as goal
 
-pub returns-in-Ok-clause-first : goal.returns-in-Ok-clause-first
-returns-in-Ok-clause-first c = faultless c.args.text.now c.args.unit c.args.arrival c.args.self.now.nodes c.args.self.now.sets _ c.in-Ok.ensures.value
-
-pub returns-in-Err-clause-first : goal.returns-in-Err-clause-first
-returns-in-Err-clause-first c = rw c.parse_fault.ensures (refused_first c.args.text.now c.args.unit c.args.arrival c.args.self.now.nodes c.args.self.now.sets _ c.in-Err.ensures.value)
-
-pub returns-in-Ok-clause-least : goal.returns-in-Ok-clause-least
-returns-in-Ok-clause-least c = least_answered {A = Expr} c.args.text.now c.args.unit c.args.self.now.nodes c.args.self.now.sets (Ok c.in-Ok.expr) (returns-in-Ok-clause-first c)
-
-pub returns-in-Err-clause-least : goal.returns-in-Err-clause-least
-returns-in-Err-clause-least c = least_answered {A = Expr} c.args.text.now c.args.unit c.args.self.now.nodes c.args.self.now.sets (Err c.parse_fault.result) (returns-in-Err-clause-first c)
+pub returns-clause-within : goal.returns-clause-within
+returns-clause-within c =
+    subst (λ (s : NamedSets). HaveNodesBelow (length s.nodes) s.sets → HaveNodesBelow (length s.nodes) c.read_noting_expr.new.sets) c.self.view_is c.read_noting_expr.ensures.within

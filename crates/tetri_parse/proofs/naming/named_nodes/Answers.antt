@@ -1,7 +1,7 @@
 use Rattle.std.proofs.Common.{sym, ap, subst}
 use Rattle.tetri_parse.specs.SetText.{set_at, said_nodes, nodes_in}
 use Rattle.tetri_parse.specs.Answers.{Stops}
-use Rattle.tetri_parse.proofs.reader.named_nodes.Goals as goal
+use Rattle.tetri_parse.proofs.naming.named_nodes.Goals as goal
 
 pub returns-in-Ok-clause-value : goal.returns-in-Ok-clause-value
 unfolding nodes_in
