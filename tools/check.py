@@ -17,9 +17,8 @@ are those of docs/FORMATS.md, docs/ASKS.md and docs/CERTIFICATES.md. What is tes
 
 Read `judge` first, the list of the tests; then `worth` and `Instance.fault_of`: what a plan is, and what it is worth;
 `Program`: whole numbers that stand for all lawful plans; `weighed` and `tree_bound`: why none is worth more than BOUND.
-What a report claims of its plans stands on these; the rest reads, follows the slots and counts. It ends as `tetri check`
-does: 0 and `accepted N`; 1 and `refused: line L: WHY`; 2 for a wrong call; 3 for a file that cannot be read; 5 and
-`bad trace: line L: WHY`.
+What a report claims of its plans stands on these; the rest reads, follows the slots, counts. Ends as those of `check`:
+0, `accepted N`; 1, `refused: line L: WHY`; 2, a wrong call; 3, an unreadable file; 5, `bad trace: line L: WHY`.
 """
 import json
 import math
@@ -29,12 +28,10 @@ from collections import defaultdict, namedtuple
 from functools import lru_cache
 from itertools import accumulate
 
-MOST_WORTH = 10 ** 12               # of an expression
-MOST_SETS, MOST_JOBS = 4096, 100000
+MOST_WORTH, MOST_SETS, MOST_JOBS = 10 ** 12, 4096, 100000      # of an expression; in a trace
 LONGEST_LINE, LONGEST_TRACE = 2 ** 20, 2 ** 26      # bytes; a line without its line feed
 WIDEST = 2000                       # columns, and rows, of a program for which a tree stands
-U32, U64 = 2 ** 32 - 1, 2 ** 64 - 1
-RANGE = 2 ** 127 - 1                # numbers of trees are from -RANGE to RANGE
+U32, U64, RANGE = 2 ** 32 - 1, 2 ** 64 - 1, 2 ** 127 - 1       # numbers of trees are from -RANGE to RANGE
 
 class Refusal(Exception):
     """Why a file is refused, and at which line: None for the line that is read."""
@@ -191,7 +188,7 @@ def is_closure(value):
     return has_name and whole(0, 30000)(value.get("to")) and whole(0, value["to"])(value.get("from"))
 
 def json_object(line):
-    """The object of a line: JSON in UTF-8, at most 127 deep, without half surrogate pairs; of equal keys the last counts."""
+    """The object of a line: JSON in UTF-8, at most 127 deep, without half surrogate pairs; the last of equal keys."""
     try:
         text = line.decode("utf-8")
         value = json.loads(text, parse_int=json_number, parse_float=json_number, parse_constant=json_number)
@@ -199,8 +196,7 @@ def json_object(line):
         json.dumps([json.loads(token) for token in tokens if "\\u" in token], ensure_ascii=False).encode("utf-8")
     except (ValueError, RecursionError):
         raise Refusal("not-json", None)
-    depths = accumulate((token in "[{") - (token in "]}") for token in tokens)
-    require(max(depths, default=0) <= 127, "not-json")
+    require(max(accumulate((token in "[{") - (token in "]}") for token in tokens), default=0) <= 127, "not-json")
     require(isinstance(value, dict), "not-object")
     return value
 
@@ -220,7 +216,7 @@ NAME = "[A-Za-z0-9_.:/-]+"
 FAULTS = ("unknown-set", "uneven", "mixed", "too-rich", "too-many-sets")
 
 class Text:
-    """A text of STRL. A fault of form ends it; those of meaning are gathered by place, and the first is told at the end."""
+    """A text of STRL. A fault of form ends it; the first in place of those of meaning is told at its end."""
     def __init__(self, trace, text, arrival=0):
         self.trace, self.arrival = trace, arrival
         self.text = text.encode("utf-8").decode("latin-1")
@@ -422,8 +418,7 @@ class State:
     """What is pending and what runs, from slot to slot."""
     def __init__(self, trace):
         self.trace, self.now = trace, 0
-        self.drained, self.pending = set(), set()
-        self.pieces, self.last_plan = [], []
+        self.drained, self.pending, self.pieces, self.last_plan = set(), set(), [], []
         self.counts = dict.fromkeys(COUNTS, 0)
 
     def begin(self):
@@ -476,7 +471,7 @@ class State:
         return [("expire", job) for job in expired]
 
     def carry(self, instance):
-        """What the last plan granted to pending jobs by leaves that may still start, where all is lawful; else nothing."""
+        """What the last plan granted to pending jobs by leaves that may still start, if all is lawful; else nothing."""
         left = [grant for grant in self.last_plan if grant[:2] in instance.live]
         return left if instance.first_fault(left) is None else []
 
@@ -565,14 +560,12 @@ class Instance:
 
 # ---- The program of a cycle
 class Program:
-    """The integer program of an instance. Columns are whole numbers from 0 to their upper bounds. A row has terms, pairs of
-    a column and a factor, whose sum is at most its right side. The objective is the sum of the columns times their costs."""
+    """The integer program of an instance. Columns are whole numbers from 0 to upper bounds. A row has terms, pairs of a
+    column and a factor, whose sum is at most its right side. The objective is the sum of columns times costs."""
     def __init__(self, instance):
-        self.instance = instance
-        self.upper, self.rows = [], []
+        self.instance, self.upper, self.rows = instance, [], []
         self.available = lru_cache(None)(self.available)
-        offers = [pruned(expression, instance.first, instance.end) for expression in instance.offers.values()]
-        left = [expression for expression in offers if expression is not None]
+        left = list(filter(None, (pruned(offer, instance.first, instance.end) for offer in instance.offers.values())))
         self.find_partitions({leaf.nodes for expression in left for leaf in leaves_in(expression)})
         objective = defaultdict(int)
         for expression in left:
@@ -612,7 +605,7 @@ class Program:
         self.rows.append(([(column, factor) for column, factor in factors.items() if factor], right))
 
     def add(self, expression, indicator):
-        """Adds the columns and rows of an expression under an indicator, and gives its form: terms of what it is worth."""
+        """Adds the columns and rows of an expression under an indicator; gives its form, terms that sum to its worth."""
         if isinstance(expression, Leaf):
             return self.add_leaf(expression, indicator)
         if expression.kind in ("max", "sum"):
@@ -647,11 +640,10 @@ class Program:
 
     def add_min(self, expression, indicator):
         """The column of a `min` is at most what each part is worth."""
-        most = top(expression, self.instance.first, self.instance.end)
-        column = self.column(most)
+        column = self.column(top(expression, self.instance.first, self.instance.end))
         for part in expression.parts:
             self.row([(column, 1)] + times(-1, self.add(part, indicator)))
-        return [(column, 1)] if most > 0 else []
+        return [(column, 1)] if self.upper[column] > 0 else []
 
     def add_supply(self):
         """In no slot of the window are more nodes of a partition used than are available."""
@@ -673,8 +665,8 @@ def in_range(number, column):
     return number
 
 def weighed(program, region, q, weights):
-    """The weighed number. No point of the region has q times its objective above it: rows with weights that are not below 0
-    may be added to the objective, and then each column is worth most at one of its bounds."""
+    """The weighed number. No point of the region has q times its objective above it: rows times weights that are not
+    below 0 may be added to the objective, and then each column is worth most at one of its bounds."""
     total, taken = 0, defaultdict(list)
     for row, weight in weights:
         terms, right = program.rows[row]
@@ -749,8 +741,7 @@ EVENTS, TREE = ("end", "cancel", "fail", "over", "expire"), ("split", "close", "
 
 def judge(state, block, next_line):
     """Tests the lines of a cycle, and goes to the next slot."""
-    happened = state.begin()
-    instance = Instance(state)
+    happened, instance = state.begin(), Instance(state)
     (cycle,), (plan,), lines = of_kind(block, "cycle"), of_kind(block, "plan"), of_kind(block, "grant")
     value, bound, mark, nodes = plan.values
     grants = [Grant(job, leaf, granted) for job, leaf, _, granted in (line.values for line in lines)]
@@ -799,9 +790,8 @@ def known(table, word):
 
 def grant_nodes(trace, word):
     """Nodes with commas between them, no more than a trace may have."""
-    names = word.split(",")
-    require(len(names) <= 4096, "malformed")
-    return [known(trace.nodes, name) for name in names]
+    require(word.count(",") < 4096, "malformed")
+    return [known(trace.nodes, name) for name in word.split(",")]
 
 def entries(word, value_in):
     """A dash, or pairs NUMBER:VALUE with commas between them, ascending by their numbers."""
@@ -831,14 +821,12 @@ READERS = {
     "mark": lambda trace, word: known({mark: mark for mark in ("optimal", "spent", "wide")}, word),
     "kind": lambda trace, word: known(dict.fromkeys(("ratio", "row", "entry", "point", "lcm", "weigh")), word),
     "why": lambda trace, word: word}
-
 FORMS = {                           # what stands behind the first word of a line
     "cycle": "u32", "end": "job u32", "cancel": "job", "fail": "job", "over": "job u32", "expire": "job",
     "plan": "u64 u64 mark u32", "grant": "job u32 u32 nodes", "tops": "u64 u64", "launch": "job",
     "split point": "u32 signed why fractions", "split past": "u32 signed why kind u32 u32 u32",
     "split long": "u32 signed why", "close": "signed weights", "whole": "signed weights signed weights",
     "rest": "signed weights"}
-
 BEHIND = {                          # the lines that may stand behind each line
     None: ("cycle", "summary"),
     "cycle": (*EVENTS, "plan"),
@@ -857,8 +845,7 @@ def read_summary(words):
 class Report:
     """A report as its lines come: the block that is not tested yet, and the kind of the last line."""
     def __init__(self, trace):
-        self.trace, self.state = trace, State(trace)
-        self.line, self.block, self.behind = 0, [], None
+        self.trace, self.state, self.line, self.block, self.behind = trace, State(trace), 0, [], None
 
     def read(self, path):
         """Checks the report in a file."""
@@ -907,7 +894,6 @@ def main(words):
         told, status = "read fault", 3
     print(told, file=sys.stderr)
     return status
-
 
 if __name__ == "__main__":
     sys.exit(main(sys.argv[1:]))
