@@ -605,7 +605,7 @@ class Program:
         self.rows.append(([(column, factor) for column, factor in factors.items() if factor], right))
 
     def add(self, expression, indicator):
-        """Adds the columns and rows of an expression under an indicator; gives its form, terms that sum to its worth."""
+        """Adds columns and rows of an expression under an indicator; gives its form, terms that sum to its worth."""
         if isinstance(expression, Leaf):
             return self.add_leaf(expression, indicator)
         if expression.kind in ("max", "sum"):
