@@ -872,7 +872,7 @@ class Report:
 
     def values_of(self, kind, words):
         """What the words behind the first one say."""
-        form = FORMS.get("split " + words[2] if kind == "split" and len(words) > 2 else kind, "").split()
+        form = known(FORMS, "split " + words[2] if kind == "split" and len(words) > 2 else kind).split()
         require(len(words) == len(form), "malformed")
         return tuple(READERS[name](self.trace, word) for name, word in zip(form, words))
 
