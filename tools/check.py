@@ -41,6 +41,11 @@ def require(holds, why, line=None):
     if not holds:
         raise Refusal(why, line)
 
+def lines_of(path):
+    """The lines of a file with their numbers; one that is too long is cut short behind the limit."""
+    with open(path, "rb") as file:
+        yield from enumerate(iter(lambda: file.readline(LONGEST_LINE + 2), b""), 1)
+
 # ---- The trace
 # A job as it arrived. `late` is how many slots longer its pieces run, `work` an expression or an Ask.
 Job = namedtuple("Job", "name arrival late work")
@@ -60,9 +65,8 @@ class Trace:
 
     def read(self, path):
         """Reads the trace in a file."""
-        with open(path, "rb") as file:
-            for self.line, text in enumerate(file, 1):
-                self.read_line(text)
+        for self.line, text in lines_of(path):
+            self.read_line(text)
         self.line += 1
         require(self.nodes, "no-header")
 
@@ -108,9 +112,9 @@ class Trace:
         self.last_slot = slot
         if job:
             self.add_job(job)
-        known, fault = (self.job_numbers, "job") if key in ("arrive", "cancel") else (self.nodes, "node")
-        require(name in known, "no-such-" + fault)
-        self.events[slot].append((key, known[name]))
+        numbers, fault = (self.job_numbers, "job") if key in ("arrive", "cancel") else (self.nodes, "node")
+        require(name in numbers, "no-such-" + fault)
+        self.events[slot].append((key, numbers[name]))
 
     def read_job(self, event, name, slot):
         """The job that arrives; its work has texts yet, in place of expressions and sets."""
@@ -665,8 +669,7 @@ def in_range(number, column):
     return number
 
 def weighed(program, region, q, weights):
-    """The weighed number. No point of the region has q times its objective above it: rows times weights that are not
-    below 0 may be added to the objective, and then each column is worth most at one of its bounds."""
+    """The weighed number: by weak duality no point of the region has q times its objective above it."""
     total, taken = 0, defaultdict(list)
     for row, weight in weights:
         terms, right = program.rows[row]
@@ -849,9 +852,8 @@ class Report:
 
     def read(self, path):
         """Checks the report in a file."""
-        with open(path, "rb") as file:
-            for self.line, text in enumerate(file, 1):
-                self.read_line(text.rstrip(b"\n"))
+        for self.line, text in lines_of(path):
+            self.read_line(text.rstrip(b"\n"))
         self.line += 1
         require(self.behind == "summary", "malformed")
 
@@ -888,8 +890,7 @@ def main(words):
             return 0
         told, status = "usage: tools/check.py TRACE REPORT", 2
     except Refusal as refusal:
-        why, line = refusal.args
-        told %= (line or reader.line, why)
+        told %= (refusal.args[1] or reader.line, refusal.args[0])
     except OSError:
         told, status = "read fault", 3
     print(told, file=sys.stderr)
