@@ -97,7 +97,7 @@ impl<A: Advisor> PanelOf<A> {
         ensures err { OnErr result ((seats A.says A.misses A.creed self.new ≡ seats A.says A.misses A.creed self.old) × (self.new.missed ≡ self.old.missed)) }
         ensures later { self.old.missed ≤ self.new.missed }
     {
-        let _missed = self.missed;
+        let mut missed = self.missed;
         let count = self.seats.len();
         let mut given = Vec::with_capacity(alloc, count)?;
         let mut heard = Vec::with_capacity(alloc, count)?;
@@ -119,11 +119,12 @@ impl<A: Advisor> PanelOf<A> {
                 }
                 Verdict::Missed => {
                     heard.push(false)?;
-                    self.missed = self.missed.saturating_add(1);
+                    missed = missed.saturating_add(1);
                     place += 1;
                 }
             }
         }
+        self.missed = missed;
         Ok(Advice { given, heard })
     }
 

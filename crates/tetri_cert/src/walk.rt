@@ -104,7 +104,8 @@ impl Walk {
         Ok(())
     }
 
-    /// Takes the next mark. Its only error is want of memory, and then the walk tells what it told before.
+    /// Takes the next mark. Its only error is want of memory, and then the walk tells what it told before and counts as many
+    /// nodes.
     #[tactic(auto, using(crate::proofs::Signed::signed), unfolding(crate::specs::Walks::tells))]
     pub fn feed(&mut self, alloc: Global, p: &Program, mark: &Mark) -> Result<(), AllocError>
         requires fit { IsFit p.now }
@@ -115,6 +116,8 @@ impl Walk {
         ensures node { OnOk result (self.new.node ≡ self.old.node + 1) }
         ensures counted { OnOk result (self.new.counted ≡ self.old.counted + nodes_in (mark.now ∷ [])) }
         ensures err { OnErr result ((rest : List Mark) → tells self.new p.now rest ≡ tells self.old p.now rest) }
+        ensures same_node { OnErr result (self.new.node ≡ self.old.node) }
+        ensures same_count { OnErr result (self.new.counted ≡ self.old.counted) }
     {
         self.visit(alloc, p, mark)?;
         self.node += 1;

@@ -160,19 +160,11 @@ fn last_point(
 }
 
 // The bound of a tree of a search, which is a proper one.
-fn bound_of(
-    alloc: Global,
-    p: &Program,
-    low: u64,
-    budget: u32,
-    marks: &[Mark],
-) -> Result<u64, AllocError>
+fn bound_of(alloc: Global, p: &Program, marks: &[Mark]) -> Result<u64, AllocError>
     requires fit { IsFit p.now }
-    requires earned { IsEarned p.now low budget marks.now }
+    requires earned { (low : ℕ) × (budget : ℕ) × IsEarned p.now low budget marks.now }
     ensures { IfOk result (λ b. tree_bound p.now marks.now ≡ Ok b) }
 {
-    let _low = low;
-    let _budget = budget;
     match bound(alloc, p, marks) {
         Ok(bound) => Ok(bound),
         Err(TreeFault::NoMemory) => Err(AllocError),
@@ -207,7 +199,7 @@ pub fn search(alloc: Global, c: &Compiled, low: u64, budget: u32) -> Result<Foun
     let columns = p.costs.len();
     let mut factors = vec![in alloc; 0i128; columns]?;
     let Grown { marks, best, used } = grow(alloc, p, &mut factors, low, budget)?;
-    let bound = bound_of(alloc, p, low, budget, marks.as_slice())?;
+    let bound = bound_of(alloc, p, marks.as_slice())?;
     let last = last_point(alloc, columns, marks.as_slice())?;
     Ok(Found {
         marks,

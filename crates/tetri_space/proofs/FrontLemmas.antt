@@ -14,7 +14,7 @@ use Rattle.tetri_space.specs.Free.{IsFree}
 use Rattle.tetri_space.specs.steps.Front.{IsTaken}
 use Rattle.tetri_space.specs.GrantOrder.{ComesBefore, comes_first}
 use Rattle.tetri_space.specs.Lawful.{AreApart, IsLawful, IsLawfulGrant, MayBeGranted}
-use Rattle.tetri_space.specs.Slots.{is_marked, marked, overlap, slots_of}
+use Rattle.tetri_space.specs.Slots.{is_marked, overlap, slots_of}
 use Rattle.tetri_space.specs.Sound.{IsSound}
 use Rattle.tetri_space.specs.Space.{Covers, Space, leaf_in}
 use Rattle.tetri_space.proofs.ClashLemmas.{value_in}

@@ -26,7 +26,10 @@ pub use closure::Closure;
 pub use closures::Closures;
 pub use free_nodes::{free, free_throughout};
 pub use instance::{Instance, Offer};
-pub use laws::tops_bound_every_lawful_total;
+pub use laws::{
+    ordered_grants_are_worth_as_much, tops_bound_every_lawful_total,
+    trimmed_grants_are_worth_as_much,
+};
 pub use leaves::leaf_of;
 pub use masks::{hold, holds_some, slots_of};
 pub use ordering::{comes_first, order_grants};

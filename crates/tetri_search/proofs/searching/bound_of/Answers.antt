@@ -6,12 +6,14 @@ use Rattle.tetri_search.proofs.searching.bound_of.Goals as goal
 
 pub unreachable-requires : goal.unreachable-requires
 unreachable-requires c =
-    let r = earned_is_proper c.args.p.now c.args.low c.args.budget c.args.marks.now c.requires.fit c.requires.earned in
+    let earned = c.requires.earned in
+    let r = earned_is_proper c.args.p.now earned.0 earned.1 c.args.marks.now c.requires.fit earned.2 in
     let e : tree_bound c.args.p.now c.args.marks.now ≡ Err (Bad c.in-Err-Bad.field-0-0 c.in-Err-Bad.field-0-1) = rw c.in-Err-Bad.field-0-is at c.in-Err-Bad.ensures in
     cc (r.bound_is, e)
 
 pub unreachable-requires-in-Err-Past : goal.unreachable-requires-in-Err-Past
 unreachable-requires-in-Err-Past c =
-    let r = earned_is_proper c.args.p.now c.args.low c.args.budget c.args.marks.now c.requires.fit c.requires.earned in
+    let earned = c.requires.earned in
+    let r = earned_is_proper c.args.p.now earned.0 earned.1 c.args.marks.now c.requires.fit earned.2 in
     let e : tree_bound c.args.p.now c.args.marks.now ≡ Err (Past c.in-Err-Past.field-0-0 c.in-Err-Past.field-0-1) = rw c.in-Err-Past.field-0-is at c.in-Err-Past.ensures in
     cc (r.bound_is, e)

@@ -1,12 +1,19 @@
 use Rattle.std.proofs.Common.{◌≡◌, ℕ, sym, subst, arith, length, List}
 use Rattle.tetri_cert.specs.declared.marks.Mark.{Mark}
-use Rattle.tetri_search.specs.Follow.{last_whole}
+use Rattle.tetri_search.specs.Follow.{IsEarned, last_whole}
 use Rattle.tetri_search.specs.Laws.{IsBestPoint}
 use Rattle.tetri_search.specs.Nodes.{AreWholePoints}
 use Rattle.tetri_search.proofs.LastLemmas.{last_columns, last_in_box, last_worth}
 use Rattle.tetri_search.proofs.ProperLemmas.{earned_wholes}
 use Rattle.tetri_search.proofs.RiseLemmas.{wholes_rise}
 use Rattle.tetri_search.proofs.searching.search.Goals as goal
+
+pub bound_of-requires-clause-earned : goal.bound_of-requires-clause-earned
+bound_of-requires-clause-earned c = (
+  c.args.low,
+  c.args.budget,
+  subst (λ (ms : List Mark). IsEarned c.args.c.now.program c.args.low c.args.budget ms) (sym c.as_slice.ensures) c.in_ok-marks.ensures.earned,
+)
 
 pub last_point-requires : goal.last_point-requires
 last_point-requires c = λ cells h.

@@ -11,7 +11,7 @@ invariant-loop-asked g l =
     record {
       asked : Asked i (map sat (take l._asked l.initial.self.seats.items)) l.heard.items l.given.items (map sat (take l.place l.self.seats.items));
       rest : drop l.place l.self.seats.items ≡ drop l._asked l.initial.self.seats.items;
-      missed : l.self.missed ≡ min (l.initial.self.missed + count_by not l.heard.items) (2 ^ 64 - 1);
+      missed : l.missed ≡ min (l.initial.self.missed + count_by not l.heard.items) (2 ^ 64 - 1);
       count_is : l.count ≡ length l.initial.self.seats.items;
       heard_len : vec_len l.heard ≡ l._asked;
       given_len : vec_len l.given ≤ l._asked;
