@@ -2,7 +2,8 @@
 use crate::texts::clusters::cluster_of;
 use crate::texts::parsed::fault_told;
 use std::alloc::{AllocError, Global};
-use tetri_parse::ClusterReader;
+use tetri_cluster::Sets;
+use tetri_parse::{ClusterReader, read_expr, read_set};
 use tetri_tables::{Given, Tally, expand, expand_text, halves};
 
 // The number and the nodes of what a text says.
@@ -40,6 +41,28 @@ fn expression_told(
     }
 }
 
+// The number and the nodes of what a text says where there are no other sets.
+fn lone_set_told(alloc: Global, reader: &ClusterReader, text: &[u8]) -> Result<String, AllocError> {
+    let mut sets = Sets::new(alloc);
+    match read_set(alloc, text, reader.cluster(), &mut sets) {
+        Ok(set) => format!(in alloc; "{set} {:?}", sets.nodes_of(set).as_slice()),
+        Err(fault) => fault_told(alloc, fault),
+    }
+}
+
+// How many sets an expression names where there are no others.
+fn lone_expression_told(
+    alloc: Global,
+    reader: &ClusterReader,
+    text: &[u8],
+) -> Result<String, AllocError> {
+    let mut sets = Sets::new(alloc);
+    match read_expr(alloc, text, 1, 0, reader.cluster(), &mut sets) {
+        Ok(_) => format!(in alloc; "{}", sets.len()),
+        Err(fault) => fault_told(alloc, fault),
+    }
+}
+
 fn row_told(alloc: Global, reader: &mut ClusterReader, row: &str) -> Result<String, AllocError> {
     let (word, text) = row.split_once(": ").unwrap_or(("", row));
     let bytes = expand(alloc, text)?;
@@ -47,6 +70,8 @@ fn row_told(alloc: Global, reader: &mut ClusterReader, row: &str) -> Result<Stri
         "set" => told(alloc, reader, &bytes),
         "fill" => filled(alloc, reader, text.parse::<u32>().unwrap_or(0)),
         "expression" => expression_told(alloc, reader, &bytes),
+        "lone set" => lone_set_told(alloc, reader, &bytes),
+        "lone expression" => lone_expression_told(alloc, reader, &bytes),
         _ => String::from_str(alloc, "no such word"),
     }
 }
@@ -64,7 +89,8 @@ fn expect_row(
 }
 
 /// Rows over the nodes of the trace, one behind the other over the same sets: `set: TEXT => NUMBER [NODES]`,
-/// `fill: COUNT => NUMBER OF SETS` with the sets `{n0}`, `{n1}` and so on, and `expression: TEXT => NUMBER OF SETS`.
+/// `fill: COUNT => NUMBER OF SETS` with the sets `{n0}`, `{n1}` and so on, `expression: TEXT => NUMBER OF SETS`, and `lone set` and `lone expression`,
+/// which are read with no other sets.
 pub fn sets(alloc: Global, given: &Given, tally: &mut Tally, body: &str) -> Result<(), AllocError> {
     let Some(cluster) = cluster_of(alloc, given, tally)? else {
         return Ok(());
