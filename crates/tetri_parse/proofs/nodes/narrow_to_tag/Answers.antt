@@ -1,4 +1,4 @@
-use Rattle.std.proofs.Common.{◌≡◌, ◌∙◌, List, ℕ, ap, filter, length, nat_eq, true}
+use Rattle.std.proofs.Common.{◌≡◌, ◌∙◌, ap, filter, length, nat_eq, true}
 use Rattle.std.specs.List.{list_any}
 use Rattle.tetri_cluster.specs.Cluster.{knows_tag}
 use Rattle.tetri_cluster.specs.Names.{is_among}
