@@ -17,6 +17,7 @@ mod NodeSets
 mod Outcomes
 mod Rows
 mod Runs
+mod SeenTags
 mod SetsBack
 mod Settled
 mod Spelled

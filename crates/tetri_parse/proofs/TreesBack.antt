@@ -1,5 +1,5 @@
 -- Printed trees are read back.
-use Rattle.std.proofs.Common.{◌≡◌, ℕ, zero, suc, ◌+◌, ◌-◌, ◌*◌, ◌≤◌, ◌<◌, max, true, false, nat_lt, List, [], ◌∷◌, ◌++◌, length, Option, Some, None, Result, Ok, refl, sym, ap, ◌∙◌, subst, append_assoc, append-nil, length-append, arith}
+use Rattle.std.proofs.Common.{◌≡◌, ℕ, zero, suc, ◌+◌, ◌-◌, ◌*◌, ◌≤◌, ◌<◌, max, false, nat_lt, List, [], ◌∷◌, ◌++◌, length, Option, Some, None, Result, Ok, refl, sym, ap, ◌∙◌, subst, append_assoc, append-nil, length-append, arith}
 use Rattle.std.specs.Prelude.{All, codes, decimal, flat_map}
 use Rattle.std.specs.List.{range_with_len}
 use Rattle.std.specs.List.Sorted.{IsStrictlyIncreasing}
@@ -11,8 +11,6 @@ use Rattle.tetri_strl.specs.Aligned.{EachLeaf, EachLeafOf, StartsAt, MeetsAt, Is
 use Rattle.tetri_strl.specs.Tree.{Operator, greatest, least, added, Tree, one, join, scale, barrier, Trees, none, more, row, leaves, numbers, numbers_of}
 use Rattle.tetri_strl.specs.WellMade.{PEAK, peak, peaks, peak_joined, HasChild, IsSound, AreSound, depth, depth_of}
 use Rattle.tetri_cluster.specs.declared.cluster.NodeText.{NodeText}
-use Rattle.tetri_cluster.specs.Cluster.{names_of}
-use Rattle.tetri_cluster.specs.Names.{differ}
 use Rattle.tetri_cluster.specs.Sets.{AreSets, HaveNodesBelow}
 use Rattle.tetri_parse.specs.declared.fault.Fault.TheVariants.{TooRich}
 use Rattle.tetri_parse.specs.declared.fault.Miss.{Miss}
@@ -20,7 +18,7 @@ use Rattle.tetri_base.specs.ResultSteps.{◌>>=◌}
 use Rattle.tetri_parse.specs.Expression.{expression, expression_left}
 use Rattle.tetri_parse.specs.Grammar.{part_with_number, goes_on_to_child, children_at, body_at, expr_at, whole_at}
 use Rattle.tetri_parse.specs.Phrase.{Phrase, asked, joined, scaled, barred, line_up}
-use Rattle.tetri_parse.specs.Printing.{after_comma, with_commas, HasNames, nodes_of, leaf_word, join_word, set_text, leaf_text, text_of, texts_of, AreNamed}
+use Rattle.tetri_parse.specs.Printing.{after_comma, with_commas, nodes_of, leaf_word, join_word, set_text, leaf_text, text_of, texts_of, IsNamed, AreNamed}
 use Rattle.tetri_parse.specs.Rows.{row_at}
 use Rattle.tetri_parse.specs.SetText.{IsNodeSet}
 use Rattle.tetri_parse.specs.Settling.{at, is_mixed, first_start, first_start_of, wanted_below, unless_rich, made_of, peak_of, peaks_of, settled, settled_all}
@@ -60,7 +58,7 @@ module _ (arrival : ℕ) (cluster : List NodeText) (sets : List (List ℕ)) wher
     pub early : arrival ≤ l.start
     pub late : l.start ≤ arrival + 10000
     pub known : l.set < length sets
-    pub named : HasNames cluster (nodes_of sets l)
+    pub named : IsNamed cluster sets l
 
   pub record Fits (levels taken : ℕ) (t : Tree) : Type 0 where
     pub sound : IsSound t
@@ -197,9 +195,9 @@ module _ (arrival : ℕ) (cluster : List NodeText) (sets : List (List ℕ)) wher
   deeper : (levels : ℕ) → 1 ≤ levels → levels ≡ suc (levels - 1)
   deeper levels h = omega arith
 
-  module _ (d : differ (names_of cluster) ≡ true) (lawful : AreSets sets) (within : HaveNodesBelow (length cluster) sets) where
-    node_set : (l : Leaf) → l.set < length sets → IsNodeSet (length cluster) (nodes_of sets l)
-    node_set l lt = record {
+  module _ (within : HaveNodesBelow (length cluster) sets) where
+    node_set : (l : Leaf) → AreSets sets → l.set < length sets → IsNodeSet (length cluster) (nodes_of sets l)
+    node_set l lawful lt = record {
       ascending = All-get_or IsStrictlyIncreasing sets l.set [] lt lawful.ascending;
       within = All-get_or (All (λ n. n < length cluster)) sets l.set [] lt within;
     }
@@ -208,20 +206,20 @@ module _ (arrival : ℕ) (cluster : List NodeText) (sets : List (List ℕ)) wher
     unfolding leaf_text
     leaf_is_read l levels taken rest f =
         let good = f.sound.0 in
-        let nodes = node_set l f.each.known in
+        let nodes = node_set l f.each.named.lawful f.each.known in
         let start : l.start - arrival ≤ 10000 = let late = f.each.late in omega arith in
         let room : taken < 128 = let few = f.few in omega arith in
         let num : taken ≡ l.num = let e : l.num ∷ [] ≡ taken ∷ [] = f.numbered in cc in
         let inner = levels - 1 in
         let left = length (leaf_word l.linear ++ (set_text cluster (nodes_of sets l) ++ 44 ∷ numbers_onto l.k (l.start - arrival) l.dur l.v rest)) in
-        let m = leaf_read cluster d (nodes_of sets l) nodes f.each.named l.k (l.start - arrival) l.dur l.v rest l.linear taken left in
+        let m = leaf_read cluster f.each.named.apart (nodes_of sets l) nodes f.each.named.nodes l.k (l.start - arrival) l.dur l.v rest l.linear taken left in
         record {
           spelled = asked m;
-          reads = ap (λ n. expr_at cluster n (taken, text_of arrival cluster sets (one l) ++ rest)) (deeper levels f.shallow) ∙ leaf_back cluster d (nodes_of sets l) nodes f.each.named l.k (l.start - arrival) l.dur l.v rest l.linear inner taken room good.some_nodes good.few_nodes start good.some_slots good.few_slots f.sound.1;
+          reads = ap (λ n. expr_at cluster n (taken, text_of arrival cluster sets (one l) ++ rest)) (deeper levels f.shallow) ∙ leaf_back cluster f.each.named.apart (nodes_of sets l) nodes f.each.named.nodes l.k (l.start - arrival) l.dur l.v rest l.linear inner taken room good.some_nodes good.few_nodes start good.some_slots good.few_slots f.sound.1;
           makes = record {
             same_peak = omega arith;
             start = refl;
-            settles = λ wanted h. ap (made_of one) (leaf_settles arrival sets lawful l f.each.known f.each.early good f.sound.1 m num refl refl refl refl refl wanted refl (agrees wanted l.start h));
+            settles = λ wanted h. ap (made_of one) (leaf_settles arrival sets f.each.named.lawful l f.each.known f.each.early good f.sound.1 m num refl refl refl refl refl wanted refl (agrees wanted l.start h));
           };
         }
 
@@ -413,14 +411,14 @@ module _ (arrival : ℕ) (cluster : List NodeText) (sets : List (List ℕ)) wher
     fit_leaves (scale t s) start known named = fit_leaves t start known named
     fit_leaves (barrier t v) start known named = fit_leaves t start known named
 
-    fit_all : (ts : Trees) → EachLeafOf (λ l. (arrival ≤ l.start) × (l.start ≤ arrival + 10000)) ts → EachLeafOf (λ l. l.set < length sets) ts → EachLeafOf (λ l. HasNames cluster (nodes_of sets l)) ts → EachLeafOf (IsFitLeaf arrival cluster sets) ts
+    fit_all : (ts : Trees) → EachLeafOf (λ l. (arrival ≤ l.start) × (l.start ≤ arrival + 10000)) ts → EachLeafOf (λ l. l.set < length sets) ts → EachLeafOf (IsNamed cluster sets) ts → EachLeafOf (IsFitLeaf arrival cluster sets) ts
     fit_all none start known named = tt
     fit_all (more t ts) start known named = (fit_leaves t start.0 known.0 named.0, fit_all ts start.1 known.1 named.1)
 
-  pub reads_back : (t : Tree) → IsTextTree arrival (length sets) t → HaveNodesBelow (length cluster) sets → AreSets sets → differ (names_of cluster) ≡ true → AreNamed cluster sets t → expression (text_of arrival cluster sets t) 1 arrival cluster sets ≡ Ok (t, sets)
-  reads_back t h within lawful d named =
+  pub reads_back : (t : Tree) → IsTextTree arrival (length sets) t → HaveNodesBelow (length cluster) sets → AreNamed cluster sets t → expression (text_of arrival cluster sets t) 1 arrival cluster sets ≡ Ok (t, sets)
+  reads_back t h within named =
       let count : length (numbers t) ≡ length (leaves t) = ap length h.numbered ∙ length-range_with_len 0 (length (leaves t)) in
-      whole_back arrival cluster sets d lawful within t (record {
+      whole_back arrival cluster sets within t (record {
         sound = h.well_made.sound;
         aligned = h.well_made.aligned;
         each = fit_leaves t h.starts h.known named;

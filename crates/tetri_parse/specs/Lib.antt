@@ -10,6 +10,7 @@ pub mod FirstPass
 pub mod Settling
 pub mod Expression
 pub mod Written
+pub mod Tagged
 pub mod TextTree
 pub mod Printing
 pub mod Faults

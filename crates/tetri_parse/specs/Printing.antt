@@ -5,9 +5,9 @@ use Rattle.tetri_strl.specs.declared.expr.Leaf.{Leaf}
 use Rattle.tetri_strl.specs.Aligned.{EachLeaf}
 use Rattle.tetri_strl.specs.Tree.{Operator, greatest, least, added, Tree, one, join, scale, barrier, Trees, none, more}
 use Rattle.tetri_cluster.specs.declared.cluster.NodeText.{NodeText}
-use Rattle.tetri_cluster.specs.Names.{is_name}
-use Rattle.tetri_cluster.specs.Cluster.{name_at}
-use Rattle.tetri_cluster.specs.Sets.{has_nodes}
+use Rattle.tetri_cluster.specs.Names.{differ, is_name}
+use Rattle.tetri_cluster.specs.Cluster.{name_at, names_of}
+use Rattle.tetri_cluster.specs.Sets.{AreSets, has_nodes}
 
 abbrev pub after_comma : List ℕ → List ℕ
 after_comma text = 44 ∷ text
@@ -61,6 +61,12 @@ module _ (arrival : ℕ) (cluster : List NodeText) (sets : List (List ℕ)) wher
     texts_of none = []
     texts_of (more t ts) = text_of t ∷ texts_of ts
 
--- the names that are printed are names
+-- what a printed leaf tells: its nodes have names, the names of nodes differ, and so do the sets
+pub record IsNamed (cluster : List NodeText) (sets : List (List ℕ)) (l : Leaf) : Type 0 where
+  pub nodes : HasNames cluster (nodes_of sets l)
+  pub apart : differ (names_of cluster) ≡ true
+  pub lawful : AreSets sets
+
+-- each leaf tells so
 abbrev pub AreNamed : List NodeText → List (List ℕ) → Tree → Type 0
-AreNamed cluster sets t = EachLeaf (λ l. HasNames cluster (nodes_of sets l)) t
+AreNamed cluster sets t = EachLeaf (IsNamed cluster sets) t

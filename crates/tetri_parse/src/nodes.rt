@@ -1,11 +1,13 @@
 // The nodes that the parts of a set mean.
-ghost use Rattle.std.specs.Prelude.{◌≡◌, ◌<◌, ℕ, All, map, length, filter, nat_eq, false, replicate, slice_index_or, option_map, IfOk, IfSome};
+ghost use Rattle.std.specs.Prelude.{◌≡◌, ℕ, List, map, length, filter, nat_eq, option_map, IfOk, IfSome, Some};
 ghost use Rattle.std.specs.List.{list_any, range_with_len};
-ghost use Rattle.tetri_parse.specs.SetText.{part_of, numbers_of, narrowed, IsNodeSet};
+ghost use Rattle.std.specs.List.Sorted.{IsNonDecreasing};
+ghost use Rattle.tetri_parse.specs.SetText.{part_of, tagged, listed, numbers_of, narrowed, IsNodeSet};
+ghost use Rattle.tetri_parse.specs.Tagged.{HaveTags};
 
 use crate::set_text::Part;
 use std::alloc::{AllocError, Global};
-use tetri_cluster::{Cluster, NodeSet};
+use tetri_cluster::{Cluster, NameTable, NodeSet};
 
 /// All nodes of a cluster of this many.
 pub(crate) fn all_nodes(alloc: Global, count: u32) -> Result<NodeSet, AllocError>
@@ -25,8 +27,8 @@ fn numbers(
     cluster: &Cluster,
     names: &[&[u8]],
 ) -> Result<Option<Vec<u32>>, AllocError>
-    ensures value { IfOk result (λ o. option_map (λ v. v.items) o ≡ numbers_of cluster.now (map (λ n. n.now) names.now)) }
-    ensures within { IfOk result (λ o. IfSome o (λ v. All (λ n. n < length cluster.now) v.items)) }
+    ensures { IfOk result (λ o. option_map (λ v. v.items) o
+        ≡ numbers_of cluster.now (map (λ n. n.now) names.now)) }
 {
     let mut numbers = Vec::new(alloc);
     for name in names {
@@ -38,71 +40,97 @@ fn numbers(
     Ok(Some(numbers))
 }
 
-fn flags(alloc: Global, count: usize) -> Result<Vec<bool>, AllocError>
-    ensures { IfOk result (λ v. v.items ≡ replicate count false) }
+// Whether numbers, which ascend, have a number.
+fn holds(numbers: &[u32], number: u32) -> bool
+    requires { IsNonDecreasing numbers.now }
+    ensures { result ≡ list_any (nat_eq number) numbers.now }
 {
-    vec![in alloc; false; count]
+    numbers.binary_search(&number).is_ok()
 }
 
-// For each node, whether it is one of these.
-fn chosen(alloc: Global, count: u32, numbers: &[u32]) -> Result<Vec<bool>, AllocError>
-    requires { All (λ n. n < count) numbers.now }
-    ensures len { IfOk result (λ v. length v.items ≡ count) }
-    ensures value { IfOk result (λ v. (n : ℕ) → n < count
-        → slice_index_or v.items n false ≡ list_any (nat_eq n) numbers.now) }
-{
-    let mut chosen = flags(alloc, count as usize)?;
-    for number in numbers {
-        chosen[*number as usize] = true;
-    }
-    Ok(chosen)
-}
-
-// Those of the nodes that are among the numbers.
-fn among(alloc: Global, count: u32, numbers: &[u32], nodes: &[u32]) -> Result<NodeSet, AllocError>
-    requires numbers_within { All (λ n. n < count) numbers.now }
-    requires nodes_within { All (λ n. n < count) nodes.now }
+// Those of the nodes that are among the numbers, which ascend. It looks at each of the nodes once.
+fn among(alloc: Global, numbers: &[u32], nodes: &[u32]) -> Result<NodeSet, AllocError>
+    requires { IsNonDecreasing numbers.now }
     ensures { IfOk result (λ s. s ≡ filter (λ n. list_any (nat_eq n) numbers.now) nodes.now) }
 {
-    let chosen = chosen(alloc, count, numbers)?;
     let mut found = NodeSet::new(alloc);
     for node in nodes {
-        if chosen[*node as usize] {
+        if holds(numbers, *node) {
             found.push(*node)?;
         }
     }
     Ok(found)
 }
 
-/// What is left of nodes in a part, none where it names what the cluster has not.
-#[tactic(auto, using(crate::proofs::NodeSets::kept_is_node_set))]
+// What is left of nodes in a tag, none where no node has it. Nodes that have the tags that were seen are left as
+// they are by such a tag.
+fn narrow_to_tag(
+    alloc: Global,
+    cluster: &Cluster,
+    tag: &[u8],
+    nodes: NodeSet,
+    seen: &mut NameTable,
+) -> Result<Option<NodeSet>, AllocError>
+    requires good { IsNodeSet (length cluster.now) nodes }
+    requires seen { HaveTags cluster.now nodes seen.old }
+    ensures value { IfOk result (λ o. o ≡ narrowed cluster.now (Some nodes) (tagged tag.now)) }
+    ensures good { IfOk result (λ o. IfSome o (IsNodeSet (length cluster.now))) }
+    ensures seen { IfOk result (λ o. IfSome o (λ left. HaveTags cluster.now left seen.new)) }
+{
+    if seen.number(tag).is_some() {
+        return Ok(Some(nodes));
+    }
+    let tagged = cluster.nodes_with(tag);
+    if tagged.is_empty() {
+        return Ok(None);
+    }
+    let left = among(alloc, tagged, nodes.as_slice())?;
+    let _is_new = seen.add(tag)?;
+    Ok(Some(left))
+}
+
+// What is left of nodes in those with these names, none where one is no node's name.
+fn narrow_to_names(
+    alloc: Global,
+    cluster: &Cluster,
+    names: &[&[u8]],
+    nodes: &NodeSet,
+) -> Result<Option<NodeSet>, AllocError>
+    requires { IsNodeSet (length cluster.now) nodes.now }
+    ensures value { IfOk result (λ o. o
+        ≡ narrowed cluster.now (Some nodes.now) (listed (map (λ n. n.now) names.now))) }
+    ensures good { IfOk result (λ o. IfSome o (IsNodeSet (length cluster.now))) }
+    ensures fewer { IfOk result (λ o. IfSome o (λ left. (tags : List (List ℕ))
+        → HaveTags cluster.now nodes.now tags → HaveTags cluster.now left tags)) }
+{
+    let Some(mut numbers) = numbers(alloc, cluster, names)? else {
+        return Ok(None);
+    };
+    numbers.sort_unstable();
+    Ok(Some(among(alloc, &numbers, nodes.as_slice())?))
+}
+
+/// What is left of nodes in a part, none where it names what the cluster has not. The nodes have the tags that were
+/// seen, and so a tag is looked at once.
 pub(crate) fn narrow(
     alloc: Global,
     cluster: &Cluster,
     part: &Part<'_>,
     held: Option<NodeSet>,
+    seen: &mut NameTable,
 ) -> Result<Option<NodeSet>, AllocError>
-    requires { IfSome held (IsNodeSet (length cluster.now)) }
+    requires good { IfSome held (IsNodeSet (length cluster.now)) }
+    requires seen { IfSome held (λ nodes. HaveTags cluster.now nodes seen.old) }
     ensures value { IfOk result (λ o. o ≡ narrowed cluster.now held (part_of part.now)) }
     ensures good { IfOk result (λ o. IfSome o (IsNodeSet (length cluster.now))) }
+    ensures seen { IfOk result (λ o. IfSome o (λ nodes. HaveTags cluster.now nodes seen.new)) }
 {
     let Some(nodes) = held else {
         return Ok(None);
     };
     match part {
         Part::Every => Ok(Some(nodes)),
-        Part::Tagged(tag) => {
-            let tagged = cluster.nodes_with(tag);
-            if tagged.is_empty() {
-                return Ok(None);
-            }
-            Ok(Some(among(alloc, cluster.count(), tagged, nodes.as_slice())?))
-        }
-        Part::Listed(names) => {
-            let Some(numbers) = numbers(alloc, cluster, names)? else {
-                return Ok(None);
-            };
-            Ok(Some(among(alloc, cluster.count(), &numbers, nodes.as_slice())?))
-        }
+        Part::Tagged(tag) => narrow_to_tag(alloc, cluster, tag, nodes, seen),
+        Part::Listed(names) => narrow_to_names(alloc, cluster, names, &nodes),
     }
 }

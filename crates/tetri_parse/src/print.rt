@@ -1,9 +1,7 @@
 // Expressions as text that is read back.
-ghost use Rattle.std.specs.Prelude.{◌≡◌, ◌<◌, ◌≤◌, length, true, Ok, IfOk, OnOk};
+ghost use Rattle.std.specs.Prelude.{◌≡◌, ◌<◌, ◌≤◌, length, Ok, IfOk, OnOk};
 ghost use Rattle.tetri_strl.specs.Aligned.{EachLeaf};
-ghost use Rattle.tetri_cluster.specs.Cluster.{names_of};
-ghost use Rattle.tetri_cluster.specs.Names.{differ};
-ghost use Rattle.tetri_cluster.specs.Sets.{AreSets, HaveNodesBelow};
+ghost use Rattle.tetri_cluster.specs.Sets.{HaveNodesBelow};
 ghost use Rattle.tetri_strl.specs.Tree.{tree};
 ghost use Rattle.tetri_parse.specs.Expression.{expression};
 ghost use Rattle.tetri_parse.specs.Printing.{text_of, AreNamed};
@@ -31,15 +29,6 @@ fn printed(
     Ok(out.into_bytes())
 }
 
-// What the types promise: names differ, and sets ascend and differ.
-fn recall_promises(cluster: &Cluster, sets: &Sets)
-    ensures names { differ (names_of cluster.now) ≡ true }
-    ensures sets { AreSets sets.now }
-{
-    let _nodes = cluster.count();
-    let _sets = sets.len();
-}
-
 /// The text of an expression for a job of this arrival, whose leaves are numbered from 0 on and use
 /// sets of the cluster's nodes. Read with the unit 1, that arrival and these sets it gives the
 /// expression back, and no new set. Its only error is want of memory.
@@ -57,7 +46,6 @@ pub fn print_expr(
     ensures reads_back { IfOk result (λ v. expression v.items 1 arrival cluster.entry.now sets.entry.now
         ≡ Ok (tree e.entry.now, sets.entry.now)) }
 {
-    recall_promises(cluster, sets);
     let text = printed(alloc, e, arrival, cluster, sets)?;
     Ok(text)
 }

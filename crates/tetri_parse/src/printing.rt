@@ -2,9 +2,9 @@
 ghost use Rattle.std.specs.Prelude.{◌≡◌, ◌++◌, ◌<◌, All, length, map, true, codes, OnOk, IfOk, string_bytes};
 ghost use Rattle.tetri_strl.specs.Aligned.{EachLeaf, EachLeafOf};
 ghost use Rattle.tetri_strl.specs.Tree.{tree, trees};
-ghost use Rattle.tetri_cluster.specs.Names.{is_name};
-ghost use Rattle.tetri_cluster.specs.Cluster.{name_at};
-ghost use Rattle.tetri_parse.specs.Printing.{with_commas, is_every, set_text, HasNames, nodes_of, leaf_word, numbers_text, leaf_text, text_of, texts_of, AreNamed};
+ghost use Rattle.tetri_cluster.specs.Names.{differ, is_name};
+ghost use Rattle.tetri_cluster.specs.Cluster.{name_at, names_of};
+ghost use Rattle.tetri_parse.specs.Printing.{with_commas, is_every, set_text, HasNames, leaf_word, numbers_text, leaf_text, text_of, texts_of, IsNamed, AreNamed};
 ghost use Rattle.tetri_cluster.specs.Sets.{HaveNodesBelow};
 
 use std::alloc::AllocError;
@@ -49,6 +49,7 @@ fn add_set(out: &mut String, cluster: &Cluster, nodes: &[u32]) -> Result<(), All
     requires { All (λ n. n < length cluster.now) nodes.now }
     ensures value { OnOk result (string_bytes out.new ≡ string_bytes out.old ++ set_text cluster.entry.now nodes.now) }
     ensures named { OnOk result (HasNames cluster.entry.now nodes.now) }
+    ensures apart { differ (names_of cluster.entry.now) ≡ true }
 {
     if is_every(cluster.count(), nodes) {
         return out.push_str("*");
@@ -87,7 +88,7 @@ fn add_leaf(
     requires known { leaf.now.set < length sets.now }
     ensures value { OnOk result (string_bytes out.new ≡ string_bytes out.old
         ++ leaf_text arrival cluster.entry.now sets.entry.now leaf.entry.now) }
-    ensures named { OnOk result (HasNames cluster.entry.now (nodes_of sets.entry.now leaf.entry.now)) }
+    ensures named { OnOk result (IsNamed cluster.entry.now sets.entry.now leaf.entry.now) }
 {
     add_leaf_word(out, leaf.linear)?;
     add_set(out, cluster, sets.nodes_of(leaf.set).as_slice())?;
@@ -146,7 +147,7 @@ fn add_join(
     requires known { EachLeafOf (λ l. l.set < length sets.now) (trees parts.now) }
     ensures value { OnOk result (string_bytes out.new ≡ string_bytes out.old ++ word.now
         ++ with_commas (texts_of arrival cluster.entry.now sets.entry.now (trees parts.entry.now)) ++ codes ")") }
-    ensures named { OnOk result (EachLeafOf (λ l. HasNames cluster.entry.now (nodes_of sets.entry.now l)) (trees parts.entry.now)) }
+    ensures named { OnOk result (EachLeafOf (IsNamed cluster.entry.now sets.entry.now) (trees parts.entry.now)) }
 {
     out.push_str(word)?;
     if let [first, others @ ..] = parts {

@@ -9,7 +9,7 @@ use crate::fault::{Fault, Miss, Stop};
 use crate::nodes::{all_nodes, narrow};
 use crate::token::{goes_on, missing, name, skip_blanks};
 use std::alloc::Global;
-use tetri_cluster::{Cluster, NodeSet};
+use tetri_cluster::{Cluster, NameTable, NodeSet};
 
 /// A part of a set.
 #[derive(Drop)]
@@ -94,10 +94,11 @@ pub(crate) fn set_nodes<'t>(
     ensures good { IfOk result (λ x. IfSome x.0 (IsNodeSet (length cluster.now))) }
 {
     let mut held = Some(all_nodes(alloc, cluster.count())?);
+    let mut seen = NameTable::new(alloc);
     let mut rest = text;
     for _ in 0..text.len() {
         let (part, after) = first_part(alloc, rest)?;
-        held = narrow(alloc, cluster, &part, held)?;
+        held = narrow(alloc, cluster, &part, held, &mut seen)?;
         let (more, after) = and_more(after);
         rest = after;
         if !more {

@@ -2,7 +2,7 @@ use Rattle.std.proofs.Common.{◌≡◌, ◌++◌, ◌<◌, drop, length, string
 use Rattle.std.specs.Prelude.{flat_map}
 use Rattle.tetri_strl.specs.Aligned.{EachLeafOf}
 use Rattle.tetri_strl.specs.Tree.{trees}
-use Rattle.tetri_parse.specs.Printing.{after_comma, with_commas, HasNames, nodes_of, texts_of}
+use Rattle.tetri_parse.specs.Printing.{after_comma, with_commas, texts_of, IsNamed}
 use Rattle.tetri_parse.proofs.printing.+add_expr.Given as goal
 
 abbrev pub invariant-add_join-loop-part : goal.invariant-add_join-loop-part
@@ -11,5 +11,5 @@ invariant-add_join-loop-part l = record {
       string_bytes l.out ++ flat_map after_comma (texts_of l.arrival l.cluster l.sets (trees (drop l.part-index l.others)))
       ≡ string_bytes l.fn.out ++ l.word ++ with_commas (texts_of l.arrival l.cluster l.sets (trees l.parts));
   known : EachLeafOf (λ x. x.set < length l.sets) (trees (drop l.part-index l.others));
-  named : EachLeafOf (λ x. HasNames l.cluster (nodes_of l.sets x)) (trees (drop l.part-index l.others)) → EachLeafOf (λ x. HasNames l.cluster (nodes_of l.sets x)) (trees l.parts);
+  named : EachLeafOf (IsNamed l.cluster l.sets) (trees (drop l.part-index l.others)) → EachLeafOf (IsNamed l.cluster l.sets) (trees l.parts);
 }

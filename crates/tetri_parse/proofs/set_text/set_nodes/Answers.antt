@@ -21,6 +21,7 @@ loop-preserved c = record {
       let on : and_at c.in_ok-part.after.now ≡ (true, c.and_more-more.result.1.now) = sym c.and_more-more.ensures.value ∙ ap (λ b. (b, c.and_more-more.result.1.now)) c.if-not-more.false in
       rw c.in_ok-held.ensures.value (goes_further part_at (λ t. Ok (and_at t)) (narrowed c.args.cluster.now) c.loop.held (length c.args.text.now) c.loop.counter c.loop.rest.now (set_at c.args.cluster.now c.args.text.now) (part_of c.in_ok-part.part) c.in_ok-part.after.now c.and_more-more.result.1.now c.loop-test.true c.in_ok-part.ensures (ap Ok on) c.loop.invariant.so_far);
   good = c.in_ok-held.ensures.good;
+  seen = c.in_ok-held.ensures.seen;
 }
 
 pub returns-clause-value : goal.returns-clause-value
