@@ -15,8 +15,9 @@ use crate::halt::CheckHalt;
 use crate::sight::{Sight, see_node, view_of};
 use crate::why::Why;
 use std::alloc::{AllocError, Global};
+use tetri_cycles::{RunTally, summary_at};
 use tetri_io::{Line, LineFault, LineReader, Shelf};
-use tetri_report::{Head, ReportFault, RunTally, Strips, Told, summary_at};
+use tetri_report::{Head, ReportFault, Strips, Told};
 use tetri_state::State;
 use tetri_trace::Trace;
 

@@ -17,7 +17,7 @@ ghost use Rattle.tetri_trace.specs.Scenario.{Scenario};
 
 use crate::accepted::check_trace;
 use crate::admit::run_admit;
-use crate::cycles::run_told;
+use crate::told::run_told;
 use crate::load::run_load;
 use crate::parts::run_parts;
 use crate::status::Status;
