@@ -1,6 +1,7 @@
 -- What a call says once its trace was read.
-use Rattle.std.proofs.Common.{◌≡◌, ◌∙◌, ◌<◌, ◌⊎◌, ⊎_elim, ℕ, List, [], ◌∷◌, ◌++◌, length, take, ap, refl, sym, inl, inr, arith}
+use Rattle.std.proofs.Common.{◌≡◌, ◌∙◌, ◌<◌, ◌⊎◌, ⊎_elim, ℕ, List, [], ◌∷◌, ◌++◌, length, take, ap, refl, sym, subst, inl, inr, arith}
 use Rattle.std.specs.Io.KnownBytes.{append_known}
+use Rattle.std.proofs.lemmas.Option.{same_Some}
 use Rattle.tetri_report.specs.Text.{summary_text}
 use Rattle.std.specs.Prelude.{Option, Some, Result, Ok}
 use Rattle.tetri_report.specs.Block.{Block}
@@ -23,7 +24,7 @@ use Rattle.tetri_run.specs.declared.telling.Telling.{Telling}
 use Rattle.tetri_run.specs.declared.telling.Telling.TheVariants.{Report, Untold}
 use Rattle.tetri_run.proofs.AdvisedLemmas.{any_run}
 use Rattle.tetri_run.proofs.ReadBackLemmas.{wrote_report}
-use Rattle.tetri_run.specs.Words.{Asked, to_check, to_load}
+use Rattle.tetri_run.specs.Words.{Asked}
 use Rattle.tetri_run.specs.declared.status.Status.{Status}
 use Rattle.tetri_run.specs.declared.status.Status.TheVariants.{Done, Refused, Usage, ReadFault, WriteFault, BadTrace, NoMemory}
 
@@ -55,15 +56,9 @@ same_scenario content t s e f = ok_same (sym e ∙ f)
     ok_same : ◌≡◌ {A = Result Scenario (ℕ × TraceWhy)} (Ok t) (Ok s) → t ≡ s
     ok_same e = cc
 
--- the words name one trace and one report
-pub same_names : (a b trace report : List ℕ) (o : Option Asked) → Some (to_check a b) ≡ o → o ≡ Some (to_check trace report) → (a ≡ trace) × (b ≡ report)
-same_names a b trace report o e f = (first (e ∙ f), second (e ∙ f))
-  where
-    first : Some (to_check a b) ≡ Some (to_check trace report) → a ≡ trace
-    first e = cc
-
-    second : Some (to_check a b) ≡ Some (to_check trace report) → b ≡ report
-    second e = cc
+-- what is true of what the words ask is true of all that they are said to ask
+pub by_asked : (Holds : Asked → Type 0) (b a : Asked) (o : Option Asked) → Some b ≡ o → o ≡ Some a → Holds b → Holds a
+by_asked Holds b a o e f holds = subst Holds (same_Some _ _ (e ∙ f)) holds
 
 -- ---- a run
 -- a run that is such is such another one
@@ -81,13 +76,6 @@ module _ (IsSuch IsOther : Scenario → List Block → Type 0) (other : (t : Sce
   promise_weakens (BadTrace line why) trace before after promise = promise
   promise_weakens NoMemory trace before after promise =
       ⊎_elim inl (λ stopped. inr (stopped.0, stopped.1, between_of blocks Report IsSuch IsOther stopped.0 (other stopped.0) before after stopped.2)) promise
-
--- the words name one number
-pub same_number : (m n : ℕ) (o : Option Asked) → Some (to_load m) ≡ o → o ≡ Some (to_load n) → m ≡ n
-same_number m n o e f = number_is (e ∙ f)
-  where
-    number_is : Some (to_load m) ≡ Some (to_load n) → m ≡ n
-    number_is e = cc
 
 -- ---- what a run that is told answers
 -- of a trace that was read
