@@ -28,7 +28,7 @@ use Rattle.tetri_run.specs.Cycle.{IsPlannedCycle}
 use Rattle.tetri_run.specs.Run.{AnyLists, IsPlannedRun, IsRunOf, state_behind}
 use Rattle.tetri_run.proofs.OneRun.{one_run}
 use Rattle.tetri_run.proofs.RunLemmas.{run_of, run_reaches}
-use Rattle.tetri_run.specs.Telling.{blocks}
+use Rattle.tetri_run.specs.Telling.{block_cycles}
 use Rattle.tetri_cycles.specs.Progress.{ArePlanned, IsRunBy}
 use Rattle.tetri_cycles.proofs.CycleLaws.{now_behind}
 use Rattle.tetri_state.specs.Planning.{instance_at}
@@ -171,7 +171,7 @@ module _ {Panel : Type 0} (sat : Panel → List Seat) (missed : Panel → ℕ) (
   has_planned first now (b ∷ past) (before, (step, rest)) =
       let had = has_planned first before past rest in
       let s = state_behind t past in
-      let here : length past ≡ s.now = sym (now_behind blocks t past) in
+      let here : length past ≡ s.now = sym (now_behind block_cycles t past) in
       let still : StillSit (sat first) s.now (sat before) = subst (λ n. StillSit (sat first) n (sat before)) here had.still in
       record {
         run = (

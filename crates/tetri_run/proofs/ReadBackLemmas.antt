@@ -10,7 +10,7 @@ use Rattle.tetri_report.specs.Printable.{IsInRange, IsPrintable, IsSummaryInRang
 use Rattle.tetri_report.specs.Reading.{report_in}
 use Rattle.tetri_cycles.specs.Told.{AreTold, WroteRun}
 use Rattle.tetri_run.specs.Progress.{WroteReport}
-use Rattle.tetri_run.specs.Telling.{blocks}
+use Rattle.tetri_run.specs.Telling.{block_cycles}
 use Rattle.tetri_run.specs.declared.telling.Telling.TheVariants.{Report}
 use Rattle.tetri_report.specs.Text.{cycle_text, summary_text}
 use Rattle.tetri_report.proofs.ReportLaws.{printed_is_short, printed_reads_back}
@@ -78,13 +78,13 @@ module _ (M : Space → List (List Grant) → Type 0) (t : Scenario) (sound : Is
   }
 
 -- the texts of cycles that are told by their blocks are the lines of all cycles
-cycles_told : (t : Scenario) (past : List Block) (text : List ℕ) → AreTold blocks Report t past text → text ≡ cycles_text t past
+cycles_told : (t : Scenario) (past : List Block) (text : List ℕ) → AreTold block_cycles Report t past text → text ≡ cycles_text t past
 cycles_told t [] text told = told
 cycles_told t (b ∷ past) text (front, (own, (e, (told, is)))) = e ∙ ap (λ l. l ++ own) (cycles_told t past front told) ∙ ap (λ l. cycles_text t past ++ l) is
 
 -- the report of such a run
 pub wrote_report : (M : Space → List (List Grant) → Type 0) (IsSuch : Scenario → List Block → Type 0) (t : Scenario) → IsSound t →
-    ((past : List Block) → IsSuch t past → IsPlannedRun M t past) → (before now : Option (List ℕ)) → WroteRun blocks Report IsSuch t before now → WroteReport IsSuch t before now
+    ((past : List Block) → IsSuch t past → IsPlannedRun M t past) → (before now : Option (List ℕ)) → WroteRun block_cycles Report IsSuch t before now → WroteReport IsSuch t before now
 wrote_report M IsSuch t sound planned before now ran =
     let run = planned ran.past ran.told.run in
     record {

@@ -58,7 +58,7 @@ use Rattle.tetri_run.specs.declared.why.Why.TheVariants.{LineTooLong, Malformed,
 use Rattle.tetri_run.proofs.CheckLemmas.{closed_blocks, read_line, true_not_false}
 use Rattle.tetri_run.proofs.RunLemmas.{run_reaches}
 use Rattle.tetri_cycles.proofs.CycleLaws.{now_behind, summary_is}
-use Rattle.tetri_run.specs.Telling.{blocks}
+use Rattle.tetri_run.specs.Telling.{block_cycles}
 
 -- how many events, grants, lines of its certificate and launches a cycle has
 abbrev pub told_lines : Block → ℕ
@@ -252,7 +252,7 @@ equal_tested m n e = grind (arith, nat_tests, e)
 
 run_within : (t : Scenario) (past : List Block) → IsRun t past → length past ≤ t.header.until
 run_within t [] run = omega arith
-run_within t (b ∷ past) run = omega (arith, run.0, now_behind blocks t past)
+run_within t (b ∷ past) run = omega (arith, run.0, now_behind block_cycles t past)
 
 pub before_end : (t : Scenario) (past : List Block) → IsRun t past → (now : ℕ) → now ≡ length past → (not (nat_eq now t.header.until) ≡ true) ↔ (length past < t.header.until)
 before_end t past run now is =
@@ -314,8 +314,8 @@ summary_tested m s e = ap (summaries_equal m) (sym e) ∙ itself
 pub keeps_counts : (t : Scenario) (c : Checking) (p : Progress) → Keeps t c p → CountsRun t c.past p
 keeps_counts t c p keeps = record {
   run = keeps.behind.run;
-  now = sees_now t (state_behind t c.past) p.state c.reading.block.certificate p.sight keeps.sight ∙ now_behind blocks t c.past;
-  counted = λ s told. summary_is blocks t c.past p.state p.tally (at_rest s (ap (λ (r : Reading). r.summary) (sym keeps.reading) ∙ told)) keeps.behind.worth keeps.behind.optimal;
+  now = sees_now t (state_behind t c.past) p.state c.reading.block.certificate p.sight keeps.sight ∙ now_behind block_cycles t c.past;
+  counted = λ s told. summary_is block_cycles t c.past p.state p.tally (at_rest s (ap (λ (r : Reading). r.summary) (sym keeps.reading) ∙ told)) keeps.behind.worth keeps.behind.optimal;
 }
   where
     at_rest : (s : Summary) → c.reading.summary ≡ Some s → p.state ≡ state_behind t c.past
@@ -411,7 +411,7 @@ module _ (t : Scenario) (c : Checking) (p : Progress) (line : List ℕ) (told : 
   fed_reached = run_reaches t c.past is.behind.run
 
   pub fed_in_run : (state_behind t c.past).now < t.header.until
-  fed_in_run = omega (arith, now_behind blocks t c.past, not_closed t c line _ fed_reads is.in_order is.in_place)
+  fed_in_run = omega (arith, now_behind block_cycles t c.past, not_closed t c line _ fed_reads is.in_order is.in_place)
 
   pub fed_begins : IsReached t begun (begin t (state_behind t c.past))
   fed_begins = begin_reached t (state_behind t c.past) fed_reached fed_in_run

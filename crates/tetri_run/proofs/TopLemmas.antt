@@ -18,7 +18,7 @@ use Rattle.tetri_cycles.proofs.CycleLaws.{append_known-nil, between_of, stopped_
 use Rattle.tetri_run.specs.Progress.{StoppedInSummary, WroteReport}
 use Rattle.tetri_run.specs.Promised.{IsPromisedBy}
 use Rattle.tetri_run.specs.Run.{AnyLists, IsPlannedRun, summary_of}
-use Rattle.tetri_run.specs.Telling.{blocks}
+use Rattle.tetri_run.specs.Telling.{block_cycles}
 use Rattle.tetri_run.specs.Status.{IsCheckAnswer, IsCheckPromised, IsLoadAnswer, IsPromised, IsPromisedOf, IsRefusal, IsRunAnswer}
 use Rattle.tetri_run.specs.declared.telling.Telling.{Telling}
 use Rattle.tetri_run.specs.declared.telling.Telling.TheVariants.{Report, Untold}
@@ -72,17 +72,17 @@ module _ (IsSuch IsOther : Scenario → List Block → Type 0) (other : (t : Sce
   promise_weakens Usage trace before after promise = tt
   promise_weakens ReadFault trace before after promise = tt
   promise_weakens WriteFault trace before after promise =
-      (promise.0, promise.1, stopped_of blocks Report IsSuch IsOther promise.0 (other promise.0) before after promise.2)
+      (promise.0, promise.1, stopped_of block_cycles Report IsSuch IsOther promise.0 (other promise.0) before after promise.2)
   promise_weakens (BadTrace line why) trace before after promise = promise
   promise_weakens NoMemory trace before after promise =
-      ⊎_elim inl (λ stopped. inr (stopped.0, stopped.1, between_of blocks Report IsSuch IsOther stopped.0 (other stopped.0) before after stopped.2)) promise
+      ⊎_elim inl (λ stopped. inr (stopped.0, stopped.1, between_of block_cycles Report IsSuch IsOther stopped.0 (other stopped.0) before after stopped.2)) promise
 
 -- ---- what a run that is told answers
 -- of a trace that was read
 module _ (trace : Result Scenario (ℕ × TraceWhy)) (t : Scenario) (is : trace ≡ Ok t) where
   pub answer_promised : (telling : Telling) (IsSuch : Scenario → List Block → Type 0) (Wrote : Scenario → Option (List ℕ) → Option (List ℕ) → Type 0) (status : Status)
-      (before after : Option (List ℕ)) → (WroteRun blocks telling IsSuch t before after → Wrote t before after) → IsRunAnswer telling IsSuch status t before after →
-      IsPromisedBy Wrote (StoppedInText blocks telling IsSuch) (StoppedBetween blocks telling IsSuch) status trace before after
+      (before after : Option (List ℕ)) → (WroteRun block_cycles telling IsSuch t before after → Wrote t before after) → IsRunAnswer telling IsSuch status t before after →
+      IsPromisedBy Wrote (StoppedInText block_cycles telling IsSuch) (StoppedBetween block_cycles telling IsSuch) status trace before after
   answer_promised telling IsSuch Wrote Done before after whole answer = (t, is, whole answer)
   answer_promised telling IsSuch Wrote (Refused line why) before after whole answer = answer
   answer_promised telling IsSuch Wrote Usage before after whole answer = tt
@@ -104,13 +104,13 @@ module _ (trace : Result Scenario (ℕ × TraceWhy)) (t : Scenario) (is : trace 
     plan_promised = promise_weakens (IsAdvisedRun sat missed now) (IsPlannedRun AnyLists) (any_run sat missed now) status trace before after report_promised
 
 -- ---- a run that is not told
-untold : (t : Scenario) (past : List Block) (text : List ℕ) → AreTold blocks Untold t past text → text ≡ []
+untold : (t : Scenario) (past : List Block) (text : List ℕ) → AreTold block_cycles Untold t past text → text ≡ []
 untold t [] text told = told
 untold t (b ∷ past) text (front, (own, (e, (told, is)))) = e ∙ ap (λ l. l ++ own) (untold t past front told) ∙ is
 
 module _ (IsSuch : Scenario → List Block → Type 0) (t : Scenario) (before after : Option (List ℕ)) where
   stopped_untold : (past : List Block) (run : IsSuch t past) (front text : List ℕ) (part : ℕ) → front ≡ [] → part < length text → after ≡ append_known before (front ++ take part text) →
-      NextText blocks Untold IsSuch t past text → StoppedInSummary IsSuch t before after
+      NextText block_cycles Untold IsSuch t past text → StoppedInSummary IsSuch t before after
   stopped_untold past run front text part none proper written (cycle b _ follows told) = absurd (omega (arith, proper, ap length told))
   stopped_untold past run front _ part none proper written (summary whole) = record {
     summary = summary_of t past;

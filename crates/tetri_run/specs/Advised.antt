@@ -17,7 +17,7 @@ use Rattle.tetri_trace.specs.Scenario.{Scenario}
 use Rattle.tetri_cycles.specs.Planning.{Planning}
 use Rattle.tetri_run.specs.Cycle.{IsPlannedCycle}
 use Rattle.tetri_run.specs.Run.{IsPlannedRun, IsRunOf}
-use Rattle.tetri_run.specs.Telling.{blocks}
+use Rattle.tetri_run.specs.Telling.{block_cycles}
 use Rattle.tetri_run.specs.declared.telling.Telling.{Telling}
 use Rattle.tetri_state.specs.Planning.{instance_at}
 
@@ -66,7 +66,7 @@ pub record IsAdvisedRun (sat : List Seat) (before now : ℕ) (t : Scenario) (pas
 -- How a panel plans: the lists are given of which it was asked once, and its creeds stay.
 abbrev pub by_panel : {Panel : Type 0} → (Panel → List Seat) → (Panel → ℕ) → Planning Panel Telling
 by_panel sat missed = record {
-  kind = blocks;
+  kind = block_cycles;
   Plans = λ before now t s b. IsPlannedCycle (IsAdvice (sat before) (missed before) (sat now) (missed now)) t s b;
   Follows = λ before now. (creeds_of (sat now) ≡ creeds_of (sat before)) × (missed before ≤ missed now);
 }

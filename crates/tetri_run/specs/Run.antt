@@ -11,7 +11,7 @@ use Rattle.tetri_state.specs.Pieces.{IsSameRun}
 use Rattle.tetri_state.specs.declared.pieces.Piece.{Piece}
 use Rattle.tetri_state.specs.Snapshot.{Snapshot}
 use Rattle.tetri_trace.specs.Scenario.{Scenario}
-use Rattle.tetri_run.specs.Telling.{blocks}
+use Rattle.tetri_run.specs.Telling.{block_cycles}
 use Rattle.tetri_run.specs.Cycle.{IsBoundedCycle, IsCycle, IsPlannedCycle}
 
 abbrev pub plans_of : List Block → List (List Grant)
@@ -19,11 +19,11 @@ plans_of past = map (λ b. b.grants) past
 
 -- the state in which the next cycle begins
 abbrev pub state_behind : Scenario → List Block → Snapshot
-state_behind = state_behind_cycles blocks
+state_behind = state_behind_cycles block_cycles
 
 -- each of the cycles begins before the end of the trace, and is such a cycle in the state that the earlier ones leave
 abbrev pub IsRunOf : (Scenario → Snapshot → Block → Type 0) → Scenario → List Block → Type 0
-IsRunOf = AreCycles blocks
+IsRunOf = AreCycles block_cycles
 
 -- a run, whoever planned it
 abbrev pub IsRun : Scenario → List Block → Type 0
@@ -50,15 +50,15 @@ AnyLists i given = Unit {0}
 
 -- how many cycles have an optimal plan
 abbrev pub optimal_cycles : List Block → ℕ
-optimal_cycles = optimal_in blocks
+optimal_cycles = optimal_in block_cycles
 
 -- what the launched jobs were worth at their launch
 abbrev pub worth_of_run : Scenario → List Block → ℕ
-worth_of_run = worth_of_cycles blocks
+worth_of_run = worth_of_cycles block_cycles
 
 -- the run in numbers
 abbrev pub summary_of : Scenario → List Block → Summary
-summary_of = summary_of_cycles blocks
+summary_of = summary_of_cycles block_cycles
 
 -- the cycles, the first one first
 abbrev pub in_order : List Block → List Block

@@ -14,7 +14,7 @@ use Rattle.tetri_notice.specs.declared.fault.TraceFault.TheVariants as trace_fau
 use Rattle.tetri_run.specs.Check.{IsAccepted, IsAssured, IsRefusedAt}
 use Rattle.tetri_cycles.specs.Told.{StoppedBetween, StoppedInText, WroteRun}
 use Rattle.tetri_run.specs.Progress.{StoppedInSummary, WroteReport, WroteSummary}
-use Rattle.tetri_run.specs.Telling.{blocks}
+use Rattle.tetri_run.specs.Telling.{block_cycles}
 use Rattle.tetri_run.specs.Promised.{IsPromisedBy}
 use Rattle.tetri_run.specs.Run.{AnyLists, IsPlannedRun}
 use Rattle.tetri_run.specs.Words.{Asked, to_admit, to_check, to_load, to_parts, to_plan, to_tight}
@@ -29,22 +29,22 @@ use Rattle.tetri_run.specs.declared.status.Status.TheVariants.{Done, Refused, Us
 
 -- What a status says of planning the trace that was read by such a run, whose report is written.
 abbrev pub IsPromisedOf : (Scenario → List Block → Type 0) → Status → Result Scenario (ℕ × TraceWhy) → Option (List ℕ) → Option (List ℕ) → Type 0
-IsPromisedOf IsSuch = IsPromisedBy (WroteReport IsSuch) (StoppedInText blocks Report IsSuch) (StoppedBetween blocks Report IsSuch)
+IsPromisedOf IsSuch = IsPromisedBy (WroteReport IsSuch) (StoppedInText block_cycles Report IsSuch) (StoppedBetween block_cycles Report IsSuch)
 
 -- What a status says of planning the trace that was read by such a run, of which is written what cuts make of the bound of each cycle: the
 -- value of a cycle is attained by a lawful allotment, and no lawful allotment is worth more than the tightened bound.
 abbrev pub IsTightPromised : (Scenario → List Block → Type 0) → Status → Result Scenario (ℕ × TraceWhy) → Option (List ℕ) → Option (List ℕ) → Type 0
-IsTightPromised IsSuch = IsPromisedBy (WroteRun blocks Tight IsSuch) (StoppedInText blocks Tight IsSuch) (StoppedBetween blocks Tight IsSuch)
+IsTightPromised IsSuch = IsPromisedBy (WroteRun block_cycles Tight IsSuch) (StoppedInText block_cycles Tight IsSuch) (StoppedBetween block_cycles Tight IsSuch)
 
 -- What such a run of a trace that is told so answers, of the written bytes before and after.
 abbrev pub IsRunAnswer : Telling → (Scenario → List Block → Type 0) → Status → Scenario → Option (List ℕ) → Option (List ℕ) → Type 0
-IsRunAnswer telling IsSuch Done t before after = WroteRun blocks telling IsSuch t before after
+IsRunAnswer telling IsSuch Done t before after = WroteRun block_cycles telling IsSuch t before after
 IsRunAnswer telling IsSuch (Refused line why) t before after = ⊥
 IsRunAnswer telling IsSuch Usage t before after = ⊥
 IsRunAnswer telling IsSuch ReadFault t before after = ⊥
-IsRunAnswer telling IsSuch WriteFault t before after = StoppedInText blocks telling IsSuch t before after
+IsRunAnswer telling IsSuch WriteFault t before after = StoppedInText block_cycles telling IsSuch t before after
 IsRunAnswer telling IsSuch (BadTrace line why) t before after = ⊥
-IsRunAnswer telling IsSuch NoMemory t before after = StoppedBetween blocks telling IsSuch t before after
+IsRunAnswer telling IsSuch NoMemory t before after = StoppedBetween block_cycles telling IsSuch t before after
 
 -- The same of any run that this planner plans, whatever lists were given in its cycles.
 abbrev pub IsPromised : Status → Result Scenario (ℕ × TraceWhy) → Option (List ℕ) → Option (List ℕ) → Type 0

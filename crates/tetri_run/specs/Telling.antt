@@ -34,8 +34,8 @@ optimal_count Spent = 0
 optimal_count Wide = 0
 
 -- cycles with their blocks, told so
-abbrev pub blocks : Kind Telling
-blocks = record {
+abbrev pub block_cycles : Kind Telling
+block_cycles = record {
   Cycle = Block;
   grants = λ b. b.grants;
   optimal = λ b. optimal_count b.mark;

@@ -6,7 +6,7 @@ ghost use Rattle.tetri_algebra.specs.Counts.{Rose};
 ghost use Rattle.tetri_cycles.specs.Told.{StoppedBetween, StoppedInText, WroteRun};
 ghost use Rattle.tetri_run.specs.Advised.{IsAdvisedRun};
 ghost use Rattle.tetri_run.specs.Status.{IsRunAnswer, IsSilent};
-ghost use Rattle.tetri_run.specs.Telling.{blocks};
+ghost use Rattle.tetri_run.specs.Telling.{block_cycles};
 ghost use Rattle.tetri_run.specs.declared.why.Why.{Why};
 ghost use Rattle.tetri_trace.specs.Scenario.{scenario};
 ghost use Rattle.tetri_trace.specs.Sound.{IsSound};
@@ -30,13 +30,13 @@ fn write_run<K: Sink, A: Advisor>(
     telling: Telling,
 ) -> Result<(), SendFault>
     requires { IsSound (scenario trace.now) }
-    ensures ok { OnOk result (WroteRun blocks telling
+    ensures ok { OnOk result (WroteRun block_cycles telling
         (IsAdvisedRun (seats A.says A.misses A.creed panel.old) panel.old.missed panel.new.missed)
         (scenario trace.entry.now) (K.written sink.old) (K.written sink.new)) }
-    ensures failed { IsErrOf result SendFault.Failed → StoppedInText blocks telling
+    ensures failed { IsErrOf result SendFault.Failed → StoppedInText block_cycles telling
         (IsAdvisedRun (seats A.says A.misses A.creed panel.old) panel.old.missed panel.new.missed)
         (scenario trace.entry.now) (K.written sink.old) (K.written sink.new) }
-    ensures memory { IsErrOf result SendFault.NoMemory → StoppedBetween blocks telling
+    ensures memory { IsErrOf result SendFault.NoMemory → StoppedBetween block_cycles telling
         (IsAdvisedRun (seats A.says A.misses A.creed panel.old) panel.old.missed panel.new.missed)
         (scenario trace.entry.now) (K.written sink.old) (K.written sink.new) }
     ensures write { IsErrOf result SendFault.Failed → Rose (K.faults sink.old) (K.faults sink.new) }
