@@ -1,5 +1,5 @@
 -- How a run grows by a slot, and where it stops.
-use Rattle.std.proofs.Common.{◌≡◌, ℕ, ◌+◌, ◌<◌, List, [], ◌∷◌, ◌++◌, length, map, take, refl, sym, ap, ◌∙◌, subst, arith, inl, inr}
+use Rattle.std.proofs.Common.{◌≡◌, ℕ, ◌+◌, List, [], ◌∷◌, ◌++◌, length, map, take, refl, sym, ap, ◌∙◌, subst, arith, inl, inr}
 use Rattle.std.specs.Prelude.{Option, Some, None}
 use Rattle.std.proofs.lemmas.List.{append-nil}
 use Rattle.std.specs.Io.KnownBytes.{append_known}
@@ -14,13 +14,12 @@ use Rattle.tetri_state.specs.Launch.{worth_launched}
 use Rattle.tetri_state.specs.Planning.{instance_at}
 use Rattle.tetri_state.specs.Reached.{ArePlans, IsReached, between}
 use Rattle.tetri_state.specs.Snapshot.{Snapshot}
-use Rattle.tetri_strl.specs.declared.grants.Grant.{Grant}
 use Rattle.tetri_trace.specs.Scenario.{Scenario}
 use Rattle.tetri_cycles.specs.Cycles.{optimal_in, state_behind_cycles, summary_of_cycles, worth_of_cycles}
 use Rattle.tetri_cycles.specs.Planning.{Kind, Planning}
 use Rattle.tetri_cycles.specs.Progress.{ArePlanned, IsNextCycle, IsRunBy, RanAll, RanSlot, RanSlots, StoppedInSlot}
 use Rattle.tetri_cycles.specs.Tally.{summary_at}
-use Rattle.tetri_cycles.specs.Told.{NextText, cycle, summary, StoppedBetween, StoppedInText, WroteRun}
+use Rattle.tetri_cycles.specs.Told.{cycle, summary, StoppedBetween, StoppedInText, WroteRun}
 use Rattle.tetri_cycles.specs.declared.planner.SlotTally.{SlotTally}
 use Rattle.tetri_cycles.specs.declared.tally.RunTally.{RunTally}
 

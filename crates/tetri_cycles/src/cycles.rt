@@ -47,7 +47,7 @@ fn run_slots<T: Copy, P: Planner<T>, K: Sink>(
         tally.worth += u128::from(slot.worth);
         tally.optimal += slot.optimal;
     }
-    Ok(summary_at(&state, &tally))
+    Ok(summary_at(&state, tally))
 }
 
 /// Runs a trace by a planner, one cycle a slot, and tells each cycle by one send once it is planned, and then writes the summary by one

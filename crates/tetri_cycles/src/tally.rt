@@ -14,9 +14,9 @@ pub struct RunTally {
 }
 
 /// The run so far in numbers: its state, and what was added up over its cycles.
-pub fn summary_at(state: &State, tally: &RunTally) -> Summary
-    ensures value { result ≡ summary_at state.entry.now tally.entry.now }
-    ensures in_range { tally.entry.now.worth < 2 ^ 127 → IsSummaryInRange result }
+pub fn summary_at(state: &State, tally: RunTally) -> Summary
+    ensures value { result ≡ summary_at state.entry.now tally }
+    ensures in_range { tally.worth < 2 ^ 127 → IsSummaryInRange result }
 {
     Summary {
         cycles: u64::from(state.now()),

@@ -143,7 +143,7 @@ fn is_in_place(trace: &Trace, progress: &Progress) -> bool
 {
     let ended = progress.state.now() == trace.header.until;
     match progress.strips.summary() {
-        Some(summary) => ended && summary == summary_at(&progress.state, &progress.tally),
+        Some(summary) => ended && summary == summary_at(&progress.state, progress.tally),
         None => !ended,
     }
 }
