@@ -11,6 +11,7 @@ use Rattle.tetri_strl.specs.WellMade as well_made
 use Rattle.tetri_space.specs.Space.{Bid, Space, set_of, leaf_in, space}
 use Rattle.tetri_space.specs.Lawful.{IsLawful, MayBeGranted, IsLawfulGrant}
 use Rattle.tetri_space.specs.Sound.{HasKnownSet, IsSoundBid, IsSound}
+use Rattle.tetri_space.specs.declared.instance.Instance.{Instance}
 use Rattle.tetri_space.proofs.InstanceLaws.{leaf_in-within, IsOffered}
 use Rattle.tetri_state.specs.Planning.{instance_of}
 use Rattle.tetri_state.specs.Snapshot.{Snapshot}

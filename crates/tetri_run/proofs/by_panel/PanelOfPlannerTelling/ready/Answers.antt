@@ -19,7 +19,7 @@ use Rattle.tetri_run.specs.Advised.{IsAdvice}
 use Rattle.tetri_run.specs.Telling.{IsTold}
 use Rattle.tetri_commands.proofs.PrintLaws.{instance_of_trace}
 use Rattle.tetri_run.proofs.PrintLemmas.{cycle_printable}
-use Rattle.tetri_run.proofs.by_panel.PanelOfPlanner.ready.Goals as goal
+use Rattle.tetri_run.proofs.by_panel.PanelOfPlannerTelling.ready.Goals as goal
 
 pub told_text-requires-clause-printable : goal.told_text-requires-clause-printable
 told_text-requires-clause-printable g c =

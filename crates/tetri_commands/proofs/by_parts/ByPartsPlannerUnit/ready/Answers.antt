@@ -13,7 +13,7 @@ use Rattle.tetri_trace.specs.Scenario.{scenario}
 use Rattle.tetri_commands.specs.PartsCycle.{ArePlansByPart, PartsCycle}
 use Rattle.tetri_commands.proofs.PrintLaws.{instance_of_trace, kept_within}
 use Rattle.tetri_commands.proofs.PartsLemmas.{cycle_lines}
-use Rattle.tetri_commands.proofs.by_parts.ByPartsPlanner.ready.Goals as goal
+use Rattle.tetri_commands.proofs.by_parts.ByPartsPlannerUnit.ready.Goals as goal
 
 pub plan_by_parts-requires-clause-instance : goal.plan_by_parts-requires-clause-instance
 plan_by_parts-requires-clause-instance c =
