@@ -12,7 +12,7 @@ use crate::status::Status;
 use crate::top::status_of;
 use std::alloc::Global;
 use tetri_io::{Shelf, Sink};
-use tetri_parts::run_by_parts;
+use tetri_commands::run_by_parts;
 use tetri_report::SendFault;
 use tetri_trace::read_trace;
 
