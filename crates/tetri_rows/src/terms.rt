@@ -144,9 +144,10 @@ impl Terms {
 }
 
 /// Puts a pivot's row, with these terms, in for the variable at place j. The row has the denominator
-/// `den`, the pivot's row `pivot_den`. Answers the denominator of the new row, or None where a
-/// number of it is not short, and the row is as it was. Where the new numbers are short over the least
-/// denominator that serves, the terms alone are visited, and the row is not brought to lowest terms.
+/// `den`, the pivot's row `pivot_den`. Answers the denominator of the new row, or None, and the row is
+/// as it was: it may give up at any time, and does where a new number is not short in lowest terms. Where
+/// the new numbers are short over the least denominator that serves, the terms alone are visited, and the
+/// row is not brought to lowest terms.
 pub fn put_in(
     den: i64,
     row: &mut [i64],

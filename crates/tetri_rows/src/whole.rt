@@ -36,8 +36,8 @@ fn multiple_with(den: i64, x: Frac) -> Option<i64>
     multiple(den, x.den as i64)
 }
 
-/// A common denominator of the row's numbers, where it is short. None also where a number of the row
-/// would not be short over it.
+/// A common denominator of the row's numbers, where it is short. It may give up at any time: so it does
+/// where it or a part of a number of the row is not short.
 pub fn common_denominator(row: &[Frac]) -> Option<i64>
     ensures { IfSome result (λ den. IsDenominator den) }
 {
@@ -63,7 +63,8 @@ fn over(x: Frac, den: i64) -> Option<i64>
     }
 }
 
-/// The numerators of a row's numbers over a denominator, where all are whole and short.
+/// The numerators of a row's numbers over a denominator, where all are whole and short. It may give up at
+/// any time.
 pub fn numbers_over(alloc: Global, den: i64, row: &[Frac]) -> Result<Option<Vec<i64>>, AllocError>
     requires { IsDenominator den }
     ensures same { IfOk result (λ o. IfSome o (λ v. meaning den v.items ≡ map value row.now)) }

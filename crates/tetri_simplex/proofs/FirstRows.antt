@@ -125,8 +125,8 @@ pub all_written : (p : Program) (ts : List Term) (right : ℤ) (constant : ℤ) 
 all_written p ts right constant k ns f l m h =
     let cs = p.costs.items in
     by_first ns (slack_from ts 0 cs) constant (length cs) h.wide (slack_long ts 0 cs) h.first (λ q b.
-        let e : 0 + q ≡ q = omega arith in
-        at q (seek ts q k) ∙ sym (slack_at ts 0 cs q b ∙ ap (λ j. neg_ℤ (coefficient ts j *ℤ direction (number_at cs q))) e))
+    let e : 0 + q ≡ q = omega arith in
+    at q (seek ts q k) ∙ sym (slack_at ts 0 cs q b ∙ ap (λ j. neg_ℤ (coefficient ts j *ℤ direction (number_at cs q))) e))
   where
     nothing : (d : ℤ) → pos 0 ≡ neg_ℤ (pos 0 *ℤ d)
     nothing d = omega (arith, ints)

@@ -140,11 +140,7 @@ fn short_objective(
 }
 
 /// The row of the objective.
-pub(crate) fn objective(
-    alloc: Global,
-    p: &Program,
-    start: &[i128],
-) -> Result<MixedRow, AllocError>
+pub(crate) fn objective(alloc: Global, p: &Program, start: &[i128]) -> Result<MixedRow, AllocError>
     requires fit { IsFit p.now }
     requires start { IsStart p.now start.now }
     ensures numbers { IfOk result (λ r.

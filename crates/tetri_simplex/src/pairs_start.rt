@@ -146,12 +146,7 @@ fn add_bound(
 }
 
 // The slacks of the columns' bounds.
-fn add_bounds(
-    alloc: Global,
-    p: &Program,
-    r: &Region,
-    draft: &mut Draft,
-) -> Result<(), AllocError>
+fn add_bounds(alloc: Global, p: &Program, r: &Region, draft: &mut Draft) -> Result<(), AllocError>
     requires fit { IsFit p.now }
     requires in_box { IsInBox p.now (bounds_of r.now) }
     requires draft { IsDraft (length p.now.costs.items) draft.old }

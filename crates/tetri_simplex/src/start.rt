@@ -98,7 +98,12 @@ fn slack_coefficient(p: &Program, row: &Row, j: usize) -> i128
 }
 
 // The slack of a row of the program.
-pub(crate) fn slack_row(alloc: Global, p: &Program, row: &Row, start: &[i128]) -> Result<Vec<Frac>, AllocError>
+pub(crate) fn slack_row(
+    alloc: Global,
+    p: &Program,
+    row: &Row,
+    start: &[i128],
+) -> Result<Vec<Frac>, AllocError>
     requires fit { IsFit p.now }
     requires row { IsFitRow p.now row.now.terms.items row.now.right }
     requires start { IsStart p.now start.now }
@@ -121,7 +126,12 @@ fn bound_coefficient(j: usize, k: usize) -> i128
 }
 
 // The slack of the bounds of column j, with this width.
-pub(crate) fn bound_row(alloc: Global, p: &Program, j: usize, width: i128) -> Result<Vec<Frac>, AllocError>
+pub(crate) fn bound_row(
+    alloc: Global,
+    p: &Program,
+    j: usize,
+    width: i128,
+) -> Result<Vec<Frac>, AllocError>
     requires { IsWithin width }
     ensures { IfOk result (λ v. values v.items ≡ whole_ℚ width ∷ map whole_ℚ (minus_one_at j 0 p.now.costs.items)) }
 {
@@ -149,7 +159,11 @@ pub(crate) fn objective_at(p: &Program, start: &[i128]) -> i128
 }
 
 // The row of the objective.
-pub(crate) fn objective_row(alloc: Global, p: &Program, start: &[i128]) -> Result<Vec<Frac>, AllocError>
+pub(crate) fn objective_row(
+    alloc: Global,
+    p: &Program,
+    start: &[i128],
+) -> Result<Vec<Frac>, AllocError>
     requires fit { IsFit p.now }
     requires start { IsStart p.now start.now }
     ensures { IfOk result (λ v. values v.items ≡ map whole_ℚ (objective_row p.now.costs.items start.now)) }

@@ -10,7 +10,9 @@ ghost use Rattle.tetri_simplex.specs.Start.{IsStart, bound_rows, direction, firs
 
 use crate::lines::{Entry, Line};
 use crate::sparse::Sparse;
-use crate::start::{corner, directed, numbers_from, objective_at, slack_at, slack_number, width_at};
+use crate::start::{
+    corner, directed, numbers_from, objective_at, slack_at, slack_number, width_at,
+};
 use std::alloc::{AllocError, Global};
 use tetri_ip::{Program, Region, Row};
 use tetri_num::Frac;
