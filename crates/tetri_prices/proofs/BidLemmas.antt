@@ -14,7 +14,7 @@ use Rattle.tetri_space.specs.Space.{Bid, Space}
 use Rattle.tetri_space.specs.Total.{tops_in}
 use Rattle.tetri_space.proofs.InstanceLaws.{each_left_of, IsLeftOf, IsSmaller, left_smaller, OfLeft, tops_limit}
 use Rattle.tetri_compile.specs.steps.Walked.{IsReady}
-use Rattle.tetri_compile.proofs.WidthLemmas.{bids_ready}
+use Rattle.tetri_compile.proofs.ProgramLaws.{bids_ready}
 use Rattle.tetri_prices.specs.Priced.{bid_gain}
 use Rattle.tetri_prices.proofs.TopLemmas.{gains_le_tops}
 

@@ -11,8 +11,7 @@ use Rattle.tetri_space.specs.Sound.{IsSound}
 use Rattle.tetri_space.specs.Space.{Bid, Space}
 use Rattle.tetri_space.specs.Total.{total_in}
 use Rattle.tetri_compile.specs.Allotted.{earning}
-use Rattle.tetri_compile.proofs.FairLemmas.{IsFair, worth_of_bids}
-use Rattle.tetri_compile.proofs.LawfulLemmas.{fair, live_total}
+use Rattle.tetri_compile.proofs.ProgramLaws.{fair, IsFair, live_total, worth_of_bids}
 use Rattle.tetri_prices.specs.Priced.{bid_gain, PricesBound, supply_cost}
 use Rattle.tetri_prices.proofs.LeafLemmas.{all_priced, charges, costs, gains}
 use Rattle.tetri_prices.proofs.SupplyLemmas.{charge, charges_le, sum_of-times}

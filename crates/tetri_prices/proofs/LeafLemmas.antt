@@ -16,9 +16,7 @@ use Rattle.tetri_space.specs.Space.{Bid, Space}
 use Rattle.tetri_compile.specs.Allotted.{suits}
 use Rattle.tetri_compile.specs.declared.outline.Tally.{Tally}
 use Rattle.tetri_compile.specs.Usable.{is_shut, usable_by}
-use Rattle.tetri_compile.proofs.FairLemmas.{free_below, good, granted_few, IsFair, IsRightFor, supply_le}
-use Rattle.tetri_compile.proofs.GrantLemmas.{IsSpread, spread}
-use Rattle.tetri_compile.proofs.SlotLemmas.{any_in_range}
+use Rattle.tetri_compile.proofs.ProgramLaws.{any_in_range, free_below, good, granted_few, IsFair, IsRightFor, IsSpread, spread, supply_le}
 use Rattle.tetri_prices.specs.Filling.{by_cost, fill}
 use Rattle.tetri_prices.specs.Gain.{leaf_cost, leaf_gain, linear_gain, whole_gain}
 use Rattle.tetri_prices.specs.Priced.{capacity, cost_for, gain_for, node_cost}

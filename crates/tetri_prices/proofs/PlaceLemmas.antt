@@ -10,7 +10,7 @@ use Rattle.tetri_space.specs.Partitions.{partitions, parts_in}
 use Rattle.tetri_space.specs.Space.{Space}
 use Rattle.tetri_space.proofs.InstanceLaws.{all_of, each_of}
 use Rattle.tetri_compile.specs.Usable.{usable_by}
-use Rattle.tetri_compile.proofs.OutlineLemmas.{inside_below}
+use Rattle.tetri_compile.proofs.ProgramLaws.{inside_below}
 use Rattle.tetri_prices.specs.declared.filling.Place.{Place}
 use Rattle.tetri_prices.specs.Filling.{by_cost, fill, pick}
 use Rattle.tetri_prices.specs.Priced.{ArePricesOf, cost_for, gain_for, listed, node_cost}

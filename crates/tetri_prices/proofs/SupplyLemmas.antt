@@ -13,9 +13,7 @@ use Rattle.tetri_space.specs.Partitions.{available, part_at, parts_in, set_at}
 use Rattle.tetri_space.specs.Space.{Bid, Space}
 use Rattle.tetri_compile.specs.Allotted.{suits, granted_in}
 use Rattle.tetri_compile.specs.Sizes.{covers}
-use Rattle.tetri_compile.proofs.FairLemmas.{Each-has, HoldsApart, IsFair, IsRightFor, le_from_test, lt_from_test}
-use Rattle.tetri_compile.proofs.GrantLemmas.{any_which, held_le_free, IsOnRight, ShareNone, shares_le, suits_some}
-use Rattle.tetri_compile.proofs.TallyLemmas.{number_of, number_of_all}
+use Rattle.tetri_compile.proofs.ProgramLaws.{any_which, Each-has, held_le_free, HoldsApart, IsFair, IsOnRight, IsRightFor, le_from_test, lt_from_test, number_of, number_of_all, ShareNone, shares_le, suits_some}
 use Rattle.tetri_prices.specs.Priced.{node_cost, part_numbers, supply_cost, window_slots}
 
 -- ---- sums of products

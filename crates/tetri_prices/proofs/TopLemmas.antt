@@ -17,7 +17,7 @@ use Rattle.tetri_space.specs.Space.{Bid, Space}
 use Rattle.tetri_space.specs.Total.{bid_top, tops_in}
 use Rattle.tetri_space.proofs.InstanceLaws.{AreFrom, left_leaves, OfLeft}
 use Rattle.tetri_compile.specs.Walk.{best}
-use Rattle.tetri_compile.proofs.OutlineLemmas.{top_is_best}
+use Rattle.tetri_compile.proofs.ProgramLaws.{top_is_best}
 use Rattle.tetri_prices.specs.Filling.{by_cost, fill, pick}
 use Rattle.tetri_prices.specs.Gain.{gain, gains_of, leaf_gain, least_cost, least_costs, linear_gain}
 use Rattle.tetri_prices.specs.Priced.{bid_gain, capacity, cost_for, gain_for, node_cost, part_numbers, supply_cost, window_slots, ZeroPricesBound}

@@ -1,7 +1,7 @@
 use Rattle.std.proofs.Common.{◌+◌, ◌∷◌, [], length, ap, ◌∙◌}
 use Rattle.std.proofs.lemmas.List.{length-append}
 use Rattle.tetri_space.specs.Space.{space}
-use Rattle.tetri_compile.proofs.RoomLemmas.{each_list}
+use Rattle.tetri_compile.proofs.ProgramLaws.{each_list}
 use Rattle.tetri_prices.specs.Capacities.{AreFree}
 use Rattle.tetri_prices.proofs.capacities.capacities_of.Goals as goal
 

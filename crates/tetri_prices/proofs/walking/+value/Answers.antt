@@ -11,7 +11,7 @@ use Rattle.tetri_space.specs.Partitions.{parts_of, partitions}
 use Rattle.tetri_space.specs.Space.{space}
 use Rattle.tetri_compile.specs.steps.Walked.{IsReady}
 use Rattle.tetri_compile.specs.Walk.{best}
-use Rattle.tetri_compile.proofs.KidLemmas.{kids_next}
+use Rattle.tetri_compile.proofs.ProgramLaws.{kids_next}
 use Rattle.tetri_prices.specs.declared.values.Value.{Value}
 use Rattle.tetri_prices.specs.Gain.{gain, gains_of, least_cost, least_costs}
 use Rattle.tetri_prices.specs.Priced.{cost_for, gain_for, listed}

@@ -2,7 +2,7 @@ use Rattle.std.proofs.Common.{◌≡◌, ◌+◌, ◌∷◌, [], ℕ, List, Vec,
 use Rattle.std.proofs.lemmas.List.{length-append, length-map}
 use Rattle.tetri_base.specs.Lists.{list_at}
 use Rattle.tetri_space.specs.Space.{space}
-use Rattle.tetri_compile.proofs.RoomLemmas.{each_list}
+use Rattle.tetri_compile.proofs.ProgramLaws.{each_list}
 use Rattle.tetri_prices.specs.Priced.{ArePricesOf}
 use Rattle.tetri_prices.specs.Prices.{AreSums}
 use Rattle.tetri_prices.proofs.PlaceLemmas.{row_is, row_long}
