@@ -1,0 +1,14 @@
+pub mod BidLemmas
+pub mod BoundLemmas
+pub mod CostLemmas
+pub mod Example
+pub mod FillLemmas
+pub mod JoinLemmas
+pub mod LeafLemmas
+pub mod LoopLemmas
+pub mod NetLemmas
+pub mod PlaceLemmas
+pub mod SupplyLemmas
+pub mod TopLemmas
+pub mod TreeLemmas
+pub mod WalkLemmas

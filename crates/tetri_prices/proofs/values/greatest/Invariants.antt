@@ -1,0 +1,11 @@
+use Rattle.std.proofs.Common.{◌≡◌, max, drop}
+use Rattle.tetri_strl.specs.Worth.{greatest_of, least_from}
+use Rattle.tetri_prices.specs.steps.Values.{costs, gains, tops}
+use Rattle.tetri_prices.proofs.values.greatest.Given as goal
+
+abbrev pub invariant-loop-value : goal.invariant-loop-value
+invariant-loop-value l = record {
+  top : max l.joined.top (greatest_of (tops (drop l.value-index l.values))) ≡ greatest_of (tops l.fn.values);
+  gain : max l.joined.gain (greatest_of (gains (drop l.value-index l.values))) ≡ greatest_of (gains l.fn.values);
+  cost : least_from l.joined.cost (costs (drop l.value-index l.values)) ≡ least_from 340282366920938463463374607431768211455 (costs l.fn.values);
+}
