@@ -1,6 +1,6 @@
 -- What advisors bring about in a run.
-use Rattle.std.proofs.Common.{◌≡◌, ℕ, ◌+◌, ◌<◌, ◌≤◌, List, [], ◌∷◌, refl, sym, subst, arith}
-use Rattle.std.specs.Prelude.{Contains, Option}
+use Rattle.std.proofs.Common.{◌≡◌, ◌∙◌, ⊎_elim, ℕ, suc, ◌+◌, ◌<◌, ◌≤◌, List, [], ◌∷◌, length, refl, sym, subst, arith}
+use Rattle.std.specs.Prelude.{Contains}
 use Rattle.std.proofs.lemmas.List.Elements.{All-contains, All-weaker}
 use Rattle.tetri_algebra.specs.Counts.{Rose}
 use Rattle.tetri_advice.specs.Creeds.{greedy_list}
@@ -23,15 +23,14 @@ use Rattle.tetri_strl.specs.declared.grants.Grant.{Grant}
 use Rattle.tetri_trace.specs.Scenario.{Scenario}
 use Rattle.tetri_trace.specs.Sound.{IsSound}
 use Rattle.tetri_plan.proofs.PlanLaws.{carried_worth, chosen_bounds, given_bounds, kept_bounds}
-use Rattle.tetri_run.specs.Advised.{AreListsOf, BeginsWithin, IsAdvice, IsAdvisedRun, IsOnlyRun, IsWorthCreeds, IsWorthFirst}
+use Rattle.tetri_run.specs.Advised.{AreListsOf, BeginsWithin, IsAdvice, IsAdvisedRun, IsOnlyRun, IsWorthCreeds, IsWorthFirst, by_panel}
 use Rattle.tetri_run.specs.Cycle.{IsPlannedCycle}
 use Rattle.tetri_run.specs.Run.{AnyLists, IsPlannedRun, IsRunOf, state_behind}
 use Rattle.tetri_run.proofs.OneRun.{one_run}
-use Rattle.tetri_run.proofs.RunLemmas.{append_known-nil, run_of, run_reaches}
-use Rattle.tetri_run.specs.Progress.{RanSlot, RanSlots, StoppedBetween, StoppedInSlot}
-use Rattle.tetri_report.specs.declared.tally.RunTally.{RunTally}
-use Rattle.tetri_run.specs.declared.slot.SlotTally.{SlotTally}
-use Rattle.tetri_run.specs.declared.telling.Telling.{Telling}
+use Rattle.tetri_run.proofs.RunLemmas.{run_of, run_reaches}
+use Rattle.tetri_run.specs.Telling.{block_cycles}
+use Rattle.tetri_cycles.specs.Progress.{ArePlanned, IsRunBy}
+use Rattle.tetri_cycles.proofs.CycleLaws.{now_behind}
 use Rattle.tetri_state.specs.Planning.{instance_at}
 
 -- ---- lists that may be given
@@ -154,49 +153,47 @@ module _ (t : Scenario) (sound : IsSound t) where
       alone = λ nobody. only_run [] past (run_weakens (Heard sat before now) (AreListsOf []) t (λ i given heard. heard.nobody nobody) past run);
     }
 
--- ---- a run with a panel, as it grows
-module _ (telling : Telling) (t : Scenario) (sat : List Seat) (start : ℕ) where
-  -- a count of misses that did not fall
-  pub ran_on : (slots : ℕ) (s : Snapshot) (tally : RunTally) (before now : ℕ) (bytes written : Option (List ℕ)) → before ≤ now →
-      RanSlots telling (Heard sat start before) t slots s tally bytes written → RanSlots telling (Heard sat start now) t slots s tally bytes written
-  ran_on slots s tally before now bytes written later ran = record {
-    past = ran.past;
-    run = run_heard_on t sat start before now ran.past later ran.run;
-    as_many = ran.as_many;
-    state = ran.state;
-    worth = ran.worth;
-    optimal = ran.optimal;
-    text = ran.text;
-    told = ran.told;
-    written = ran.written;
-  }
+-- ---- a run that a panel planned
+-- of advisors that sat and of a count of misses, as these read them from a panel
+module _ {Panel : Type 0} (sat : Panel → List Seat) (missed : Panel → ℕ) (t : Scenario) where
+  -- what is true of a panel behind the cycles that it planned
+  record HasPlanned (first now : Panel) (past : List Block) : Type 0 where
+    run : IsPlannedRun (Heard (sat first) (missed first) (missed now)) t past
+    still : StillSit (sat first) (length past) (sat now)
+    later : missed first ≤ missed now
 
-  module _ (old : Snapshot) (sits sat' : List Seat) (before now : ℕ) (still : StillSit sat old.now sits) (later : start ≤ before) where
-    pub slot_heard : (new : Snapshot) (tally : SlotTally) (bytes written : Option (List ℕ)) → RanSlot telling (IsAdvice sits before sat' now) t old new tally bytes written →
-        RanSlot telling (Heard sat start now) t old new tally bytes written
-    slot_heard new tally bytes written ran = record {
-      block = ran.block;
-      planned = cycle_heard t old ran.block sat sits sat' start before now still later ran.planned;
-      state = ran.state;
-      worth = ran.worth;
-      optimal = ran.optimal;
-      text = ran.text;
-      told = ran.told;
-      written = ran.written;
-    }
+  has_planned : (first now : Panel) (past : List Block) → ArePlanned (by_panel sat missed) first now t past → HasPlanned first now past
+  has_planned first now [] same = subst (λ (p : Panel). HasPlanned first p []) (sym same) (record {
+    run = tt;
+    still = record { creeds = refl; fewer = omega arith; first = λ e. refl };
+    later = omega arith;
+  })
+  has_planned first now (b ∷ past) (before, (step, rest)) =
+      let had = has_planned first before past rest in
+      let s = state_behind t past in
+      let here : length past ≡ s.now = sym (now_behind block_cycles t past) in
+      let still : StillSit (sat first) s.now (sat before) = subst (λ n. StillSit (sat first) n (sat before)) here had.still in
+      record {
+        run = (
+          step.in_run,
+          cycle_heard t s b (sat first) (sat before) (sat now) (missed first) (missed before) (missed now) still had.later step.planned,
+          run_heard_on t (sat first) (missed first) (missed before) (missed now) past step.follows.1 had.run,
+        );
+        still = still_behind t s b (sat first) (sat before) (sat now) (missed before) (missed now) (length past) (suc (length past)) (omega arith) had.still step.planned;
+        later = omega (arith, had.later, step.follows.1);
+      }
 
-    pub stop_heard : (bytes written : Option (List ℕ)) → StoppedInSlot telling (IsAdvice sits before sat' now) t old bytes written → StoppedInSlot telling (Heard sat start now) t old bytes written
-    stop_heard bytes written stop = record {
-      block = stop.block;
-      planned = cycle_heard t old stop.block sat sits sat' start before now still later stop.planned;
-      text = stop.text;
-      told = stop.told;
-      written = stop.written;
-    }
+  -- what is left of a panel that planned some cycles
+  pub panel_stays : (first now : Panel) (past : List Block) → IsRunBy (by_panel sat missed) first now t past → (creeds_of (sat now) ≡ creeds_of (sat first)) × (missed first ≤ missed now)
+  panel_stays first now past ran =
+      let had = has_planned first ran.last past ran.planned in
+      ⊎_elim (λ same. subst (λ (p : Panel). (creeds_of (sat p) ≡ creeds_of (sat first)) × (missed first ≤ missed p)) (sym same) (had.still.creeds, had.later))
+      (λ left. (left.0 ∙ had.still.creeds, omega (arith, had.later, left.1))) ran.left
 
-  pub all_sit : StillSit sat 0 sat
-  all_sit = record { creeds = refl; fewer = omega arith; first = λ e. refl }
-
-  -- no slot was run
-  pub stopped_at_first : IsSound t → (bytes : Option (List ℕ)) → StoppedBetween telling (IsAdvisedRun sat start start) t bytes bytes
-  stopped_at_first sound bytes = record { past = []; run = advised_run t sound sat start start [] tt; text = []; told = refl; written = sym (append_known-nil bytes) }
+  -- a run that a panel planned is one that it advised
+  pub panel_run : IsSound t → (first now : Panel) (past : List Block) → IsRunBy (by_panel sat missed) first now t past → IsAdvisedRun (sat first) (missed first) (missed now) t past
+  panel_run sound first now past ran =
+      let had = has_planned first ran.last past ran.planned in
+      let later : missed ran.last ≤ missed now =
+      ⊎_elim (λ same. subst (λ (p : Panel). missed ran.last ≤ missed p) (sym same) (omega arith)) (λ left. left.1) ran.left in
+      advised_run t sound (sat first) (missed first) (missed now) past (run_heard_on t (sat first) (missed first) (missed ran.last) (missed now) past later had.run)

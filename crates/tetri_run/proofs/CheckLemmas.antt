@@ -37,7 +37,9 @@ use Rattle.tetri_run.specs.Cycle.{IsCycle}
 use Rattle.tetri_run.specs.Faulty.{IsFaulty, planned_badly, corrected_at, told_badly}
 use Rattle.tetri_run.specs.Run.{BoundsHold, IsRun, in_order, state_behind, summary_of}
 use Rattle.tetri_run.specs.declared.why.Why.{Why}
-use Rattle.tetri_run.proofs.RunLemmas.{now_behind, run_reaches}
+use Rattle.tetri_run.proofs.RunLemmas.{run_reaches}
+use Rattle.tetri_cycles.proofs.CycleLaws.{now_behind}
+use Rattle.tetri_run.specs.Telling.{block_cycles}
 
 -- The order of cycles
 
@@ -384,7 +386,7 @@ fits_before_end t p b (Some s) fits = omega (arith, fits.0)
 pub run_on : (t : Scenario) (c : Checking) (ended : Option Block) (m : Option Summary) → IsRun t c.past → IsRight t c ended → FitsRun t (with_first ended c.past) m →
     IsRun t (with_first ended c.past)
 run_on t c None m run right fits = run
-run_on t c (Some b) m run right fits = (omega (arith, fits_before_end t c.past b m fits, now_behind t c.past), right, run)
+run_on t c (Some b) m run right fits = (omega (arith, fits_before_end t c.past b m fits, now_behind block_cycles t c.past), right, run)
 
 accepts_rest : (t : Scenario) (c : Checking) (rest : List (List ℕ)) (cycles : ℕ) → IsRun t c.past → IsInPlace t c → ComesTo t c rest (Ok cycles) → AcceptsRest t c rest cycles
 accepts_rest t c [] cycles run fits ends =

@@ -13,8 +13,8 @@ use Rattle.tetri_cert.specs.NodeText.{HasShortLists, IsPlain}
 use Rattle.tetri_cert.specs.declared.certificate.Certificate.{Certificate}
 use Rattle.tetri_cert.specs.declared.certificate.Certificate.TheVariants as certificates
 use Rattle.tetri_cert.specs.declared.marks.Mark.{Mark}
-use Rattle.tetri_parts.specs.Printing.{IsInstanceOf}
-use Rattle.tetri_parts.proofs.PrintLaws.{grants_printable, kept_within}
+use Rattle.tetri_commands.specs.Printing.{IsInstanceOf}
+use Rattle.tetri_commands.proofs.PrintLaws.{grants_printable, kept_within}
 use Rattle.tetri_plan.specs.Plans.{IsPrintableTree}
 use Rattle.tetri_report.specs.BlockLines.{occurrences_in}
 use Rattle.tetri_run.specs.Cycle.{IsPlanFor}

@@ -8,8 +8,9 @@ use Rattle.std.proofs.lemmas.List.Elements.{All-append, All-cons, All-map, All-n
 use Rattle.tetri_report.specs.Block.{Block}
 use Rattle.tetri_report.specs.Printable.{IsInRange, IsPrintable, IsSummaryInRange}
 use Rattle.tetri_report.specs.Reading.{report_in}
-use Rattle.tetri_run.specs.Progress.{WroteReport, WroteRun}
-use Rattle.tetri_run.specs.Telling.{AreTold}
+use Rattle.tetri_cycles.specs.Told.{AreTold, WroteRun}
+use Rattle.tetri_run.specs.Progress.{WroteReport}
+use Rattle.tetri_run.specs.Telling.{block_cycles}
 use Rattle.tetri_run.specs.declared.telling.Telling.TheVariants.{Report}
 use Rattle.tetri_report.specs.Text.{cycle_text, summary_text}
 use Rattle.tetri_report.proofs.ReportLaws.{printed_is_short, printed_reads_back}
@@ -77,20 +78,20 @@ module _ (M : Space → List (List Grant) → Type 0) (t : Scenario) (sound : Is
   }
 
 -- the texts of cycles that are told by their blocks are the lines of all cycles
-cycles_told : (t : Scenario) (past : List Block) (text : List ℕ) → AreTold Report t past text → text ≡ cycles_text t past
+cycles_told : (t : Scenario) (past : List Block) (text : List ℕ) → AreTold block_cycles Report t past text → text ≡ cycles_text t past
 cycles_told t [] text told = told
 cycles_told t (b ∷ past) text (front, (own, (e, (told, is)))) = e ∙ ap (λ l. l ++ own) (cycles_told t past front told) ∙ ap (λ l. cycles_text t past ++ l) is
 
 -- the report of such a run
 pub wrote_report : (M : Space → List (List Grant) → Type 0) (IsSuch : Scenario → List Block → Type 0) (t : Scenario) → IsSound t →
-    ((past : List Block) → IsSuch t past → IsPlannedRun M t past) → (before now : Option (List ℕ)) → WroteRun Report IsSuch t before now → WroteReport IsSuch t before now
+    ((past : List Block) → IsSuch t past → IsPlannedRun M t past) → (before now : Option (List ℕ)) → WroteRun block_cycles Report IsSuch t before now → WroteReport IsSuch t before now
 wrote_report M IsSuch t sound planned before now ran =
-    let run = planned ran.past ran.run in
+    let run = planned ran.past ran.told.run in
     record {
       past = ran.past;
-      run = ran.run;
+      run = ran.told.run;
       whole = ran.whole;
-      written = ran.written ∙ ap (λ l. append_known before (l ++ summary_text (summary_of t ran.past))) (cycles_told t ran.past ran.text ran.told);
+      written = ran.written ∙ ap (λ l. append_known before (l ++ summary_text (summary_of t ran.past))) (cycles_told t ran.past ran.text ran.told.told);
       reads = run_reads_back M t sound ran.past run ran.in_range;
       accepted = run_accepted M t sound ran.past run ran.whole ran.in_range;
     }

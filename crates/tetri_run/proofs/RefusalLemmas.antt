@@ -22,7 +22,9 @@ use Rattle.tetri_run.specs.Faulty.{IsFaulty, corrected_at, planned_badly, told_b
 use Rattle.tetri_run.specs.Run.{IsRun, state_behind}
 use Rattle.tetri_run.specs.declared.why.Why.{Why}
 use Rattle.tetri_run.proofs.CheckLemmas.{carry_same, instance_good, ok_not_err, ok_same, right_is_not_faulty, run_on}
-use Rattle.tetri_run.proofs.RunLemmas.{now_behind, run_reaches}
+use Rattle.tetri_run.proofs.RunLemmas.{run_reaches}
+use Rattle.tetri_cycles.proofs.CycleLaws.{now_behind}
+use Rattle.tetri_run.specs.Telling.{block_cycles}
 use Rattle.tetri_run.proofs.StepLemmas.{in_order_on, not_closed, unchecked_in_order}
 use Rattle.tetri_state.specs.Planning.{instance_at}
 
@@ -63,7 +65,7 @@ module _ (t : Scenario) (sound : IsSound t) where
     reached_here = run_reaches t c.past sane.run
 
     more_here : (ended : Option Block) → line_answer t c.reading line ≡ Ok ended → (state_behind t c.past).now < t.header.until
-    more_here ended answer = omega (arith, now_behind t c.past, not_closed t c line ended answer sane.order sane.place)
+    more_here ended answer = omega (arith, now_behind block_cycles t c.past, not_closed t c line ended answer sane.order sane.place)
 
     not_right_and_faulty : (b : Block) (place : ℕ) (why : Why) (ended : Option Block) → line_answer t c.reading line ≡ Ok (Some b) → IsFaulty t (state_behind t c.past) b place why →
         line_answer t c.reading line ≡ Ok ended → IsRight t c ended → ⊥

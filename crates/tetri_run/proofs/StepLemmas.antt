@@ -50,13 +50,15 @@ use Rattle.tetri_run.specs.declared.check.Progress.{Progress}
 use Rattle.tetri_run.specs.declared.sight.BegunSlot.{BegunSlot}
 use Rattle.tetri_run.specs.declared.sight.Sight.{Sight}
 use Rattle.tetri_run.specs.declared.sight.Sight.TheVariants as sights
-use Rattle.tetri_run.specs.declared.slot.SlotTally.{SlotTally}
+use Rattle.tetri_cycles.specs.declared.planner.SlotTally.{SlotTally}
 use Rattle.tetri_run.specs.declared.halt.CheckHalt.{CheckHalt}
 use Rattle.tetri_run.specs.declared.halt.CheckHalt.TheVariants.{Refused, ReadFault, NoMemory}
 use Rattle.tetri_run.specs.declared.why.Why.{Why}
 use Rattle.tetri_run.specs.declared.why.Why.TheVariants.{LineTooLong, Malformed, WrongEvents}
 use Rattle.tetri_run.proofs.CheckLemmas.{closed_blocks, read_line, true_not_false}
-use Rattle.tetri_run.proofs.RunLemmas.{now_behind, run_reaches, summary_is}
+use Rattle.tetri_run.proofs.RunLemmas.{run_reaches}
+use Rattle.tetri_cycles.proofs.CycleLaws.{now_behind, summary_is}
+use Rattle.tetri_run.specs.Telling.{block_cycles}
 
 -- how many events, grants, lines of its certificate and launches a cycle has
 abbrev pub told_lines : Block → ℕ
@@ -250,7 +252,7 @@ equal_tested m n e = grind (arith, nat_tests, e)
 
 run_within : (t : Scenario) (past : List Block) → IsRun t past → length past ≤ t.header.until
 run_within t [] run = omega arith
-run_within t (b ∷ past) run = omega (arith, run.0, now_behind t past)
+run_within t (b ∷ past) run = omega (arith, run.0, now_behind block_cycles t past)
 
 pub before_end : (t : Scenario) (past : List Block) → IsRun t past → (now : ℕ) → now ≡ length past → (not (nat_eq now t.header.until) ≡ true) ↔ (length past < t.header.until)
 before_end t past run now is =
@@ -312,8 +314,8 @@ summary_tested m s e = ap (summaries_equal m) (sym e) ∙ itself
 pub keeps_counts : (t : Scenario) (c : Checking) (p : Progress) → Keeps t c p → CountsRun t c.past p
 keeps_counts t c p keeps = record {
   run = keeps.behind.run;
-  now = sees_now t (state_behind t c.past) p.state c.reading.block.certificate p.sight keeps.sight ∙ now_behind t c.past;
-  counted = λ s told. summary_is t c.past p.state p.tally (at_rest s (ap (λ (r : Reading). r.summary) (sym keeps.reading) ∙ told)) keeps.behind.worth keeps.behind.optimal;
+  now = sees_now t (state_behind t c.past) p.state c.reading.block.certificate p.sight keeps.sight ∙ now_behind block_cycles t c.past;
+  counted = λ s told. summary_is block_cycles t c.past p.state p.tally (at_rest s (ap (λ (r : Reading). r.summary) (sym keeps.reading) ∙ told)) keeps.behind.worth keeps.behind.optimal;
 }
   where
     at_rest : (s : Summary) → c.reading.summary ≡ Some s → p.state ≡ state_behind t c.past
@@ -409,7 +411,7 @@ module _ (t : Scenario) (c : Checking) (p : Progress) (line : List ℕ) (told : 
   fed_reached = run_reaches t c.past is.behind.run
 
   pub fed_in_run : (state_behind t c.past).now < t.header.until
-  fed_in_run = omega (arith, now_behind t c.past, not_closed t c line _ fed_reads is.in_order is.in_place)
+  fed_in_run = omega (arith, now_behind block_cycles t c.past, not_closed t c line _ fed_reads is.in_order is.in_place)
 
   pub fed_begins : IsReached t begun (begin t (state_behind t c.past))
   fed_begins = begin_reached t (state_behind t c.past) fed_reached fed_in_run

@@ -1,6 +1,6 @@
 -- What a status says of answering which jobs of a trace's first slot can be served together, and of the bytes that were written.
 use Rattle.std.specs.Prelude.{ℕ, List, Option, Result}
-use Rattle.tetri_answers.specs.Progress.{StoppedBetweenAnswers, StoppedInAnswersText, WroteAnswers}
+use Rattle.tetri_commands.specs.AnswersTold.{StoppedBetweenAnswers, StoppedInAnswersText, WroteAnswers}
 use Rattle.tetri_trace.specs.Scenario.{Scenario}
 use Rattle.tetri_notice.specs.declared.fault.TraceWhy.{TraceWhy}
 use Rattle.tetri_run.specs.Promised.{IsPromisedBy}

@@ -14,7 +14,11 @@ use Rattle.tetri_space.specs.Space.{Space}
 use Rattle.tetri_space.specs.Total.{total_in}
 use Rattle.tetri_state.specs.Snapshot.{Snapshot}
 use Rattle.tetri_trace.specs.Scenario.{Scenario}
+use Rattle.tetri_cycles.specs.Planning.{Planning}
+use Rattle.tetri_run.specs.Cycle.{IsPlannedCycle}
 use Rattle.tetri_run.specs.Run.{IsPlannedRun, IsRunOf}
+use Rattle.tetri_run.specs.Telling.{block_cycles}
+use Rattle.tetri_run.specs.declared.telling.Telling.{Telling}
 use Rattle.tetri_state.specs.Planning.{instance_at}
 
 -- These lists were given of the instance where a panel was asked once and then taught: the advisors that sat and the panel's count of
@@ -58,3 +62,11 @@ pub record IsAdvisedRun (sat : List Seat) (before now : ℕ) (t : Scenario) (pas
   pub each : (Rose before now → ⊥) → IsRunOf (IsWorthCreeds (creeds_of sat)) t past
   pub exact : AllTell sat → (Rose before now → ⊥) → IsOnlyRun (creeds_of sat) t past
   pub alone : sat ≡ [] → IsOnlyRun [] t past
+
+-- How a panel plans: the lists are given of which it was asked once, and its creeds stay.
+abbrev pub by_panel : {Panel : Type 0} → (Panel → List Seat) → (Panel → ℕ) → Planning Panel Telling
+by_panel sat missed = record {
+  kind = block_cycles;
+  Plans = λ before now t s b. IsPlannedCycle (IsAdvice (sat before) (missed before) (sat now) (missed now)) t s b;
+  Follows = λ before now. (creeds_of (sat now) ≡ creeds_of (sat before)) × (missed before ≤ missed now);
+}

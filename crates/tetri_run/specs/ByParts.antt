@@ -1,6 +1,6 @@
 -- What a status says of planning a trace part by part, and of the bytes that were written.
 use Rattle.std.specs.Prelude.{ℕ, List, Option, Result}
-use Rattle.tetri_parts.specs.Progress.{StoppedBetweenParts, StoppedInPartsText, WroteParts}
+use Rattle.tetri_commands.specs.PartsRun.{StoppedBetweenParts, StoppedInPartsText, WroteParts}
 use Rattle.tetri_trace.specs.Scenario.{Scenario}
 use Rattle.tetri_notice.specs.declared.fault.TraceWhy.{TraceWhy}
 use Rattle.tetri_run.specs.Promised.{IsPromisedBy}

@@ -30,17 +30,18 @@ use Rattle.tetri_trace.specs.Scenario.{Scenario}
 use Rattle.tetri_run.specs.Check.{Checking, FitsRun, IsInPlace, IsPassed, IsRefused, IsRight, IsShort, checked_behind}
 use Rattle.tetri_run.specs.Cycle.{IsCycle}
 use Rattle.tetri_run.specs.Faulty.{IsFaulty, why_of}
-use Rattle.tetri_report.specs.Tally.{summary_at}
-use Rattle.tetri_run.specs.Run.{IsRun, optimal_count, optimal_cycles, state_behind, summary_of, worth_of_run}
+use Rattle.tetri_cycles.specs.Tally.{summary_at}
+use Rattle.tetri_run.specs.Telling.{optimal_count}
+use Rattle.tetri_run.specs.Run.{IsRun, optimal_cycles, state_behind, summary_of, worth_of_run}
 use Rattle.tetri_run.specs.declared.halt.CheckHalt.{CheckHalt}
 use Rattle.tetri_run.specs.declared.halt.CheckHalt.TheVariants.{Refused, ReadFault, NoMemory}
 use Rattle.tetri_run.specs.declared.sight.BegunSlot.{BegunSlot}
 use Rattle.tetri_run.specs.declared.sight.Sight.{Sight}
 use Rattle.tetri_run.specs.declared.sight.Sight.TheVariants as sights
 use Rattle.tetri_run.specs.declared.sight.View.{View}
-use Rattle.tetri_run.specs.declared.slot.SlotTally.{SlotTally}
+use Rattle.tetri_cycles.specs.declared.planner.SlotTally.{SlotTally}
 use Rattle.tetri_run.specs.declared.check.Progress.{Progress}
-use Rattle.tetri_report.specs.declared.tally.RunTally.{RunTally}
+use Rattle.tetri_cycles.specs.declared.tally.RunTally.{RunTally}
 use Rattle.tetri_run.specs.declared.why.Why.{Why}
 use Rattle.tetri_run.specs.declared.why.Why.TheVariants.{Malformed, WrongEvents}
 use Rattle.tetri_state.specs.Planning.{instance_at}

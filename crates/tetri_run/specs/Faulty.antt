@@ -20,15 +20,8 @@ use Rattle.tetri_run.specs.declared.why.Why.TheVariants as whys
 
 -- a verdict on a plan as a cause, unless memory ran out
 abbrev pub why_of : Verdict → Option Why
-why_of (verdicts.Unlawful u) = Some (whys.Unlawful u)
-why_of (verdicts.WrongValue printed found) = Some (whys.WrongValue printed found)
-why_of (verdicts.WasteGrant place) = Some (whys.WasteGrant place)
-why_of (verdicts.BelowCarry printed carry) = Some (whys.BelowCarry printed carry)
-why_of (verdicts.BadTree node why) = Some (whys.BadTree node why)
-why_of (verdicts.Past node column) = Some (whys.Past node column)
-why_of (verdicts.WrongBound printed found) = Some (whys.WrongBound printed found)
-why_of verdicts.WrongMark = Some whys.WrongMark
 why_of verdicts.NoMemory = None
+why_of failed = Some (whys.Plan failed)
 
 -- the cycle as it has to be in this state, with its own plan
 abbrev pub corrected_at : Scenario → Snapshot → Block → Block

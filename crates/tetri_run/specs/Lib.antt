@@ -12,3 +12,4 @@ pub mod Status
 pub mod Ended
 pub mod ByParts
 pub mod Admitting
+pub mod Answers

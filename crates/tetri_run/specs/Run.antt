@@ -1,33 +1,29 @@
 -- A run: one cycle a slot, from the opening state on. Lists of cycles have the last one first.
-use Rattle.std.specs.Prelude.{◌⊎◌, ◌<◌, Contains, ℕ, ◌+◌, List, [], ◌∷◌, ◌++◌, map, length}
+use Rattle.std.specs.Prelude.{◌⊎◌, Contains, ℕ, List, [], ◌∷◌, ◌++◌, map}
 use Rattle.tetri_space.specs.Space.{Space}
 use Rattle.tetri_strl.specs.declared.grants.Grant.{Grant}
-use Rattle.tetri_cert.specs.declared.plan_mark.PlanMark.{PlanMark}
-use Rattle.tetri_cert.specs.declared.plan_mark.PlanMark.TheVariants.{Optimal, Spent, Wide}
+use Rattle.tetri_cycles.specs.Cycles.{AreCycles, optimal_in, state_behind_cycles, summary_of_cycles, worth_of_cycles}
 use Rattle.tetri_report.specs.Block.{Block}
 use Rattle.tetri_report.specs.Text.{cycle_text, summary_text}
 use Rattle.tetri_report.specs.declared.cycle.Summary.{Summary}
-use Rattle.tetri_state.specs.Launch.{worth_launched}
 use Rattle.tetri_state.specs.Begin.{named}
 use Rattle.tetri_state.specs.Pieces.{IsSameRun}
-use Rattle.tetri_state.specs.Reached.{state_after}
 use Rattle.tetri_state.specs.declared.pieces.Piece.{Piece}
 use Rattle.tetri_state.specs.Snapshot.{Snapshot}
 use Rattle.tetri_trace.specs.Scenario.{Scenario}
+use Rattle.tetri_run.specs.Telling.{block_cycles}
 use Rattle.tetri_run.specs.Cycle.{IsBoundedCycle, IsCycle, IsPlannedCycle}
-use Rattle.tetri_state.specs.Planning.{instance_at}
 
 abbrev pub plans_of : List Block → List (List Grant)
 plans_of past = map (λ b. b.grants) past
 
 -- the state in which the next cycle begins
 abbrev pub state_behind : Scenario → List Block → Snapshot
-state_behind t past = state_after t (plans_of past)
+state_behind = state_behind_cycles block_cycles
 
 -- each of the cycles begins before the end of the trace, and is such a cycle in the state that the earlier ones leave
 abbrev pub IsRunOf : (Scenario → Snapshot → Block → Type 0) → Scenario → List Block → Type 0
-IsRunOf IsSuch t [] = Unit {0}
-IsRunOf IsSuch t (b ∷ past) = ((state_behind t past).now < t.header.until) × IsSuch t (state_behind t past) b × IsRunOf IsSuch t past
+IsRunOf = AreCycles block_cycles
 
 -- a run, whoever planned it
 abbrev pub IsRun : Scenario → List Block → Type 0
@@ -52,34 +48,17 @@ IsPlannedRun MayBeGiven = IsRunOf (IsPlannedCycle MayBeGiven)
 abbrev pub AnyLists : Space → List (List Grant) → Type 0
 AnyLists i given = Unit {0}
 
-abbrev pub optimal_count : PlanMark → ℕ
-optimal_count Optimal = 1
-optimal_count Spent = 0
-optimal_count Wide = 0
-
 -- how many cycles have an optimal plan
 abbrev pub optimal_cycles : List Block → ℕ
-optimal_cycles [] = 0
-optimal_cycles (b ∷ past) = optimal_cycles past + optimal_count b.mark
+optimal_cycles = optimal_in block_cycles
 
 -- what the launched jobs were worth at their launch
 abbrev pub worth_of_run : Scenario → List Block → ℕ
-worth_of_run t [] = 0
-worth_of_run t (b ∷ past) = worth_of_run t past + worth_launched (instance_at t (state_behind t past)) b.grants
+worth_of_run = worth_of_cycles block_cycles
 
 -- the run in numbers
 abbrev pub summary_of : Scenario → List Block → Summary
-summary_of t past =
-    let s = state_behind t past in
-    record {
-      cycles = length past;
-      launched = length s.launched;
-      ended = length s.ended;
-      cancelled = length s.cancelled;
-      expired = length s.expired;
-      worth = worth_of_run t past;
-      optimal = optimal_cycles past;
-    }
+summary_of = summary_of_cycles block_cycles
 
 -- the cycles, the first one first
 abbrev pub in_order : List Block → List Block

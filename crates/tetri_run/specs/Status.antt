@@ -12,10 +12,14 @@ use Rattle.tetri_space.specs.Words.{unlawful_words}
 use Rattle.tetri_notice.specs.declared.fault.TraceFault.{TraceFault}
 use Rattle.tetri_notice.specs.declared.fault.TraceFault.TheVariants as trace_faults
 use Rattle.tetri_run.specs.Check.{IsAccepted, IsAssured, IsRefusedAt}
-use Rattle.tetri_run.specs.Progress.{StoppedBetween, StoppedInSummary, StoppedInText, WroteReport, WroteRun, WroteSummary}
+use Rattle.tetri_cycles.specs.Told.{StoppedBetween, StoppedInText, WroteRun}
+use Rattle.tetri_run.specs.Progress.{StoppedInSummary, WroteReport, WroteSummary}
+use Rattle.tetri_run.specs.Telling.{block_cycles}
 use Rattle.tetri_run.specs.Promised.{IsPromisedBy}
 use Rattle.tetri_run.specs.Run.{AnyLists, IsPlannedRun}
 use Rattle.tetri_run.specs.Words.{Asked, to_admit, to_check, to_load, to_parts, to_plan, to_tight}
+use Rattle.tetri_judge.specs.declared.verdict.Verdict.{Verdict}
+use Rattle.tetri_judge.specs.declared.verdict.Verdict.TheVariants as verdicts
 use Rattle.tetri_run.specs.declared.why.Why.{Why}
 use Rattle.tetri_run.specs.declared.why.Why.TheVariants as refusals
 use Rattle.tetri_run.specs.declared.status.Status.{Status}
@@ -25,22 +29,22 @@ use Rattle.tetri_run.specs.declared.status.Status.TheVariants.{Done, Refused, Us
 
 -- What a status says of planning the trace that was read by such a run, whose report is written.
 abbrev pub IsPromisedOf : (Scenario → List Block → Type 0) → Status → Result Scenario (ℕ × TraceWhy) → Option (List ℕ) → Option (List ℕ) → Type 0
-IsPromisedOf IsSuch = IsPromisedBy (WroteReport IsSuch) (StoppedInText Report IsSuch) (StoppedBetween Report IsSuch)
+IsPromisedOf IsSuch = IsPromisedBy (WroteReport IsSuch) (StoppedInText block_cycles Report IsSuch) (StoppedBetween block_cycles Report IsSuch)
 
 -- What a status says of planning the trace that was read by such a run, of which is written what cuts make of the bound of each cycle: the
 -- value of a cycle is attained by a lawful allotment, and no lawful allotment is worth more than the tightened bound.
 abbrev pub IsTightPromised : (Scenario → List Block → Type 0) → Status → Result Scenario (ℕ × TraceWhy) → Option (List ℕ) → Option (List ℕ) → Type 0
-IsTightPromised IsSuch = IsPromisedBy (WroteRun Tight IsSuch) (StoppedInText Tight IsSuch) (StoppedBetween Tight IsSuch)
+IsTightPromised IsSuch = IsPromisedBy (WroteRun block_cycles Tight IsSuch) (StoppedInText block_cycles Tight IsSuch) (StoppedBetween block_cycles Tight IsSuch)
 
 -- What such a run of a trace that is told so answers, of the written bytes before and after.
 abbrev pub IsRunAnswer : Telling → (Scenario → List Block → Type 0) → Status → Scenario → Option (List ℕ) → Option (List ℕ) → Type 0
-IsRunAnswer telling IsSuch Done t before after = WroteRun telling IsSuch t before after
+IsRunAnswer telling IsSuch Done t before after = WroteRun block_cycles telling IsSuch t before after
 IsRunAnswer telling IsSuch (Refused line why) t before after = ⊥
 IsRunAnswer telling IsSuch Usage t before after = ⊥
 IsRunAnswer telling IsSuch ReadFault t before after = ⊥
-IsRunAnswer telling IsSuch WriteFault t before after = StoppedInText telling IsSuch t before after
+IsRunAnswer telling IsSuch WriteFault t before after = StoppedInText block_cycles telling IsSuch t before after
 IsRunAnswer telling IsSuch (BadTrace line why) t before after = ⊥
-IsRunAnswer telling IsSuch NoMemory t before after = StoppedBetween telling IsSuch t before after
+IsRunAnswer telling IsSuch NoMemory t before after = StoppedBetween block_cycles telling IsSuch t before after
 
 -- The same of any run that this planner plans, whatever lists were given in its cycles.
 abbrev pub IsPromised : Status → Result Scenario (ℕ × TraceWhy) → Option (List ℕ) → Option (List ℕ) → Type 0
@@ -126,29 +130,41 @@ bad_trace_words line why = codes "bad trace: line " ++ decimal line ++ codes ": 
 abbrev pub value : ℕ → List ℕ
 value n = codes " " ++ decimal n
 
--- the name of a test that a report fails
+-- the name of a test that the plan of a cycle fails, and the values that show it; no refusal is for want of memory
+abbrev pub verdict_name : Verdict → List ℕ
+verdict_name (verdicts.Unlawful u) = codes "unlawful"
+verdict_name (verdicts.WrongValue printed found) = codes "wrong-value"
+verdict_name (verdicts.WasteGrant place) = codes "waste-grant"
+verdict_name (verdicts.BelowCarry printed carry) = codes "below-carry"
+verdict_name (verdicts.BadTree node why) = codes "bad-tree"
+verdict_name (verdicts.Past node column) = codes "past"
+verdict_name (verdicts.WrongBound printed found) = codes "wrong-bound"
+verdict_name verdicts.WrongMark = codes "wrong-mark"
+verdict_name verdicts.NoMemory = codes "out-of-memory"
+
+abbrev pub verdict_values : Verdict → List ℕ
+verdict_values (verdicts.Unlawful u) = codes " " ++ unlawful_words u
+verdict_values (verdicts.WrongValue printed found) = value printed ++ value found
+verdict_values (verdicts.WasteGrant place) = value place
+verdict_values (verdicts.BelowCarry printed carry) = value printed ++ value carry
+verdict_values (verdicts.BadTree node why) = value node ++ codes " " ++ tree_words why
+verdict_values (verdicts.Past node column) = value node ++ value column
+verdict_values (verdicts.WrongBound printed found) = value printed ++ value found
+verdict_values verdicts.WrongMark = []
+verdict_values verdicts.NoMemory = []
+
+-- the name of a test that a report fails, and the values that show it
 abbrev pub refusal_name : Why → List ℕ
 refusal_name refusals.Malformed = codes "malformed"
 refusal_name refusals.LineTooLong = codes "line-too-long"
-refusal_name (refusals.Unlawful u) = codes "unlawful"
-refusal_name (refusals.WrongValue printed found) = codes "wrong-value"
-refusal_name (refusals.WasteGrant place) = codes "waste-grant"
-refusal_name (refusals.BelowCarry printed carry) = codes "below-carry"
-refusal_name (refusals.BadTree node why) = codes "bad-tree"
-refusal_name (refusals.Past node column) = codes "past"
-refusal_name (refusals.WrongBound printed found) = codes "wrong-bound"
-refusal_name refusals.WrongMark = codes "wrong-mark"
+refusal_name (refusals.Plan v) = verdict_name v
 refusal_name refusals.WrongEvents = codes "wrong-events"
 
 abbrev pub refusal_values : Why → List ℕ
-refusal_values (refusals.Unlawful u) = codes " " ++ unlawful_words u
-refusal_values (refusals.WrongValue printed found) = value printed ++ value found
-refusal_values (refusals.WasteGrant place) = value place
-refusal_values (refusals.BelowCarry printed carry) = value printed ++ value carry
-refusal_values (refusals.BadTree node why) = value node ++ codes " " ++ tree_words why
-refusal_values (refusals.Past node column) = value node ++ value column
-refusal_values (refusals.WrongBound printed found) = value printed ++ value found
-refusal_values _ = []
+refusal_values refusals.Malformed = []
+refusal_values refusals.LineTooLong = []
+refusal_values (refusals.Plan v) = verdict_values v
+refusal_values refusals.WrongEvents = []
 
 unfoldable pub refused_words : ℕ → Why → List ℕ
 refused_words line why = codes "refused: line " ++ decimal line ++ codes ": " ++ refusal_name why ++ refusal_values why ++ codes "\n"

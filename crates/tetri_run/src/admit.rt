@@ -11,7 +11,7 @@ ghost use Rattle.tetri_notice.specs.declared.fault.TraceWhy.{TraceWhy};
 use crate::status::Status;
 use crate::top::status_of;
 use std::alloc::Global;
-use tetri_answers::admit_trace;
+use tetri_commands::admit_trace;
 use tetri_io::{Shelf, Sink};
 use tetri_report::SendFault;
 use tetri_trace::read_trace;

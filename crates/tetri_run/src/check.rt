@@ -15,8 +15,9 @@ use crate::halt::CheckHalt;
 use crate::sight::{Sight, see_node, view_of};
 use crate::why::Why;
 use std::alloc::{AllocError, Global};
+use tetri_cycles::{RunTally, summary_at};
 use tetri_io::{Line, LineFault, LineReader, Shelf};
-use tetri_report::{Head, ReportFault, RunTally, Strips, Told, summary_at};
+use tetri_report::{Head, ReportFault, Strips, Told};
 use tetri_state::State;
 use tetri_trace::Trace;
 
@@ -142,7 +143,7 @@ fn is_in_place(trace: &Trace, progress: &Progress) -> bool
 {
     let ended = progress.state.now() == trace.header.until;
     match progress.strips.summary() {
-        Some(summary) => ended && summary == summary_at(&progress.state, &progress.tally),
+        Some(summary) => ended && summary == summary_at(&progress.state, progress.tally),
         None => !ended,
     }
 }

@@ -14,11 +14,12 @@ ghost use Rattle.tetri_state.specs.Snapshot.{Snapshot};
 ghost use Rattle.tetri_trace.specs.Scenario.{scenario};
 ghost use Rattle.tetri_trace.specs.Sound.{IsSound};
 
+use crate::by_panel::optimal_count;
 use crate::halt::CheckHalt;
 use crate::sight::View;
-use crate::slot::{SlotTally, optimal_count};
 use crate::why::{Why, why_of};
 use std::alloc::Global;
+use tetri_cycles::SlotTally;
 use tetri_judge::{Seen, Verdict, judge_seen, place_of};
 use tetri_report::{Expected, Head, first_other_line_by_head};
 use tetri_space::{Instance, total};

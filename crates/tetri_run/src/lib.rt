@@ -3,9 +3,9 @@
 
 mod accepted;
 mod admit;
+mod by_panel;
 mod check;
 mod cycle_check;
-mod cycles;
 mod ended;
 mod halt;
 mod laws;
@@ -13,11 +13,11 @@ mod load;
 mod parts;
 mod planner;
 mod sight;
-mod slot;
 mod spoken;
 mod status;
 mod telling;
 mod tight;
+mod told;
 mod top;
 mod why;
 mod words;

@@ -4,7 +4,7 @@ ghost use Rattle.std.specs.Io.KnownBytes.{append_known};
 ghost use Rattle.tetri_algebra.specs.Counts.{Rose};
 ghost use Rattle.tetri_io.specs.Sink.{AppendsPart};
 ghost use Rattle.tetri_run.specs.Ended.{NeedsMemory};
-ghost use Rattle.tetri_run.specs.Status.{bad_trace_words, refusal_name, refusal_values, refused_words, status_words};
+ghost use Rattle.tetri_run.specs.Status.{bad_trace_words, refusal_name, refusal_values, verdict_name, verdict_values, refused_words, status_words};
 ghost use Rattle.tetri_notice.specs.declared.fault.TraceWhy.{TraceWhy};
 
 use crate::status::Status;
@@ -12,6 +12,7 @@ use crate::why::Why;
 use std::alloc::{AllocError, Global};
 use std::fmt::Write;
 use tetri_io::{Sink, send_all};
+use tetri_judge::Verdict;
 use tetri_report::SendFault;
 use tetri_trace::TraceWhy;
 
@@ -26,6 +27,43 @@ fn bad_trace_line(alloc: Global, line: u64, why: TraceWhy) -> Result<String, All
     Ok(out)
 }
 
+// The name of a test that the plan of a cycle fails.
+fn verdict_name(verdict: Verdict) -> &'static str
+    ensures { result.now ≡ verdict_name verdict }
+{
+    match verdict {
+        Verdict::Unlawful(_) => "unlawful",
+        Verdict::WrongValue { .. } => "wrong-value",
+        Verdict::WasteGrant(_) => "waste-grant",
+        Verdict::BelowCarry { .. } => "below-carry",
+        Verdict::BadTree { .. } => "bad-tree",
+        Verdict::Past { .. } => "past",
+        Verdict::WrongBound { .. } => "wrong-bound",
+        Verdict::WrongMark => "wrong-mark",
+        Verdict::NoMemory => "out-of-memory",
+    }
+}
+
+// Adds the values that show it, each after a space.
+fn add_verdict_values(out: &mut String, verdict: Verdict) -> Result<(), AllocError>
+    ensures { OnOk result (string_bytes out.new ≡ string_bytes out.old ++ verdict_values verdict) }
+{
+    match verdict {
+        Verdict::Unlawful(unlawful) => {
+            out.push_str(" ")?;
+            unlawful.print_onto(out)
+        }
+        Verdict::WrongValue { printed, found } | Verdict::WrongBound { printed, found } => {
+            write!(out, " {printed} {found}")
+        }
+        Verdict::WasteGrant(place) => write!(out, " {place}"),
+        Verdict::BelowCarry { printed, carry } => write!(out, " {printed} {carry}"),
+        Verdict::BadTree { node, why } => write!(out, " {node} {}", why.words()),
+        Verdict::Past { node, column } => write!(out, " {node} {column}"),
+        Verdict::WrongMark | Verdict::NoMemory => Ok(()),
+    }
+}
+
 // The name of a test that a report fails.
 fn refusal_name(why: Why) -> &'static str
     ensures { result.now ≡ refusal_name why }
@@ -33,14 +71,7 @@ fn refusal_name(why: Why) -> &'static str
     match why {
         Why::Malformed => "malformed",
         Why::LineTooLong => "line-too-long",
-        Why::Unlawful(_) => "unlawful",
-        Why::WrongValue { .. } => "wrong-value",
-        Why::WasteGrant(_) => "waste-grant",
-        Why::BelowCarry { .. } => "below-carry",
-        Why::BadTree { .. } => "bad-tree",
-        Why::Past { .. } => "past",
-        Why::WrongBound { .. } => "wrong-bound",
-        Why::WrongMark => "wrong-mark",
+        Why::Plan(verdict) => verdict_name(verdict),
         Why::WrongEvents => "wrong-events",
     }
 }
@@ -50,18 +81,8 @@ fn add_refusal_values(out: &mut String, why: Why) -> Result<(), AllocError>
     ensures { OnOk result (string_bytes out.new ≡ string_bytes out.old ++ refusal_values why) }
 {
     match why {
-        Why::Unlawful(unlawful) => {
-            out.push_str(" ")?;
-            unlawful.print_onto(out)
-        }
-        Why::WrongValue { printed, found } | Why::WrongBound { printed, found } => {
-            write!(out, " {printed} {found}")
-        }
-        Why::WasteGrant(place) => write!(out, " {place}"),
-        Why::BelowCarry { printed, carry } => write!(out, " {printed} {carry}"),
-        Why::BadTree { node, why } => write!(out, " {node} {}", why.words()),
-        Why::Past { node, column } => write!(out, " {node} {column}"),
-        _ => Ok(()),
+        Why::Plan(verdict) => add_verdict_values(out, verdict),
+        Why::Malformed | Why::LineTooLong | Why::WrongEvents => Ok(()),
     }
 }
 

@@ -12,9 +12,9 @@ ghost use Rattle.tetri_space.specs.Total.{total_in};
 ghost use Rattle.tetri_trace.specs.Scenario.{scenario};
 
 use std::alloc::{AllocError, Global};
+use tetri_commands::tight_lines;
 use tetri_report::{Cycle, print_cycle};
 use tetri_space::Instance;
-use tetri_tight::tight_lines;
 use tetri_trace::Trace;
 
 /// How each cycle of a run is told.
@@ -24,9 +24,11 @@ pub(crate) enum Telling {
     Report,
     /// By what cuts make of its bound.
     Tight,
+    /// Not at all: the summary of the run is all that is written.
+    Untold,
 }
 
-/// The text that tells of a cycle of this instance. Its block of the report is made in either case: it shows that the numbers of the cycle
+/// The text that tells of a cycle of this instance. Its block of the report is made in each case: it shows that the numbers of the cycle
 /// are within the ranges of their lines.
 pub(crate) fn told_text(
     alloc: Global,
@@ -52,5 +54,6 @@ pub(crate) fn told_text(
             let lines = tight_lines(alloc, inst, number, value, bound, &cycle.certificate)?;
             Ok(lines)
         }
+        Telling::Untold => Ok(Vec::new(alloc)),
     }
 }

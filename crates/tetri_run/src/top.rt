@@ -3,26 +3,24 @@ ghost use Rattle.std.specs.Prelude.{◌≡◌, ◌≢◌, ◌↔◌, ◌≤◌, 
 ghost use Rattle.tetri_advice.specs.Seat.{creeds_of};
 ghost use Rattle.tetri_advice.specs.Sitting.{seats};
 ghost use Rattle.tetri_algebra.specs.Counts.{Rose};
-ghost use Rattle.tetri_make.specs.Generated.{generated};
-ghost use Rattle.tetri_run.specs.Admitting.{IsAdmitPromised};
 ghost use Rattle.tetri_run.specs.Advised.{IsAdvisedRun};
-ghost use Rattle.tetri_run.specs.ByParts.{IsPartsPromised};
+ghost use Rattle.tetri_run.specs.Answers.{AsksPanel, IsAnswerTo, IsComplete, MayRefuse};
 ghost use Rattle.tetri_run.specs.Check.{IsAccepted};
-ghost use Rattle.tetri_run.specs.Status.{IsCheckPromised, IsLoadAnswer, IsPromised, IsPromisedOf, IsRefusal, IsSilent, IsTightPromised, RoseOf, status_of, trace_of};
+ghost use Rattle.tetri_run.specs.Status.{IsCheckPromised, IsPromised, IsPromisedOf, IsRefusal, IsSilent, RoseOf, status_of, trace_of};
 ghost use Rattle.tetri_run.specs.declared.why.Why.{Why};
 ghost use Rattle.tetri_notice.specs.declared.fault.TraceWhy.{TraceWhy};
-ghost use Rattle.tetri_run.specs.Words.{Asked, asked, texts, to_admit, to_check, to_load, to_parts, to_plan, to_tight};
+ghost use Rattle.tetri_run.specs.Words.{Asked, IsSmall, asked, asked_of, texts, to_check, to_plan};
 ghost use Rattle.tetri_trace.specs.Lines.{scenario_in};
 ghost use Rattle.tetri_trace.specs.Scenario.{Scenario};
 
 use crate::accepted::check_trace;
 use crate::admit::run_admit;
-use crate::cycles::run_told;
 use crate::load::run_load;
 use crate::parts::run_parts;
 use crate::status::Status;
 use crate::telling::Telling;
 use crate::tight::run_tight;
+use crate::told::run_told;
 use crate::words::{Request, asked};
 use std::alloc::Global;
 use tetri_advice::Panel;
@@ -46,98 +44,81 @@ pub fn run<S: Shelf, K: Sink>(
     ensures promise { (name content : List ℕ) → asked (texts words.now) ≡ Some (to_plan name)
         → S.told shelf.old name ≡ Some content
         → IsPromised result (scenario_in content) (K.written sink.old) (K.written sink.new) }
-    ensures advised { (name content : List ℕ) → asked (texts words.now) ≡ Some (to_plan name)
-        → S.told shelf.old name ≡ Some content
-        → IsPromisedOf (IsAdvisedRun (seats (λ b. says b) (λ b. misses b) (λ b. creed b) panel.old) panel.old.missed panel.new.missed)
-        result (scenario_in content) (K.written sink.old) (K.written sink.new) }
-    ensures check { (trace report content lines : List ℕ) → asked (texts words.now) ≡ Some (to_check trace report)
-        → S.told shelf.old trace ≡ Some content → S.told shelf.old report ≡ Some lines
-        → IsCheckPromised result (scenario_in content) lines (K.written sink.old) (K.written sink.new) }
-    ensures refused { (name : List ℕ) (line : ℕ) (why : Why) → asked (texts words.now) ≡ Some (to_plan name) → result ≢ Status.Refused line why }
-    ensures bad_trace { (trace report content : List ℕ) (line : ℕ) (why : TraceWhy) → asked (texts words.now) ≡ Some (to_check trace report)
-        → S.told shelf.old trace ≡ Some content → result ≡ Status.BadTrace line why → scenario_in content ≡ Err (line, why) }
-    ensures load { (number : ℕ) → asked (texts words.now) ≡ Some (to_load number)
-        → IsLoadAnswer (IsAdvisedRun (seats (λ b. says b) (λ b. misses b) (λ b. creed b) panel.old) panel.old.missed panel.new.missed)
-        result (generated number) (K.written sink.old) (K.written sink.new) }
-    ensures parts { (name content : List ℕ) → asked (texts words.now) ≡ Some (to_parts name)
-        → S.told shelf.old name ≡ Some content
-        → IsPartsPromised result (scenario_in content) (K.written sink.old) (K.written sink.new) }
-    ensures tight { (name content : List ℕ) → asked (texts words.now) ≡ Some (to_tight name)
-        → S.told shelf.old name ≡ Some content
-        → IsTightPromised (IsAdvisedRun (seats (λ b. says b) (λ b. misses b) (λ b. creed b) panel.old) panel.old.missed panel.new.missed)
-        result (scenario_in content) (K.written sink.old) (K.written sink.new) }
-    ensures admit { (name content : List ℕ) → asked (texts words.now) ≡ Some (to_admit name)
-        → S.told shelf.old name ≡ Some content
-        → IsAdmitPromised result (scenario_in content) (K.written sink.old) (K.written sink.new) }
+    ensures answers { (a : Asked) → asked (texts words.now) ≡ Some a
+        → IsAnswerTo (S.told shelf.old)
+        (IsAdvisedRun (seats (λ b. says b) (λ b. misses b) (λ b. creed b) panel.old) panel.old.missed panel.new.missed)
+        result (K.written sink.old) (K.written sink.new) a }
+    ensures refused { (a : Asked) (line : ℕ) (why : Why) → asked (texts words.now) ≡ Some a
+        → result ≡ Status.Refused line why → MayRefuse a }
     ensures silent { IsSilent result (K.written sink.old) (K.written sink.new) }
-    ensures check_silent { (trace report : List ℕ) → asked (texts words.now) ≡ Some (to_check trace report)
-        → result ≢ Status.Done → result ≢ Status.WriteFault → K.written sink.new ≡ K.written sink.old }
 
     // A fault comes only where it was counted.
     ensures read { (a : Asked) → asked (texts words.now) ≡ Some a → result ≡ Status.ReadFault
         → RoseOf a (S.faults shelf.old) (S.faults shelf.new) }
     ensures write { result ≡ Status.WriteFault → Rose (K.faults sink.old) (K.faults sink.new) }
 
-    // A trace that is accepted is planned, a report that is accepted is told so, a number is run, and a trace and a report that are
-    // not accepted are refused, but for want of memory.
-    ensures complete { (name content : List ℕ) (t : Scenario) → asked (texts words.now) ≡ Some (to_plan name)
-        → S.told shelf.old name ≡ Some content → scenario_in content ≡ Ok t
-        → ¬ Rose (S.faults shelf.old name) (S.faults shelf.new name)
-        → ¬ Rose (K.faults sink.old) (K.faults sink.new)
-        → (result ≡ Status.Done) ⊎ (result ≡ Status.NoMemory) }
-    ensures accepts { (trace report content lines : List ℕ) (t : Scenario) → asked (texts words.now) ≡ Some (to_check trace report)
-        → S.told shelf.old trace ≡ Some content → scenario_in content ≡ Ok t
-        → S.told shelf.old report ≡ Some lines → IsAccepted t lines
-        → ¬ RoseOf (to_check trace report) (S.faults shelf.old) (S.faults shelf.new)
-        → ¬ Rose (K.faults sink.old) (K.faults sink.new)
-        → (result ≡ Status.Done) ⊎ (result ≡ Status.NoMemory) }
-    ensures rejects { (trace report content lines : List ℕ) (t : Scenario) → asked (texts words.now) ≡ Some (to_check trace report)
-        → S.told shelf.old trace ≡ Some content → scenario_in content ≡ Ok t
-        → S.told shelf.old report ≡ Some lines → ¬ IsAccepted t lines
-        → ¬ RoseOf (to_check trace report) (S.faults shelf.old) (S.faults shelf.new)
-        → IsRefusal result t lines ⊎ (result ≡ Status.NoMemory) }
-    ensures loads { (number : ℕ) → asked (texts words.now) ≡ Some (to_load number)
-        → ¬ Rose (K.faults sink.old) (K.faults sink.new)
-        → (result ≡ Status.Done) ⊎ (result ≡ Status.NoMemory) }
-    ensures parts_complete { (name content : List ℕ) (t : Scenario) → asked (texts words.now) ≡ Some (to_parts name)
-        → S.told shelf.old name ≡ Some content → scenario_in content ≡ Ok t
-        → ¬ Rose (S.faults shelf.old name) (S.faults shelf.new name)
-        → ¬ Rose (K.faults sink.old) (K.faults sink.new)
-        → (result ≡ Status.Done) ⊎ (result ≡ Status.NoMemory) }
-    ensures tight_complete { (name content : List ℕ) (t : Scenario) → asked (texts words.now) ≡ Some (to_tight name)
-        → S.told shelf.old name ≡ Some content → scenario_in content ≡ Ok t
-        → ¬ Rose (S.faults shelf.old name) (S.faults shelf.new name)
-        → ¬ Rose (K.faults sink.old) (K.faults sink.new)
-        → (result ≡ Status.Done) ⊎ (result ≡ Status.NoMemory) }
-    ensures admit_complete { (name content : List ℕ) (t : Scenario) → asked (texts words.now) ≡ Some (to_admit name)
-        → S.told shelf.old name ≡ Some content → scenario_in content ≡ Ok t
-        → ¬ Rose (S.faults shelf.old name) (S.faults shelf.new name)
-        → ¬ Rose (K.faults sink.old) (K.faults sink.new)
-        → (result ≡ Status.Done) ⊎ (result ≡ Status.NoMemory) }
+    // What is accepted is worked on to its end, and what is not is refused, but for want of memory.
+    ensures complete { (a : Asked) → asked (texts words.now) ≡ Some a
+        → ¬ RoseOf a (S.faults shelf.old) (S.faults shelf.new)
+        → IsComplete (S.told shelf.old) (¬ Rose (K.faults sink.old) (K.faults sink.new)) result a }
     ensures refuses { (a : Asked) (name content : List ℕ) (line : ℕ) (why : TraceWhy) → asked (texts words.now) ≡ Some a
         → trace_of a ≡ Some name → S.told shelf.old name ≡ Some content → scenario_in content ≡ Err (line, why)
         → ¬ Rose (S.faults shelf.old name) (S.faults shelf.new name)
         → (result ≡ Status.BadTrace line why) ⊎ (result ≡ Status.NoMemory) }
     ensures same { S.told shelf.new ≡ S.told shelf.old }
-    ensures creeds { creeds_of (seats (λ b. says b) (λ b. misses b) (λ b. creed b) panel.new) ≡ creeds_of (seats (λ b. says b) (λ b. misses b) (λ b. creed b) panel.old) }
-    ensures unasked { (trace report : List ℕ) → asked (texts words.now) ≡ Some (to_check trace report)
-        → (seats (λ b. says b) (λ b. misses b) (λ b. creed b) panel.new ≡ seats (λ b. says b) (λ b. misses b) (λ b. creed b) panel.old) × (panel.new.missed ≡ panel.old.missed) }
-    ensures parts_unasked { (name : List ℕ) → asked (texts words.now) ≡ Some (to_parts name)
-        → (seats (λ b. says b) (λ b. misses b) (λ b. creed b) panel.new ≡ seats (λ b. says b) (λ b. misses b) (λ b. creed b) panel.old) × (panel.new.missed ≡ panel.old.missed) }
-    ensures admit_unasked { (name : List ℕ) → asked (texts words.now) ≡ Some (to_admit name)
-        → (seats (λ b. says b) (λ b. misses b) (λ b. creed b) panel.new ≡ seats (λ b. says b) (λ b. misses b) (λ b. creed b) panel.old) × (panel.new.missed ≡ panel.old.missed) }
-    ensures later_reads { (other : List ℕ) → S.faults shelf.old other ≤ S.faults shelf.new other }
-    ensures later_writes { K.faults sink.old ≤ K.faults sink.new }
-    ensures later_misses { panel.old.missed ≤ panel.new.missed }
+    ensures unasked { (a : Asked) → asked (texts words.now) ≡ Some a → ¬ AsksPanel a
+        → (seats (λ b. says b) (λ b. misses b) (λ b. creed b) panel.new
+        ≡ seats (λ b. says b) (λ b. misses b) (λ b. creed b) panel.old) × (panel.new.missed ≡ panel.old.missed) }
+    ensures creeds { creeds_of (seats (λ b. says b) (λ b. misses b) (λ b. creed b) panel.new)
+        ≡ creeds_of (seats (λ b. says b) (λ b. misses b) (λ b. creed b) panel.old) }
+    ensures later { ((other : List ℕ) → S.faults shelf.old other ≤ S.faults shelf.new other)
+        × (K.faults sink.old ≤ K.faults sink.new) × (panel.old.missed ≤ panel.new.missed) }
 {
     match asked(words) {
-        Some(Request::Plan { trace }) => run_plan(alloc, trace, shelf, sink, panel),
-        Some(Request::Check { trace, report }) => run_check(alloc, trace, report, shelf, sink),
-        Some(Request::Load { number }) => run_load(alloc, number, sink, panel),
-        Some(Request::Parts { trace }) => run_parts(alloc, trace, shelf, sink),
-        Some(Request::Tight { trace }) => run_tight(alloc, trace, shelf, sink, panel),
-        Some(Request::Admit { trace }) => run_admit(alloc, trace, shelf, sink),
+        Some(request) => answer(alloc, request, shelf, sink, panel),
         None => Status::Usage,
+    }
+}
+
+// Does what is asked.
+fn answer<S: Shelf, K: Sink>(
+    alloc: Global,
+    request: Request<'_>,
+    shelf: &mut S,
+    sink: &mut K,
+    panel: &mut Panel,
+) -> Status
+    requires { IsSmall request }
+    ensures usage { result ≢ Status.Usage }
+    ensures answers { IsAnswerTo (S.told shelf.old)
+        (IsAdvisedRun (seats (λ b. says b) (λ b. misses b) (λ b. creed b) panel.old) panel.old.missed panel.new.missed)
+        result (K.written sink.old) (K.written sink.new) (asked_of request.entry) }
+    ensures refused { (line : ℕ) (why : Why) → result ≡ Status.Refused line why → MayRefuse (asked_of request.entry) }
+    ensures silent { IsSilent result (K.written sink.old) (K.written sink.new) }
+    ensures read { result ≡ Status.ReadFault → RoseOf (asked_of request.entry) (S.faults shelf.old) (S.faults shelf.new) }
+    ensures write { result ≡ Status.WriteFault → Rose (K.faults sink.old) (K.faults sink.new) }
+    ensures complete { ¬ RoseOf (asked_of request.entry) (S.faults shelf.old) (S.faults shelf.new)
+        → IsComplete (S.told shelf.old) (¬ Rose (K.faults sink.old) (K.faults sink.new)) result (asked_of request.entry) }
+    ensures refuses { (name content : List ℕ) (line : ℕ) (why : TraceWhy) → trace_of (asked_of request.entry) ≡ Some name
+        → S.told shelf.old name ≡ Some content → scenario_in content ≡ Err (line, why)
+        → ¬ Rose (S.faults shelf.old name) (S.faults shelf.new name)
+        → (result ≡ Status.BadTrace line why) ⊎ (result ≡ Status.NoMemory) }
+    ensures same { S.told shelf.new ≡ S.told shelf.old }
+    ensures unasked { ¬ AsksPanel (asked_of request.entry)
+        → (seats (λ b. says b) (λ b. misses b) (λ b. creed b) panel.new
+        ≡ seats (λ b. says b) (λ b. misses b) (λ b. creed b) panel.old) × (panel.new.missed ≡ panel.old.missed) }
+    ensures creeds { creeds_of (seats (λ b. says b) (λ b. misses b) (λ b. creed b) panel.new)
+        ≡ creeds_of (seats (λ b. says b) (λ b. misses b) (λ b. creed b) panel.old) }
+    ensures later { ((other : List ℕ) → S.faults shelf.old other ≤ S.faults shelf.new other)
+        × (K.faults sink.old ≤ K.faults sink.new) × (panel.old.missed ≤ panel.new.missed) }
+{
+    match request {
+        Request::Plan { trace } => run_plan(alloc, trace, shelf, sink, panel),
+        Request::Check { trace, report } => run_check(alloc, trace, report, shelf, sink),
+        Request::Load { number } => run_load(alloc, number, sink, panel),
+        Request::Parts { trace } => run_parts(alloc, trace, shelf, sink),
+        Request::Tight { trace } => run_tight(alloc, trace, shelf, sink, panel),
+        Request::Admit { trace } => run_admit(alloc, trace, shelf, sink),
     }
 }
 

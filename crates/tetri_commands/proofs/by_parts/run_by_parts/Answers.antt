@@ -1,0 +1,22 @@
+use Rattle.std.proofs.lemmas.Result.{on_ok_weaker}
+use Rattle.tetri_cycles.proofs.CycleLaws.{between_of, stopped_of, wrote_of}
+use Rattle.tetri_trace.specs.Scenario.{scenario}
+use Rattle.tetri_commands.specs.PartsRun.{IsPartsRun, parts_cycles}
+use Rattle.tetri_commands.proofs.PartsLemmas.{parts_run}
+use Rattle.tetri_commands.proofs.by_parts.run_by_parts.Goals as goal
+
+pub returns-clause-ok : goal.returns-clause-ok
+returns-clause-ok g c =
+    let t = scenario c.args.trace.now in
+    on_ok_weaker c.run_cycles.result
+    (wrote_of parts_cycles tt _ IsPartsRun t (parts_run _ _ t) (g.K.Sink.written c.args.sink.now) (g.K.Sink.written c.run_cycles.new.sink)) c.run_cycles.ensures.ok
+
+pub returns-clause-failed : goal.returns-clause-failed
+returns-clause-failed g c = λ e.
+    let t = scenario c.args.trace.now in
+    stopped_of parts_cycles tt _ IsPartsRun t (parts_run _ _ t) (g.K.Sink.written c.args.sink.now) (g.K.Sink.written c.run_cycles.new.sink) (c.run_cycles.ensures.failed e)
+
+pub returns-clause-memory : goal.returns-clause-memory
+returns-clause-memory g c = λ e.
+    let t = scenario c.args.trace.now in
+    between_of parts_cycles tt _ IsPartsRun t (parts_run _ _ t) (g.K.Sink.written c.args.sink.now) (g.K.Sink.written c.run_cycles.new.sink) (c.run_cycles.ensures.memory e)

@@ -1,0 +1,10 @@
+pub mod PartsCycle
+pub mod PartsText
+pub mod PartsRun
+pub mod PartsReady
+pub mod Printing
+pub mod TightText
+pub mod Tightened
+pub mod AnswerText
+pub mod Answered
+pub mod AnswersTold

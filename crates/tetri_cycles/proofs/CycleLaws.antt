@@ -1,0 +1,3 @@
+-- Laws that crates above cite.
+pub use Rattle.tetri_cycles.proofs.RunLemmas.{append_known-nil, now_behind, summary_is}
+pub use Rattle.tetri_cycles.proofs.ToldLemmas.{between_of, stopped_of, wrote_of}

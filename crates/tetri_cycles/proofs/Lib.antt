@@ -1,0 +1,3 @@
+pub mod RunLemmas
+pub mod ToldLemmas
+pub mod CycleLaws
