@@ -1,5 +1,5 @@
 -- What advisors bring about in a run.
-use Rattle.std.proofs.Common.{◌≡◌, ◌∙◌, ⊎_elim, ℕ, ◌+◌, ◌<◌, ◌≤◌, List, [], ◌∷◌, length, refl, sym, subst, arith}
+use Rattle.std.proofs.Common.{◌≡◌, ◌∙◌, ⊎_elim, ℕ, suc, ◌+◌, ◌<◌, ◌≤◌, List, [], ◌∷◌, length, refl, sym, subst, arith}
 use Rattle.std.specs.Prelude.{Contains}
 use Rattle.std.proofs.lemmas.List.Elements.{All-contains, All-weaker}
 use Rattle.tetri_algebra.specs.Counts.{Rose}
@@ -179,7 +179,7 @@ module _ {Panel : Type 0} (sat : Panel → List Seat) (missed : Panel → ℕ) (
           cycle_heard t s b (sat first) (sat before) (sat now) (missed first) (missed before) (missed now) still had.later step.planned,
           run_heard_on t (sat first) (missed first) (missed before) (missed now) past step.follows.1 had.run,
         );
-        still = still_behind t s b (sat first) (sat before) (sat now) (missed before) (missed now) (length past) (length past + 1) refl had.still step.planned;
+        still = still_behind t s b (sat first) (sat before) (sat now) (missed before) (missed now) (length past) (suc (length past)) (omega arith) had.still step.planned;
         later = omega (arith, had.later, step.follows.1);
       }
 

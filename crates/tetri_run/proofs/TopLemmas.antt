@@ -119,7 +119,7 @@ module _ (IsSuch : Scenario → List Block → Type 0) (t : Scenario) (before af
   }
 
   -- of which the summary is all that is written
-  pub load_answered : (status : Status) → IsRunAnswer Untold IsSuch status t before after → IsLoadAnswer IsSuch status t before after
+  load_answered : (status : Status) → IsRunAnswer Untold IsSuch status t before after → IsLoadAnswer IsSuch status t before after
   load_answered Done answer = record {
     summary = summary_of t answer.past;
     of_run = record { past = answer.past; run = answer.told.run; whole = answer.whole; counted = refl };
@@ -132,3 +132,6 @@ module _ (IsSuch : Scenario → List Block → Type 0) (t : Scenario) (before af
       stopped_untold answer.past answer.told.run answer.front answer.text answer.part (untold t answer.past answer.front answer.told.told) answer.proper answer.written answer.next
   load_answered (BadTrace line why) answer = answer
   load_answered NoMemory answer = answer.written ∙ ap (append_known before) (untold t answer.past answer.front answer.told.told) ∙ append_known-nil before
+
+  pub load_of : (status : Status) (s : Scenario) → t ≡ s → IsRunAnswer Untold IsSuch status t before after → IsLoadAnswer IsSuch status s before after
+  load_of status s is answer = subst (λ (u : Scenario). IsLoadAnswer IsSuch status u before after) is (load_answered status answer)

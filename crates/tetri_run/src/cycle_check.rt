@@ -14,9 +14,9 @@ ghost use Rattle.tetri_state.specs.Snapshot.{Snapshot};
 ghost use Rattle.tetri_trace.specs.Scenario.{scenario};
 ghost use Rattle.tetri_trace.specs.Sound.{IsSound};
 
+use crate::by_panel::optimal_count;
 use crate::halt::CheckHalt;
 use crate::sight::View;
-use crate::by_panel::optimal_count;
 use crate::why::{Why, why_of};
 use std::alloc::Global;
 use tetri_cycles::SlotTally;

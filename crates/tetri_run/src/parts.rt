@@ -11,8 +11,8 @@ ghost use Rattle.tetri_notice.specs.declared.fault.TraceWhy.{TraceWhy};
 use crate::status::Status;
 use crate::top::status_of;
 use std::alloc::Global;
-use tetri_io::{Shelf, Sink};
 use tetri_commands::run_by_parts;
+use tetri_io::{Shelf, Sink};
 use tetri_report::SendFault;
 use tetri_trace::read_trace;
 

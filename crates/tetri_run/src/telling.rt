@@ -12,9 +12,9 @@ ghost use Rattle.tetri_space.specs.Total.{total_in};
 ghost use Rattle.tetri_trace.specs.Scenario.{scenario};
 
 use std::alloc::{AllocError, Global};
+use tetri_commands::tight_lines;
 use tetri_report::{Cycle, print_cycle};
 use tetri_space::Instance;
-use tetri_commands::tight_lines;
 use tetri_trace::Trace;
 
 /// How each cycle of a run is told.

@@ -10,9 +10,9 @@ ghost use Rattle.tetri_trace.specs.Lines.{scenario_in};
 ghost use Rattle.tetri_trace.specs.Scenario.{Scenario};
 ghost use Rattle.tetri_notice.specs.declared.fault.TraceWhy.{TraceWhy};
 
-use crate::told::run_told;
 use crate::status::Status;
 use crate::telling::Telling;
+use crate::told::run_told;
 use crate::top::status_of;
 use std::alloc::Global;
 use tetri_advice::Panel;

@@ -15,12 +15,12 @@ ghost use Rattle.tetri_trace.specs.Scenario.{Scenario};
 
 use crate::accepted::check_trace;
 use crate::admit::run_admit;
-use crate::told::run_told;
 use crate::load::run_load;
 use crate::parts::run_parts;
 use crate::status::Status;
 use crate::telling::Telling;
 use crate::tight::run_tight;
+use crate::told::run_told;
 use crate::words::{Request, asked};
 use std::alloc::Global;
 use tetri_advice::Panel;
@@ -92,19 +92,19 @@ fn answer<S: Shelf, K: Sink>(
     ensures usage { result ≢ Status.Usage }
     ensures answers { IsAnswerTo (S.told shelf.old)
         (IsAdvisedRun (seats (λ b. says b) (λ b. misses b) (λ b. creed b) panel.old) panel.old.missed panel.new.missed)
-        result (K.written sink.old) (K.written sink.new) (asked_of request) }
-    ensures refused { (line : ℕ) (why : Why) → result ≡ Status.Refused line why → MayRefuse (asked_of request) }
+        result (K.written sink.old) (K.written sink.new) (asked_of request.entry) }
+    ensures refused { (line : ℕ) (why : Why) → result ≡ Status.Refused line why → MayRefuse (asked_of request.entry) }
     ensures silent { IsSilent result (K.written sink.old) (K.written sink.new) }
-    ensures read { result ≡ Status.ReadFault → RoseOf (asked_of request) (S.faults shelf.old) (S.faults shelf.new) }
+    ensures read { result ≡ Status.ReadFault → RoseOf (asked_of request.entry) (S.faults shelf.old) (S.faults shelf.new) }
     ensures write { result ≡ Status.WriteFault → Rose (K.faults sink.old) (K.faults sink.new) }
-    ensures complete { ¬ RoseOf (asked_of request) (S.faults shelf.old) (S.faults shelf.new)
-        → IsComplete (S.told shelf.old) (¬ Rose (K.faults sink.old) (K.faults sink.new)) result (asked_of request) }
-    ensures refuses { (name content : List ℕ) (line : ℕ) (why : TraceWhy) → trace_of (asked_of request) ≡ Some name
+    ensures complete { ¬ RoseOf (asked_of request.entry) (S.faults shelf.old) (S.faults shelf.new)
+        → IsComplete (S.told shelf.old) (¬ Rose (K.faults sink.old) (K.faults sink.new)) result (asked_of request.entry) }
+    ensures refuses { (name content : List ℕ) (line : ℕ) (why : TraceWhy) → trace_of (asked_of request.entry) ≡ Some name
         → S.told shelf.old name ≡ Some content → scenario_in content ≡ Err (line, why)
         → ¬ Rose (S.faults shelf.old name) (S.faults shelf.new name)
         → (result ≡ Status.BadTrace line why) ⊎ (result ≡ Status.NoMemory) }
     ensures same { S.told shelf.new ≡ S.told shelf.old }
-    ensures unasked { ¬ AsksPanel (asked_of request)
+    ensures unasked { ¬ AsksPanel (asked_of request.entry)
         → (seats (λ b. says b) (λ b. misses b) (λ b. creed b) panel.new
         ≡ seats (λ b. says b) (λ b. misses b) (λ b. creed b) panel.old) × (panel.new.missed ≡ panel.old.missed) }
     ensures creeds { creeds_of (seats (λ b. says b) (λ b. misses b) (λ b. creed b) panel.new)

@@ -9,7 +9,7 @@ returns-then-ended c = λ past is.
     let t = scenario c.args.trace.now in
     let whole = sym is.now ∙ sym c.now.ensures ∙ c.if-ended.true in
     let told = sym c.summary.ensures ∙ c.in-Some.is in
-    let counted = c.summary_at.ensures ∙ is.counted c.in-Some.summary told in (
+    let counted = c.summary_at.ensures.value ∙ is.counted c.in-Some.summary told in (
       λ test. subst (FitsRun t past) (sym told) (whole, same_summary c.in-Some.summary c.summary_at.result (sym c.eq.ensures ∙ test) ∙ counted),
       λ fits.
           let closed : FitsRun t past (Some c.in-Some.summary) = subst (FitsRun t past) told fits in
