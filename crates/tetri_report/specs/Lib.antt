@@ -7,4 +7,3 @@ pub mod Differences
 pub mod Reading
 pub mod Answers
 pub mod Strips
-pub mod Tally

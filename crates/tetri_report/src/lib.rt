@@ -15,7 +15,6 @@ mod send_fault;
 mod stages;
 mod strips;
 mod summary;
-mod tally;
 
 pub use blocks::Blocks;
 pub use cycle::{Cycle, Head, Summary};
@@ -31,4 +30,3 @@ pub use print::{print_cycle, print_events, print_launches, print_plan};
 pub use send_fault::SendFault;
 pub use strips::{Strips, Told};
 pub use summary::print_summary;
-pub use tally::{RunTally, summary_at};
