@@ -1,5 +1,5 @@
 -- Steps of the loop over what is left of the bids.
-use Rattle.std.proofs.Common.{◌≡◌, ℕ, zero, suc, ◌+◌, ◌*◌, ◌<◌, ◌≤◌, ◌^◌, List, [], ◌∷◌, length, get_or, drop, map, refl, sym, ap, ◌∙◌, subst, arith}
+use Rattle.std.proofs.Common.{◌≡◌, ℕ, ◌+◌, ◌*◌, ◌<◌, ◌≤◌, ◌^◌, List, ◌∷◌, length, get_or, drop, map, sym, ap, ◌∙◌, subst, arith}
 use Rattle.std.proofs.lemmas.List.{drop_more}
 use Rattle.std.proofs.lemmas.List.Elements.{All-contains}
 use Rattle.std.proofs.lemmas.Nat.{mul-le}
@@ -48,12 +48,6 @@ module _ {X : Type 0} (read : X → Bid) (xs : List X) (i : ℕ) (x : X) (short 
 
   pub first_holds : (P : Bid → Type 0) → Each P (map read (drop i xs)) → P (read x) × Each P (map read (drop (i + 1) xs))
   first_holds P h = subst (Each P) next h
-
-pub drop_end : {X : Type 0} (xs : List X) (i : ℕ) → length xs ≤ i → drop i xs ≡ []
-drop_end [] zero le = refl
-drop_end [] (suc i) le = refl
-drop_end (x ∷ xs) zero le = absurd (omega arith)
-drop_end (x ∷ xs) (suc i) le = drop_end xs i (omega arith)
 
 peak_le : (t : Tree) → IsSound t → peak t ≤ PEAK
 peak_le (one l) sound = sound.1

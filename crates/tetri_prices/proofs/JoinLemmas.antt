@@ -1,6 +1,6 @@
 -- Steps of the loops that join values.
-use Rattle.std.proofs.Common.{◌≡◌, ℕ, zero, suc, ◌+◌, ◌-◌, ◌<◌, ◌≤◌, max, List, [], ◌∷◌, length, get_or, drop, map, refl, sym, ap, ◌∙◌, arith}
-use Rattle.std.proofs.lemmas.List.{length-map}
+use Rattle.std.proofs.Common.{◌≡◌, ℕ, zero, suc, ◌+◌, ◌-◌, ◌<◌, ◌≤◌, max, List, [], ◌∷◌, length, get_or, drop, map, sym, ap, ◌∙◌, arith}
+use Rattle.std.proofs.lemmas.List.{drop_all, length-map}
 use Rattle.tetri_strl.specs.Tree.{added, greatest, least}
 use Rattle.tetri_strl.specs.Worth.{added_of, greatest_of, least_from, least_of}
 use Rattle.tetri_prices.specs.declared.values.Value.{Value}
@@ -33,12 +33,6 @@ gross_some : (vs : List Value) → 1 ≤ length vs → 1 ≤ length (gross (gain
 gross_some [] some = absurd (omega (arith, some))
 gross_some (v ∷ vs) some = omega arith
 
-drop_over : {X : Type 0} (xs : List X) (i : ℕ) → length xs ≤ i → drop i xs ≡ []
-drop_over [] zero le = refl
-drop_over [] (suc i) le = refl
-drop_over (x ∷ xs) zero le = absurd (omega (arith, le))
-drop_over (x ∷ xs) (suc i) le = drop_over xs i (omega (arith, le))
-
 module _ (vs : List Value) (i : ℕ) (over : length vs ≤ i) (some : 1 ≤ length vs) (v : Value) where
   abbrev MOST : ℕ
   MOST = 340282366920938463463374607431768211455
@@ -47,7 +41,7 @@ module _ (vs : List Value) (i : ℕ) (over : length vs ≤ i) (some : 1 ≤ leng
   rest = drop i vs
 
   ended : rest ≡ []
-  ended = drop_over vs i over
+  ended = drop_all i vs over
 
   cost_is : added_of (costs vs) ≤ MOST → least_from v.cost (costs rest) ≡ least_from MOST (costs vs) → v.cost ≡ least_of (costs vs)
   cost_is small so_far =

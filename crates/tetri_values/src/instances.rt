@@ -2,7 +2,7 @@
 ghost use Rattle.tetri_space.specs.Sound.{IsSound};
 ghost use Rattle.tetri_space.specs.Space.{space};
 
-use crate::programs;
+use crate::{prices, programs};
 use std::alloc::{AllocError, Global};
 use tetri_space::{
     Instance, Partitions, Unlawful, available, find_partitions, free, lawful, tops,
@@ -94,7 +94,8 @@ fn partitions_told(alloc: Global, inst: &Instance) -> Result<String, AllocError>
 }
 
 /// What is told of an instance: `offer PLACE` with its job, `free NODE SLOT`, `tops`, `total GRANTS`, `lawful GRANTS`,
-/// `partitions` with how many jobs have live leaves, `available PARTITION SLOT`, or of its program.
+/// `partitions` with how many jobs have live leaves, `available PARTITION SLOT`, `priced UNIT PRICES` with the bound that prices give,
+/// or of its program.
 pub fn told(alloc: Global, inst: &Instance, word: &str, rest: &str) -> Result<String, AllocError>
     requires { IsSound (space inst.now) }
 {
@@ -107,6 +108,7 @@ pub fn told(alloc: Global, inst: &Instance, word: &str, rest: &str) -> Result<St
         "lawful" => tested(alloc, inst, rest),
         "partitions" => partitions_told(alloc, inst),
         "available" => available_told(alloc, inst, first, second),
+        "priced" => prices::told(alloc, inst, rest),
         _ => programs::told(alloc, inst, word, rest),
     }
 }

@@ -11,6 +11,7 @@ mod fractions;
 mod instances;
 mod node_sets;
 mod parts;
+mod prices;
 mod programs;
 mod readings;
 mod runs_of_programs;

@@ -1,4 +1,5 @@
 use Rattle.std.proofs.Common.{◌≡◌, List, [], ◌≤◌, ◌+◌, ◌/◌, drop, map, sym, subst, ap, ◌∙◌, arith}
+use Rattle.std.proofs.lemmas.List.{drop_all}
 use Rattle.tetri_base.specs.Lists.{Each, sum_of}
 use Rattle.tetri_strl.specs.Tree.{tree}
 use Rattle.tetri_space.specs.declared.instance.Offer.{Offer}
@@ -8,7 +9,7 @@ use Rattle.tetri_space.specs.Total.{total_in}
 use Rattle.tetri_prices.specs.Gain.{gain}
 use Rattle.tetri_prices.specs.Priced.{bid_gain, cost_for, gain_for, listed, priced_bound, supply_cost}
 use Rattle.tetri_prices.specs.Prices.{rows_of}
-use Rattle.tetri_prices.proofs.BidLemmas.{all_ready, drop_end, factor_small, first_holds, first_part, gains_small, IsReadyBid}
+use Rattle.tetri_prices.proofs.BidLemmas.{all_ready, factor_small, first_holds, first_part, gains_small, IsReadyBid}
 use Rattle.tetri_prices.proofs.BoundLemmas.{prices_bound}
 use Rattle.tetri_prices.proofs.bound.priced_bound.Goals as goal
 
@@ -63,7 +64,7 @@ returns-clause-bounds c = λ a lawful.
     let s = space c.args.inst.now in
     let price = listed c.args.inst.now.now (rows_of c.args.prices.now) in
     let f = bid_gain s (partitions s) price c.args.unit in
-    let over : drop c.loop-offer.offer-index c.offers-offer-items.result.now ≡ [] = drop_end c.offers-offer-items.result.now c.loop-offer.offer-index (omega (arith, c.loop-offer-test.false)) in
+    let over : drop c.loop-offer.offer-index c.offers-offer-items.result.now ≡ [] = drop_all c.loop-offer.offer-index c.offers-offer-items.result.now (omega (arith, c.loop-offer-test.false)) in
     let all : c.loop-offer.gains ≡ sum_of f (live_bids s) = omega (arith, c.loop-offer.invariant.so_far, ap (λ (os : List Offer). sum_of f (map bid os)) over) in
     let is : (c.loop-offer.gains + c.supply_of.result) / c.from.result ≡ priced_bound s c.args.unit price =
     ap (λ n. (n + c.supply_of.result) / c.from.result) all

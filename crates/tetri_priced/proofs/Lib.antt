@@ -1,0 +1,5 @@
+pub mod CycleLemmas
+pub mod LowestLemmas
+pub mod TotalLemmas
+pub mod NotedLemmas
+pub mod AnswerLemmas
