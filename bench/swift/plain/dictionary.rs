@@ -1,0 +1,245 @@
+// Dictionaries of the dual simplex method over bounded variables. A column is one variable, its number
+// less the lower bound, or, where it is mirrored, the upper bound less its number; both are 0 or more.
+
+use crate::goal::{put_in_goal, Goal};
+use crate::lines::{mirror, places, put_in, solve_for, Line};
+use crate::numbers::{at, name_at, narrow, plus, wide_at};
+use crate::programs::{add_product, Program, Region, Row};
+
+/// Variables by name: a column by its number, and the slack of a row by its number behind the columns.
+pub struct Dictionary {
+    /// The basic variable of each line.
+    pub basic: Vec<u32>,
+    /// The nonbasic variable at each place.
+    pub nonbasic: Vec<u32>,
+    /// Whether each column is mirrored.
+    pub mirrored: Vec<bool>,
+    pub lines: Vec<Line>,
+    pub goal: Goal,
+}
+
+pub fn is_mirrored(mirrored: &[bool], column: usize) -> bool {
+    column < mirrored.len() && mirrored[column]
+}
+
+// The bound at which a column stands where its variable is 0.
+fn base(r: &Region, mirrored: &[bool], column: usize) -> i128 {
+    if is_mirrored(mirrored, column) {
+        wide_at(&r.upper, column)
+    } else {
+        wide_at(&r.lower, column)
+    }
+}
+
+/// How many whole numbers more than one a column has.
+pub fn width(r: &Region, column: usize) -> i128 {
+    wide_at(&r.upper, column).saturating_sub(wide_at(&r.lower, column))
+}
+
+// The slack of a row. None where a number is too long.
+fn first_line(columns: usize, row: &Row, r: &Region, mirrored: &[bool]) -> Option<Line> {
+    let mut numbers = vec![0i64; columns];
+    let mut constant = row.right;
+    for term in &row.terms {
+        let column = term.column as usize;
+        let Some(by) = narrow(term.by) else {
+            return None;
+        };
+        let base = base(r, mirrored, column);
+        let Some(next) = add_product(constant, term.by.wrapping_neg(), base) else {
+            return None;
+        };
+        constant = next;
+        if column < columns {
+            numbers[column] = if is_mirrored(mirrored, column) {
+                by
+            } else {
+                by.wrapping_neg()
+            };
+        }
+    }
+    let Some(constant) = narrow(constant) else {
+        return None;
+    };
+    Some(Line {
+        over: 1,
+        constant,
+        numbers,
+    })
+}
+
+// The objective, none of whose numbers is above 0.
+fn first_goal(p: &Program, r: &Region, mirrored: &[bool]) -> Option<Goal> {
+    let mut numbers = Vec::with_capacity(p.costs.len());
+    let mut constant = 0;
+    for (column, cost) in p.costs.iter().enumerate() {
+        let Some(next) = add_product(constant, *cost, base(r, mirrored, column)) else {
+            return None;
+        };
+        constant = next;
+        numbers.push((*cost).min(cost.wrapping_neg()));
+    }
+    Some(Goal {
+        over: 1,
+        constant,
+        numbers,
+    })
+}
+
+fn first_names(from: usize, count: usize) -> Vec<u32> {
+    let mut names = Vec::with_capacity(count);
+    for k in 0..count {
+        names.push(u32::try_from(from.saturating_add(k)).unwrap_or(0));
+    }
+    names
+}
+
+fn first_mirrored(p: &Program) -> Vec<bool> {
+    let mut mirrored = Vec::with_capacity(p.costs.len());
+    for cost in &p.costs {
+        mirrored.push(*cost > 0);
+    }
+    mirrored
+}
+
+/// The first dictionary over a region. None where a number is too long.
+pub fn start(p: &Program, r: &Region) -> Option<Dictionary> {
+    let columns = p.costs.len();
+    let mirrored = first_mirrored(p);
+    let Some(goal) = first_goal(p, r, &mirrored) else {
+        return None;
+    };
+    let mut lines = Vec::with_capacity(p.rows.len());
+    for row in &p.rows {
+        let Some(line) = first_line(columns, row, r, &mirrored) else {
+            return None;
+        };
+        lines.push(line);
+    }
+    Some(Dictionary {
+        basic: first_names(columns, p.rows.len()),
+        nonbasic: first_names(0, columns),
+        mirrored,
+        lines,
+        goal,
+    })
+}
+
+fn copy_lines(lines: &[Line]) -> Vec<Line> {
+    let mut copies = Vec::with_capacity(lines.len());
+    for line in lines {
+        copies.push(Line {
+            over: line.over,
+            constant: line.constant,
+            numbers: line.numbers.to_vec(),
+        });
+    }
+    copies
+}
+
+/// A copy.
+pub fn copy(d: &Dictionary) -> Dictionary {
+    Dictionary {
+        basic: d.basic.to_vec(),
+        nonbasic: d.nonbasic.to_vec(),
+        mirrored: d.mirrored.to_vec(),
+        lines: copy_lines(&d.lines),
+        goal: Goal {
+            over: d.goal.over,
+            constant: d.goal.constant,
+            numbers: d.goal.numbers.to_vec(),
+        },
+    }
+}
+
+/// About how many bytes a copy takes.
+pub fn bytes(d: &Dictionary) -> usize {
+    d.lines
+        .len()
+        .saturating_mul(d.nonbasic.len())
+        .saturating_mul(8)
+}
+
+fn put_in_all(lines: &mut [Line], place: usize, solved: &Line, places: &[u32]) -> Option<()> {
+    for line in lines {
+        put_in(line, place, solved, places)?;
+    }
+    Some(())
+}
+
+fn put_name(names: &mut [u32], place: usize, name: usize) {
+    if place < names.len() {
+        names[place] = u32::try_from(name).unwrap_or(0);
+    }
+}
+
+/// Exchanges the variables of a line and of a place, at which the line's number is above 0. None where
+/// a number is too long, and then the dictionary is spent.
+pub fn pivot(d: &mut Dictionary, row: usize, place: usize) -> Option<()> {
+    if d.lines.len() <= row {
+        return None;
+    }
+    let solved = solve_for(&d.lines[row], place);
+    let places = places(&solved);
+    if solved.over <= 0 || put_in_goal(&mut d.goal, place, &solved, &places).is_none() {
+        return None;
+    }
+    if put_in_all(&mut d.lines, place, &solved, &places).is_none() {
+        return None;
+    }
+    let entering = name_at(&d.nonbasic, place);
+    put_name(&mut d.nonbasic, place, name_at(&d.basic, row));
+    put_name(&mut d.basic, row, entering);
+    put_line(&mut d.lines, row, solved);
+    Some(())
+}
+
+fn put_line(lines: &mut [Line], row: usize, line: Line) {
+    if row < lines.len() {
+        lines[row] = line;
+    }
+}
+
+// The place of a name in a list.
+fn place_of(names: &[u32], name: usize) -> Option<usize> {
+    names.iter().position(|other| *other as usize == name)
+}
+
+// Adds a multiple of the numbers at a place to the constants.
+fn shift_all(lines: &mut [Line], place: usize, by: i64) -> Option<()> {
+    for line in lines {
+        line.constant = plus(line.constant, by, at(&line.numbers, place))?;
+    }
+    Some(())
+}
+
+fn shift_line(lines: &mut [Line], row: usize, by: i64) -> Option<()> {
+    if row < lines.len() {
+        let line = &mut lines[row];
+        line.constant = plus(line.constant, by.wrapping_neg(), line.over)?;
+    }
+    Some(())
+}
+
+/// The dictionary where a column's variable is less by a number, since the bound at which it stands for
+/// 0 moved. None where a number is too long, and then the dictionary is spent.
+pub fn shift(d: &mut Dictionary, column: usize, by: i128) -> Option<()> {
+    let by = narrow(by)?;
+    if let Some(row) = place_of(&d.basic, column) {
+        return shift_line(&mut d.lines, row, by);
+    }
+    let place = place_of(&d.nonbasic, column)?;
+    let number = wide_at(&d.goal.numbers, place);
+    d.goal.constant = add_product(d.goal.constant, by as i128, number)?;
+    shift_all(&mut d.lines, place, by)
+}
+
+/// The line's variable mirrored in its width.
+pub fn mirror_line(d: &mut Dictionary, row: usize, column: usize, width: i128) -> Option<()> {
+    if d.lines.len() <= row || d.mirrored.len() <= column {
+        return None;
+    }
+    mirror(&mut d.lines[row], width)?;
+    d.mirrored[column] = !d.mirrored[column];
+    Some(())
+}
