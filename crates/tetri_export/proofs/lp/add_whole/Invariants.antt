@@ -1,0 +1,9 @@
+use Rattle.std.proofs.Common.{◌≡◌, ◌++◌, map, string_bytes}
+use Rattle.std.specs.Prelude.{flat_map}
+use Rattle.std.specs.List.{range_with_len}
+use Rattle.tetri_export.specs.Lp.{name_at}
+use Rattle.tetri_export.specs.Plain.{name_text}
+use Rattle.tetri_export.proofs.lp.add_whole.Given as goal
+
+abbrev pub invariant-loop-place : goal.invariant-loop-place
+invariant-loop-place l = string_bytes l.out ≡ string_bytes l.initial.out ++ flat_map (λ k. name_text (name_at (map string_bytes l.columns) k)) (range_with_len 0 l.place)

@@ -1,0 +1,2 @@
+pub mod Lp
+pub mod Plain
