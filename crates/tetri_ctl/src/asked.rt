@@ -1,5 +1,5 @@
-// The command line.
-use clap::{Arg, ArgMatches, Command, Error, value_parser};
+// The words of an import.
+use clap::{Arg, ArgMatches, Command, value_parser};
 use std::alloc::{AllocError, Global};
 use tetri_logs::{Format, Options, Worth, seconds_in};
 use tetri_request::Class;
@@ -89,17 +89,20 @@ fn with_jobs<'a>(alloc: Global, command: Command<'a>) -> Result<Command<'a>, All
         ))
 }
 
-/// The command line of the program.
-pub fn command<'a>(alloc: Global) -> Result<Command<'a>, Error> {
-    let format = Arg::new(alloc, "format")
+/// The words of the command.
+pub fn import_command<'a>(alloc: Global) -> Result<Command<'a>, AllocError> {
+    let format = Arg::new(alloc, "FORMAT")
         .required(true)
         .value_parser(["swf", "sacct"].as_slice());
-    let log = Arg::new(alloc, "log").required(true);
-    let command = Command::new(alloc, "tetri_import")
+    let log = Arg::new(alloc, "LOG")
+        .required(true)
+        .help("the log, a file or -");
+    let command = Command::new(alloc, "import")
         .about("Writes the trace of an accounting log")
+        .after_help("Example: tetri_ctl import swf cluster.swf --slack 12 > cluster.jsonl")
         .arg(format)?
         .arg(log)?;
-    Ok(with_jobs(alloc, with_cycles(alloc, command)?)?)
+    with_jobs(alloc, with_cycles(alloc, command)?)
 }
 
 fn number_of(matches: &ArgMatches, name: &str) -> Option<u32> {
@@ -123,7 +126,7 @@ fn time_of(matches: &ArgMatches, name: &str) -> Option<Option<u32>> {
 }
 
 fn format_of(matches: &ArgMatches) -> Format {
-    match matches.get_str("format") {
+    match matches.get_str("FORMAT") {
         Some("sacct") => Format::Sacct,
         _ => Format::Swf,
     }
@@ -144,7 +147,7 @@ fn class_of(matches: &ArgMatches) -> Class {
 }
 
 /// What the words ask for. `None` where a time is no time.
-pub fn read_words<'a>(matches: &ArgMatches<'a>) -> Option<Asked<'a>> {
+pub fn asked_of<'a>(matches: &ArgMatches<'a>) -> Option<Asked<'a>> {
     let options = Options {
         slot: number_of(matches, "slot").unwrap_or(300),
         processors: number_of(matches, "processors"),
@@ -161,7 +164,7 @@ pub fn read_words<'a>(matches: &ArgMatches<'a>) -> Option<Asked<'a>> {
     };
     Some(Asked {
         format: format_of(matches),
-        log: matches.get_str("log").unwrap_or(""),
+        log: matches.get_str("LOG").unwrap_or(""),
         options,
     })
 }

@@ -1,0 +1,47 @@
+// `tetri_ctl chart TRACE REPORT`
+use crate::named::{Shelf, open_report, open_trace, report_word, trace_word};
+use crate::said::{USAGE, complain, end};
+use clap::{Arg, ArgMatches, Command, value_parser};
+use std::alloc::{AllocError, Global};
+use tetri_chart::chart;
+use tetri_io::StdSink;
+use tetri_run::Status;
+
+/// The words of the command.
+pub fn command<'a>(alloc: Global) -> Result<Command<'a>, AllocError> {
+    let cycle = Arg::new(alloc, "cycle")
+        .long("cycle")
+        .value_name("N")
+        .help("show what this cycle planned for later slots")
+        .value_parser(value_parser!(u32));
+    Command::new(alloc, "chart")
+        .about("Draws a report that is accepted, as SVG")
+        .after_help("Example: tetri_ctl chart day.jsonl day.report > day.svg")
+        .arg(trace_word(alloc))?
+        .arg(report_word(alloc))?
+        .arg(cycle)
+}
+
+// Draws a report that can be read.
+fn drawn(rt: &HostRuntime, trace: &str, report: &str, cycle: Option<u32>) -> Result<Status, u8> {
+    let mut shelf = Shelf::new(rt.alloc(), rt);
+    open_trace(rt, &mut shelf, trace)?;
+    open_report(rt, &mut shelf, report)?;
+    let mut sink = StdSink::new(rt.stdout());
+    Ok(chart(rt.alloc(), trace, report, cycle, &mut shelf, &mut sink))
+}
+
+/// Draws what the words name, and gives the exit number.
+pub fn run(rt: &HostRuntime, words: &ArgMatches<'_>) -> u8 {
+    let trace = words.get_str("TRACE").unwrap_or("");
+    let report = words.get_str("REPORT").unwrap_or("");
+    let cycle = words.get_one::<u32>("cycle");
+    match drawn(rt, trace, report, cycle) {
+        Ok(Status::Usage) => {
+            complain(rt, report, "the run has no such cycle");
+            USAGE
+        }
+        Ok(status) => end(rt, &status, trace, report),
+        Err(number) => number,
+    }
+}

@@ -1,0 +1,35 @@
+// `tetri_ctl check TRACE REPORT`
+use crate::named::{Shelf, open_report, open_trace, report_word, trace_word};
+use crate::said::end;
+use clap::{ArgMatches, Command};
+use std::alloc::{AllocError, Global};
+use tetri_io::StdSink;
+use tetri_run::{Status, run_check};
+
+/// The words of the command.
+pub fn command<'a>(alloc: Global) -> Result<Command<'a>, AllocError> {
+    Command::new(alloc, "check")
+        .about("Checks a report against its trace, as tetri check does")
+        .after_help("Example: zcat day.report.gz | tetri_ctl check day.jsonl -")
+        .arg(trace_word(alloc))?
+        .arg(report_word(alloc))
+}
+
+// Checks a report that can be read.
+fn checked(rt: &HostRuntime, trace: &str, report: &str) -> Result<Status, u8> {
+    let mut shelf = Shelf::new(rt.alloc(), rt);
+    open_trace(rt, &mut shelf, trace)?;
+    open_report(rt, &mut shelf, report)?;
+    let mut sink = StdSink::new(rt.stdout());
+    Ok(run_check(rt.alloc(), trace, report, &mut shelf, &mut sink))
+}
+
+/// Checks what the words name, and gives the exit number.
+pub fn run(rt: &HostRuntime, words: &ArgMatches<'_>) -> u8 {
+    let trace = words.get_str("TRACE").unwrap_or("");
+    let report = words.get_str("REPORT").unwrap_or("");
+    match checked(rt, trace, report) {
+        Ok(status) => end(rt, &status, trace, report),
+        Err(number) => number,
+    }
+}

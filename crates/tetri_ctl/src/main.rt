@@ -1,0 +1,91 @@
+//! `tetri_ctl COMMAND ..`: what people use around `tetri`. Each command reads files, pipes or standard input, writes to standard
+//! output, and says on standard error what is wrong with which of them.
+#![tactic(auto)]
+
+mod asked;
+mod bound;
+mod chart;
+mod check;
+mod export;
+mod import;
+mod named;
+mod plan;
+mod said;
+
+use clap::error::ErrorKind;
+use clap::{ArgMatches, Command, Error};
+use said::{USAGE, WRITE_FAULT};
+use std::alloc::{AllocError, Global};
+use std::process::ExitCode;
+use std::{env, io};
+use tetri_about::VERSION;
+
+// The words of the command line.
+fn words<R: env::Env + AllocGlobal>(rt: &R) -> io::Result<Vec<String>> {
+    env::args(rt)?.collect(rt.alloc()).map_err(io::Error::from)
+}
+
+// The command line.
+fn command<'a>(alloc: Global) -> Result<Command<'a>, AllocError> {
+    Command::new(alloc, "tetri_ctl")
+        .bin_name("tetri_ctl")?
+        .about("What people use around tetri: plans, checks, imports, pictures, bounds, exports")
+        .version(VERSION)
+        .propagate_version(true)
+        .subcommand_required(true)
+        .arg_required_else_help(true)
+        .after_help("In the place of a file - is standard input. Read on: docs/CTL.md")
+        .subcommand(plan::command(alloc)?)?
+        .subcommand(check::command(alloc)?)?
+        .subcommand(import::command(alloc)?)?
+        .subcommand(chart::command(alloc)?)?
+        .subcommand(bound::command(alloc)?)?
+        .subcommand(export::command(alloc)?)
+}
+
+// What the words are read as. Standard input is named once at most.
+fn read_words<'a>(alloc: Global, words: &'a [String]) -> Result<ArgMatches<'a>, Error> {
+    let mut command = command(alloc)?;
+    let matches = command.try_get_matches_from_mut(words)?;
+    if let Some((_, inner)) = matches.subcommand()
+        && inner.get_str("TRACE") == Some("-")
+        && inner.get_str("REPORT") == Some("-")
+    {
+        let twice = "standard input, '-', is named twice";
+        return Err(command.error(ErrorKind::ArgumentConflict, twice)?);
+    }
+    Ok(matches)
+}
+
+// Does what the words ask for, and gives the exit number.
+fn run(rt: &HostRuntime, matches: &ArgMatches<'_>) -> u8 {
+    match matches.subcommand() {
+        Some(("plan", inner)) => plan::run(rt, inner),
+        Some(("check", inner)) => check::run(rt, inner),
+        Some(("import", inner)) => import::run(rt, inner),
+        Some(("chart", inner)) => chart::run(rt, inner),
+        Some(("bound", inner)) => bound::run(rt, inner),
+        Some(("export", inner)) => export::run(rt, inner),
+        _ => USAGE,
+    }
+}
+
+// Prints a help, a version or what is wrong with the words, and gives the exit number.
+fn refuse(rt: &HostRuntime, error: &Error) -> u8 {
+    match error.print(rt) {
+        Ok(()) => error.exit_code() as u8,
+        Err(_) => WRITE_FAULT,
+    }
+}
+
+fn main(rt: HostRuntime) -> ExitCode {
+    let words = match words(&rt) {
+        Ok(words) => words,
+        Err(error) => return ExitCode::from(said::words_fault(&rt, &error)),
+    };
+    let number = match read_words(rt.alloc(), words.as_slice()) {
+        Ok(matches) => run(&rt, &matches),
+        Err(error) => refuse(&rt, &error),
+    };
+    ExitCode::from(number)
+}

@@ -1,0 +1,79 @@
+// `tetri_ctl plan TRACE`
+use crate::named::{Shelf, open_trace, trace_word};
+use crate::said::end;
+use clap::{Arg, ArgMatches, Command};
+use std::alloc::{AllocError, Global};
+use tetri_advice::{Advisor, Panel};
+use tetri_by_price::ByPrice;
+use tetri_greedy::{ByDeadline, ByWorth};
+use tetri_io::StdSink;
+use tetri_run::{ByChooser, Status, run_chosen, run_plan};
+
+// How the plan of a cycle is searched for.
+#[derive(Clone, Copy, Debug, PartialEq, Eq)]
+enum Search {
+    // By branch and bound, where the cycle is not too wide.
+    Exact,
+    // By prices of the nodes first.
+    Prices,
+}
+
+/// The words of the command.
+pub fn command<'a>(alloc: Global) -> Result<Command<'a>, AllocError> {
+    let search = Arg::new(alloc, "search")
+        .long("search")
+        .value_name("HOW")
+        .value_parser(["exact", "prices"].as_slice())
+        .help("how plans are searched for [default: exact]");
+    Command::new(alloc, "plan")
+        .about("Plans a trace, and writes its report, as tetri plan does")
+        .after_help("Example: tetri_ctl import swf cluster.swf | tetri_ctl plan - > cluster.report")
+        .arg(trace_word(alloc))?
+        .arg(search)
+}
+
+fn search_of(words: &ArgMatches<'_>) -> Search {
+    match words.get_str("search") {
+        Some("prices") => Search::Prices,
+        _ => Search::Exact,
+    }
+}
+
+// Seats the two shipped advisors, and plans. Its only error is want of memory for a seat.
+fn seat_and_plan(
+    rt: &HostRuntime,
+    shelf: &mut Shelf<'_>,
+    trace: &str,
+    search: Search,
+) -> Result<Status, AllocError> {
+    let by_deadline: Box<dyn Advisor> = Box::new(rt.alloc(), ByDeadline::new())?;
+    let by_worth: Box<dyn Advisor> = Box::new(rt.alloc(), ByWorth::new())?;
+    let mut panel = Panel::new(rt.alloc());
+    if panel.seat(by_deadline).is_err() || panel.seat(by_worth).is_err() {
+        return Err(AllocError);
+    }
+    let mut sink = StdSink::new(rt.stdout());
+    match search {
+        Search::Exact => Ok(run_plan(rt.alloc(), trace, shelf, &mut sink, &mut panel)),
+        Search::Prices => {
+            let mut planner = ByChooser {
+                chooser: ByPrice::new(panel),
+            };
+            Ok(run_chosen(rt.alloc(), trace, shelf, &mut sink, &mut planner))
+        }
+    }
+}
+
+/// Plans what the words name, and gives the exit number.
+pub fn run(rt: &HostRuntime, words: &ArgMatches<'_>) -> u8 {
+    let trace = words.get_str("TRACE").unwrap_or("");
+    let mut shelf = Shelf::new(rt.alloc(), rt);
+    if let Err(number) = open_trace(rt, &mut shelf, trace) {
+        return number;
+    }
+    let status = match seat_and_plan(rt, &mut shelf, trace, search_of(words)) {
+        Ok(status) => status,
+        Err(AllocError) => Status::NoMemory,
+    };
+    end(rt, &status, trace, "")
+}

@@ -1,0 +1,2 @@
+pub mod PipeShelf
+pub mod Whole
