@@ -1,95 +1,114 @@
--- A report that is accepted is one whose cycles may all run, and what follows for its picture.
-use Rattle.std.proofs.Common.{◌≡◌, ◌≤◌, ◌⊎◌, ℕ, List, [], ◌∷◌, ◌++◌, refl, sym, ap, ◌∙◌, subst, inl, inr, arith}
+-- What drawing says of a report that is checked.
+use Rattle.std.proofs.Common.{◌≡◌, ◌⊎◌, ℕ, List, [], refl, sym, ◌∙◌, subst, inl, inr, arith}
 use Rattle.std.specs.Prelude.{Option, Result, Ok}
-use Rattle.tetri_algebra.specs.Counts.{Rose}
-use Rattle.tetri_chart.specs.Charted.{HasCycle, IsChartAnswer, IsChartPromised}
-use Rattle.tetri_drawing.specs.Pieces.{next}
-use Rattle.tetri_drawing.specs.Runs.{MayAllRun, MayRun}
+use Rattle.tetri_chart.specs.Charted.{HasCycle, IsChartPromised, IsDrawn, IsDrawnOf}
+use Rattle.tetri_chart.specs.Gathered.{IsTaken, picture_with}
+use Rattle.tetri_chart.specs.Picture.{Picture, picture_of}
+use Rattle.tetri_chart.specs.declared.gathering.Gathering.{Gathering}
+use Rattle.tetri_chart.proofs.GatherLemmas.{behind_now, seen_shows}
+use Rattle.tetri_chart.proofs.SpanLemmas.{tells_pieces}
+use Rattle.tetri_cycles.specs.Observed.{behind}
+use Rattle.tetri_notice.specs.declared.fault.TraceWhy.{TraceWhy}
 use Rattle.tetri_report.specs.Block.{Block}
+use Rattle.tetri_run.proofs.RunLaws.{cycles_in_order}
 use Rattle.tetri_run.specs.Check.{IsAccepted}
-use Rattle.tetri_run.specs.Status.{IsCheckPromised, RoseOf}
-use Rattle.tetri_run.specs.Words.{to_check}
+use Rattle.tetri_run.specs.CheckEnds.{HasSeen, IsHalt, IsHaltOf}
+use Rattle.tetri_run.specs.Run.{in_order}
 use Rattle.tetri_run.specs.declared.status.Status.{Status}
 use Rattle.tetri_run.specs.declared.status.Status.TheVariants.{Done, Refused, Usage, ReadFault, WriteFault, BadTrace, NoMemory}
-use Rattle.tetri_run.specs.Run.{in_order, plans_of, state_behind}
-use Rattle.tetri_run.proofs.RunLaws.{run_plans}
-use Rattle.tetri_state.specs.Reached.{ArePlans}
 use Rattle.tetri_state.specs.Snapshot.{Snapshot, opening_state}
-use Rattle.tetri_notice.specs.declared.fault.TraceWhy.{TraceWhy}
 use Rattle.tetri_trace.specs.Scenario.{Scenario}
 
-module _ (t : Scenario) where
-  -- the state behind some cycles from this one on
-  abbrev behind : Snapshot → List Block → Snapshot
-  behind s [] = s
-  behind s (b ∷ bs) = behind (next t s b) bs
+module _ (t : Scenario) (report : List ℕ) (cycle : Option ℕ) (first last : Gathering)
+    (none : (u : Scenario) (blocks : List Block) → picture_with u (opening_state u) first blocks ≡ picture_of u cycle blocks) (seen : HasSeen IsTaken t report first last) where
+  accepted : IsAccepted t report
+  accepted = seen.assured.accepted
 
-  behind_last : (s : Snapshot) (bs : List Block) (b : Block) → behind s (bs ++ b ∷ []) ≡ next t (behind s bs) b
-  behind_last s [] b = refl
-  behind_last s (c ∷ bs) b = behind_last (next t s c) bs b
+  last_state : Snapshot
+  last_state = behind t (opening_state t) (in_order accepted.past)
 
-  behind_run : (past : List Block) → behind (opening_state t) (in_order past) ≡ state_behind t past
-  behind_run [] = refl
-  behind_run (b ∷ past) = behind_last (opening_state t) (in_order past) b ∙ ap (λ s. next t s b) (behind_run past)
+  last_now : last_state.now ≡ t.header.until
+  unfolding accepted last_state
+  last_now = omega (arith, behind_now t (opening_state t) (in_order accepted.past), cycles_in_order accepted.past, accepted.whole)
 
-  may_more : (s : Snapshot) (bs : List Block) (b : Block) → MayAllRun t s bs → MayRun t (behind s bs) b.grants → MayAllRun t s (bs ++ b ∷ [])
-  may_more s [] b all last = (last, tt)
-  may_more s (c ∷ bs) b all last = (all.0, may_more (next t s c) bs b all.1 last)
+  -- the picture of what was gathered is the one of the report
+  gathered : picture_with t last_state last [] ≡ picture_of t cycle (in_order accepted.past)
+  unfolding accepted last_state
+  gathered = sym (seen_shows t (opening_state t) (in_order accepted.past) first last seen.observed) ∙ none t (in_order accepted.past)
 
-  plans_may : (past : List Block) → ArePlans t (plans_of past) → MayAllRun t (opening_state t) (in_order past)
-  plans_may [] plans = tt
-  plans_may (b ∷ past) plans =
-      may_more (opening_state t) (in_order past) b (plans_may past plans.2)
-      (subst (λ s. MayRun t s b.grants) (sym (behind_run past)) (record { in_run = plans.0; plan = plans.1 }))
+  pub drawn_of : (status : Status) (before after : Option (List ℕ)) → ((s : Snapshot) → s.now ≡ t.header.until → IsDrawn t (picture_with t s last []) status before after) →
+      IsDrawnOf cycle status t report before after
+  unfolding accepted last_state
+  drawn_of status before after drawn =
+      (accepted, (tells_pieces t (in_order accepted.past), subst (λ (p : Picture). IsDrawn t p status before after) gathered (drawn last_state last_now)))
 
-  pub may_all : (lines : List ℕ) (a : IsAccepted t lines) → MayAllRun t (opening_state t) (in_order a.past)
-  may_all lines a = plans_may a.past (run_plans t a.past a.run)
-
--- what a drawing answers, of the trace that was read
-pub chart_promised : (cycle : Option ℕ) (status : Status) (trace : Result Scenario (ℕ × TraceWhy)) (t : Scenario) (report : List ℕ) (before after : Option (List ℕ)) →
-    trace ≡ Ok t → IsChartAnswer cycle status t report before after → IsChartPromised cycle status trace report before after
-chart_promised cycle Done trace t report before after is answer = (t, (is, answer))
-chart_promised cycle (Refused line why) trace t report before after is answer = (t, (is, answer))
-chart_promised cycle Usage trace t report before after is answer = (t, (is, answer))
-chart_promised cycle ReadFault trace t report before after is answer = answer
-chart_promised cycle WriteFault trace t report before after is answer = (t, (is, answer))
-chart_promised cycle (BadTrace line why) trace t report before after is answer = absurd answer
-chart_promised cycle NoMemory trace t report before after is answer = inr (t, (is, answer))
+-- what drawing the report answers that was accepted
+pub drawn_promised : (cycle : Option ℕ) (status : Status) (trace : Result Scenario (ℕ × TraceWhy)) (t : Scenario) (report : List ℕ) (before after : Option (List ℕ)) →
+    trace ≡ Ok t → IsDrawnOf cycle status t report before after → IsChartPromised cycle status trace report before after
+drawn_promised cycle Done trace t report before after is drawn = (t, (is, drawn))
+drawn_promised cycle (Refused line why) trace t report before after is drawn = absurd drawn.1.1
+drawn_promised cycle Usage trace t report before after is drawn = (t, (is, drawn))
+drawn_promised cycle ReadFault trace t report before after is drawn = absurd drawn.1.1
+drawn_promised cycle WriteFault trace t report before after is drawn = (t, (is, drawn))
+drawn_promised cycle (BadTrace line why) trace t report before after is drawn = absurd drawn.1.1
+drawn_promised cycle NoMemory trace t report before after is drawn = inr (t, (is, inr drawn))
 
 -- what a check answers that accepts no report, where nothing is drawn
-pub check_promised : (cycle : Option ℕ) (status : Status) (trace : Result Scenario (ℕ × TraceWhy)) (report : List ℕ) (kept then before after : Option (List ℕ)) →
-    IsCheckPromised status trace report kept then → (status ≡ Done → ⊥) → (status ≡ Usage → ⊥) → (status ≡ WriteFault → ⊥) → after ≡ before →
-    IsChartPromised cycle status trace report before after
-check_promised cycle Done trace report kept then before after checked done usage write same = absurd (done refl)
-check_promised cycle (Refused line why) trace report kept then before after checked done usage write same = (checked.0, (checked.1, (checked.2.0, (checked.2.1, same))))
-check_promised cycle Usage trace report kept then before after checked done usage write same = absurd (usage refl)
-check_promised cycle ReadFault trace report kept then before after checked done usage write same = same
-check_promised cycle WriteFault trace report kept then before after checked done usage write same = absurd (write refl)
-check_promised cycle (BadTrace line why) trace report kept then before after checked done usage write same = (checked, same)
-check_promised cycle NoMemory trace report kept then before after checked done usage write same = inl same
+pub halted_promised : (cycle : Option ℕ) (status : Status) (trace : Result Scenario (ℕ × TraceWhy)) (report : List ℕ) (before : Option (List ℕ)) → IsHaltOf status trace report →
+    IsChartPromised cycle status trace report before before
+halted_promised cycle Done trace report before halted = absurd halted
+halted_promised cycle (Refused line why) trace report before halted = (halted.0, (halted.1, (halted.2, (halted.3, refl))))
+halted_promised cycle Usage trace report before halted = absurd halted
+halted_promised cycle ReadFault trace report before halted = refl
+halted_promised cycle WriteFault trace report before halted = absurd halted
+halted_promised cycle (BadTrace line why) trace report before halted = (halted, refl)
+halted_promised cycle NoMemory trace report before halted = inl refl
 
--- an accepted report is drawn, where nothing kept it from being read and its picture from being written
-pub drawn : (cycle : Option ℕ) (status : Status) (t : Scenario) (report : List ℕ) (before after : Option (List ℕ)) → IsChartAnswer cycle status t report before after →
-    IsAccepted t report → HasCycle t cycle → (status ≡ ReadFault → ⊥) → (status ≡ WriteFault → ⊥) → (status ≡ Done) ⊎ (status ≡ NoMemory)
-drawn cycle Done t report before after answer accepted has read write = inl refl
-drawn cycle (Refused line why) t report before after answer accepted has read write = absurd (answer.1.0 accepted)
-drawn cycle Usage t report before after answer accepted has read write = absurd (answer.0 has)
-drawn cycle ReadFault t report before after answer accepted has read write = absurd (read refl)
-drawn cycle WriteFault t report before after answer accepted has read write = absurd (write refl)
-drawn cycle (BadTrace line why) t report before after answer accepted has read write = absurd answer
-drawn cycle NoMemory t report before after answer accepted has read write = inr refl
+-- a check that accepts no report, and ends so that only memory was wanting
+pub only_memory : (status : Status) → IsHalt status → (status ≡ Done) ⊎ (status ≡ NoMemory) → (status ≡ Usage) ⊎ (status ≡ NoMemory)
+only_memory status halts (inl done) = absurd (subst IsHalt done halts)
+only_memory status halts (inr memory) = inr memory
 
--- a fault that was counted later was counted
-pub rose_before : (trace report : List ℕ) (old middle new : List ℕ → ℕ) → ((other : List ℕ) → old other ≤ middle other) → RoseOf (to_check trace report) middle new →
-    RoseOf (to_check trace report) old new
-rose_before trace report old middle new later (inl rose) = inl (omega (arith, rose, later trace))
-rose_before trace report old middle new later (inr rose) = inr (omega (arith, rose, later report))
+-- what drawing an accepted report ends with, by whether its run has the cycle that is asked for, and whether a write failed
+module _ (cycle : Option ℕ) (t : Scenario) (report : List ℕ) (before after : Option (List ℕ)) where
+  pub drawn_where_asked : (status : Status) → IsDrawnOf cycle status t report before after → HasCycle t cycle → (status ≡ WriteFault → ⊥) → (status ≡ Done) ⊎ (status ≡ NoMemory)
+  drawn_where_asked Done drawn has write = inl refl
+  drawn_where_asked (Refused line why) drawn has write = absurd drawn.1.1
+  drawn_where_asked Usage drawn has write = absurd (drawn.1.1.0 has)
+  drawn_where_asked ReadFault drawn has write = absurd drawn.1.1
+  drawn_where_asked WriteFault drawn has write = absurd (write refl)
+  drawn_where_asked (BadTrace line why) drawn has write = absurd drawn.1.1
+  drawn_where_asked NoMemory drawn has write = inr refl
 
-pub rose_on : (trace report : List ℕ) (old middle new : List ℕ → ℕ) → ((other : List ℕ) → middle other ≤ new other) → RoseOf (to_check trace report) old middle →
-    RoseOf (to_check trace report) old new
-rose_on trace report old middle new later (inl rose) = inl (omega (arith, rose, later trace))
-rose_on trace report old middle new later (inr rose) = inr (omega (arith, rose, later report))
+  pub usage_where_not : (status : Status) → IsDrawnOf cycle status t report before after → (HasCycle t cycle → ⊥) → (status ≡ Usage) ⊎ (status ≡ NoMemory)
+  usage_where_not Done drawn lacks = absurd (lacks drawn.1.1.0)
+  usage_where_not (Refused line why) drawn lacks = absurd drawn.1.1
+  usage_where_not Usage drawn lacks = inl refl
+  usage_where_not ReadFault drawn lacks = absurd drawn.1.1
+  usage_where_not WriteFault drawn lacks = absurd (lacks drawn.1.1.0)
+  usage_where_not (BadTrace line why) drawn lacks = absurd drawn.1.1
+  usage_where_not NoMemory drawn lacks = inr refl
 
--- a counter that stays at 0 did not rise
-pub no_rise : Rose 0 0 → ⊥
-no_rise rose = absurd (omega (arith, rose))
+-- what every drawing ends with
+module _ (t : Scenario) (last : Gathering) (before after : Option (List ℕ)) where
+  -- some picture is drawn
+  pub some_drawn : (status : Status) → ((s : Snapshot) → s.now ≡ t.header.until → IsDrawn t (picture_with t s last []) status before after) →
+      (p : Picture) × IsDrawn t p status before after
+  some_drawn status drawn =
+      let s = record (opening_state t) { now = t.header.until } in
+      (picture_with t s last [], drawn s refl)
+
+  pub never_bad : (status : Status) → (p : Picture) × IsDrawn t p status before after → (line : ℕ) (why : TraceWhy) → status ≡ BadTrace line why → ⊥
+  never_bad status drawn line why is = subst (λ (u : Status). IsDrawn t drawn.0 u before after) is drawn.1
+
+  pub never_read : (status : Status) → (p : Picture) × IsDrawn t p status before after → status ≡ ReadFault → ⊥
+  never_read status drawn is = subst (λ (u : Status). IsDrawn t drawn.0 u before after) is drawn.1
+
+  pub silent : (status : Status) → (p : Picture) × IsDrawn t p status before after → (status ≡ Done → ⊥) → (status ≡ WriteFault → ⊥) → (status ≡ NoMemory → ⊥) → after ≡ before
+  silent Done drawn done write memory = absurd (done refl)
+  silent (Refused line why) drawn done write memory = absurd drawn.1
+  silent Usage drawn done write memory = drawn.1.1
+  silent ReadFault drawn done write memory = absurd drawn.1
+  silent WriteFault drawn done write memory = absurd (write refl)
+  silent (BadTrace line why) drawn done write memory = absurd drawn.1
+  silent NoMemory drawn done write memory = absurd (memory refl)

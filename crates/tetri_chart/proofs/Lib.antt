@@ -1,1 +1,12 @@
 pub mod ChartLemmas
+pub mod FramingLemmas
+pub mod FromLemmas
+pub mod GatherLemmas
+pub mod PartLemmas
+pub mod SameRunLemmas
+pub mod SearchLemmas
+pub mod ShadeLemmas
+pub mod SlotLemmas
+pub mod SpanLaws
+pub mod SpanLemmas
+pub mod WriteLemmas

@@ -1,1 +1,12 @@
+pub mod Pieces
+pub mod Waits
+pub mod Picture
+pub mod Gathered
+pub mod Framing
+pub mod Text
+pub mod Shades
+pub mod Ends
+pub mod Svg
+pub mod SameRuns
+pub mod RunSpans
 pub mod Charted

@@ -1,58 +1,24 @@
 // The picture of a report.
-ghost use Rattle.std.specs.Prelude.{◌≡◌, ◌≢◌, ◌↔◌, ◌≤◌, ◌⊎◌, List, ℕ, IsTrue, Some, Ok, Err};
+ghost use Rattle.std.specs.Prelude.{◌≡◌, ◌≢◌, ◌↔◌, ◌≤◌, ◌⊎◌, [], List, ℕ, IsTrue, Some, Ok};
 ghost use Rattle.tetri_algebra.specs.Counts.{Rose};
-ghost use Rattle.tetri_chart.specs.Charted.{HasCycle, IsChartAnswer, IsChartPromised};
+ghost use Rattle.tetri_chart.specs.Charted.{HasCycle, IsChartPromised, IsDrawn};
+ghost use Rattle.tetri_chart.specs.Gathered.{picture_with};
 ghost use Rattle.tetri_run.specs.Check.{IsAccepted};
-ghost use Rattle.tetri_run.specs.Status.{IsRefusal, RoseOf};
+ghost use Rattle.tetri_run.specs.CheckEnds.{Refuses, Rejects, TellsBadTrace, TellsReadFault};
+ghost use Rattle.tetri_run.specs.Status.{RoseOf};
 ghost use Rattle.tetri_run.specs.Words.{to_check};
+ghost use Rattle.tetri_state.specs.Snapshot.{Snapshot};
 ghost use Rattle.tetri_trace.specs.Lines.{scenario_in};
 ghost use Rattle.tetri_trace.specs.Scenario.{Scenario, scenario};
 ghost use Rattle.tetri_trace.specs.Sound.{IsSound};
-ghost use Rattle.tetri_notice.specs.declared.fault.TraceWhy.{TraceWhy};
 
-use crate::unkept::Unkept;
+use crate::gathering::{Gathering, chart_of};
+use crate::writing::draw;
 use std::alloc::Global;
-use tetri_drawing::{GatherFault, draw, gather};
 use tetri_io::{Shelf, Sink};
 use tetri_report::SendFault;
-use tetri_run::{Status, Why, run_check, status_of};
-use tetri_trace::{Trace, read_trace};
-
-// Draws the report that a name holds, which is an accepted report of the trace.
-fn draw_report<S: Shelf, K: Sink>(
-    alloc: Global,
-    trace: &Trace,
-    name: &str,
-    cycle: Option<u32>,
-    shelf: &mut S,
-    sink: &mut K,
-) -> Status
-    requires { IsSound (scenario trace.now) }
-    ensures answer { (lines : List ℕ) → S.told shelf.old name.now ≡ Some lines → IsAccepted (scenario trace.entry.now) lines
-        → IsChartAnswer cycle result (scenario trace.entry.now) lines (K.written sink.old) (K.written sink.new) }
-    ensures usage { result ≢ Status.Usage }
-    ensures good_trace { (line : ℕ) (why : TraceWhy) → result ≢ Status.BadTrace line why }
-    ensures silent { result ≢ Status.Done → result ≢ Status.WriteFault → result ≢ Status.NoMemory → K.written sink.new ≡ K.written sink.old }
-    ensures read { result ≡ Status.ReadFault → Rose (S.faults shelf.old name.now) (S.faults shelf.new name.now) }
-    ensures write { result ≡ Status.WriteFault → Rose (K.faults sink.old) (K.faults sink.new) }
-    ensures same { S.told shelf.new ≡ S.told shelf.old }
-    ensures later_reads { (other : List ℕ) → S.faults shelf.old other ≤ S.faults shelf.new other }
-    ensures later_writes { K.faults sink.old ≤ K.faults sink.new }
-{
-    match gather(alloc, trace, cycle, shelf, name) {
-        Ok(chart) => match draw(alloc, trace, &chart, sink) {
-            Ok(()) => Status::Done,
-            Err(SendFault::Failed) => Status::WriteFault,
-            Err(SendFault::NoMemory) => Status::NoMemory,
-        },
-        Err(GatherFault::Strange) => Status::Refused {
-            line: 1,
-            why: Why::WrongEvents,
-        },
-        Err(GatherFault::ReadFault) => Status::ReadFault,
-        Err(GatherFault::NoMemory) => Status::NoMemory,
-    }
-}
+use tetri_run::{Status, check_seen};
+use tetri_trace::Trace;
 
 // Whether the run has this cycle, where one is named.
 fn has_cycle(trace: &Trace, cycle: Option<u32>) -> bool
@@ -64,40 +30,37 @@ fn has_cycle(trace: &Trace, cycle: Option<u32>) -> bool
     }
 }
 
-// Draws the report that a name holds, which is accepted against the trace that another one holds.
-fn draw_accepted<S: Shelf, K: Sink>(
+// Draws what was gathered of a run of the trace, where it has the cycle that is asked for.
+fn draw_gathered<K: Sink>(
     alloc: Global,
-    trace: &str,
-    report: &str,
-    cycle: Option<u32>,
-    shelf: &mut S,
+    trace: &Trace,
+    gathering: Gathering,
     sink: &mut K,
 ) -> Status
-    ensures drawn { (content lines : List ℕ) (t : Scenario) → S.told shelf.old trace.now ≡ Some content → S.told shelf.old report.now ≡ Some lines
-        → scenario_in content ≡ Ok t → IsAccepted t lines → IsChartAnswer cycle result t lines (K.written sink.old) (K.written sink.new) }
-    ensures bad_trace { (content : List ℕ) (line : ℕ) (why : TraceWhy) → S.told shelf.old trace.now ≡ Some content
-        → result ≡ Status.BadTrace line why → scenario_in content ≡ Err (line, why) }
-    ensures silent { result ≢ Status.Done → result ≢ Status.WriteFault → result ≢ Status.NoMemory → K.written sink.new ≡ K.written sink.old }
-    ensures read { result ≡ Status.ReadFault → RoseOf (to_check trace.now report.now) (S.faults shelf.old) (S.faults shelf.new) }
+    requires { IsSound (scenario trace.now) }
+    ensures answer { (s : Snapshot) → s.now ≡ (scenario trace.entry.now).header.until
+        → IsDrawn (scenario trace.entry.now) (picture_with (scenario trace.entry.now) s gathering []) result
+        (K.written sink.old) (K.written sink.new) }
     ensures write { result ≡ Status.WriteFault → Rose (K.faults sink.old) (K.faults sink.new) }
-    ensures same { S.told shelf.new ≡ S.told shelf.old }
-    ensures later_reads { (other : List ℕ) → S.faults shelf.old other ≤ S.faults shelf.new other }
-    ensures later_writes { K.faults sink.old ≤ K.faults sink.new }
+    ensures later { K.faults sink.old ≤ K.faults sink.new }
 {
-    match read_trace(alloc, shelf, trace) {
-        Ok(trace) => {
-            if !has_cycle(&trace, cycle) {
-                return Status::Usage;
-            }
-            draw_report(alloc, &trace, report, cycle, shelf, sink)
-        }
-        Err(fault) => status_of(fault),
+    if !has_cycle(trace, gathering.asked) {
+        return Status::Usage;
+    }
+    let Ok(chart) = chart_of(gathering, trace.header.until) else {
+        return Status::NoMemory;
+    };
+    match draw(alloc, trace, &chart, sink) {
+        Ok(()) => Status::Done,
+        Err(SendFault::Failed) => Status::WriteFault,
+        Err(SendFault::NoMemory) => Status::NoMemory,
     }
 }
 
-/// Checks the report that a name holds against the trace that another one holds, as `run_check` does. Where it is accepted, it is read
-/// again, and the picture of its run is drawn, with the grants that wait for a later slot in this cycle, if one is named. `Usage` comes
-/// exactly where the run of an accepted report has no such cycle. A report that is not accepted is refused as `run_check` refuses it.
+/// Checks the report that a name holds against the trace that another one holds, as `run_check` does, and draws the picture of its run
+/// where it is accepted, with the grants that wait for a later slot in this cycle, if one is named. Each of the two is read once. A report
+/// that is not accepted is refused as `run_check` refuses it. `Usage` comes exactly where the run of an accepted report has no such cycle.
+/// Behind a `WriteFault` a proper front of the picture is written, and where memory ran out a front of it, perhaps nothing.
 pub fn chart<S: Shelf, K: Sink>(
     alloc: Global,
     trace: &str,
@@ -108,31 +71,28 @@ pub fn chart<S: Shelf, K: Sink>(
 ) -> Status
     ensures drawn { (content lines : List ℕ) → S.told shelf.old trace.now ≡ Some content → S.told shelf.old report.now ≡ Some lines
         → IsChartPromised cycle result (scenario_in content) lines (K.written sink.old) (K.written sink.new) }
-    ensures bad_trace { (content : List ℕ) (line : ℕ) (why : TraceWhy) → S.told shelf.old trace.now ≡ Some content
-        → result ≡ Status.BadTrace line why → scenario_in content ≡ Err (line, why) }
+    ensures bad_trace { TellsBadTrace (S.told shelf.old) (S.faults shelf.old) (S.faults shelf.new) trace.now report.now result }
     ensures silent { result ≢ Status.Done → result ≢ Status.WriteFault → result ≢ Status.NoMemory → K.written sink.new ≡ K.written sink.old }
-    ensures read { result ≡ Status.ReadFault → RoseOf (to_check trace.now report.now) (S.faults shelf.old) (S.faults shelf.new) }
+    ensures read { TellsReadFault (S.told shelf.old) (S.faults shelf.old) (S.faults shelf.new) trace.now report.now result }
     ensures write { result ≡ Status.WriteFault → Rose (K.faults sink.old) (K.faults sink.new) }
     ensures accepts { (content lines : List ℕ) (t : Scenario) → S.told shelf.old trace.now ≡ Some content → scenario_in content ≡ Ok t
         → S.told shelf.old report.now ≡ Some lines → IsAccepted t lines → HasCycle t cycle
         → ¬ RoseOf (to_check trace.now report.now) (S.faults shelf.old) (S.faults shelf.new)
         → ¬ Rose (K.faults sink.old) (K.faults sink.new)
         → (result ≡ Status.Done) ⊎ (result ≡ Status.NoMemory) }
-    ensures rejects { (content lines : List ℕ) (t : Scenario) → S.told shelf.old trace.now ≡ Some content → scenario_in content ≡ Ok t
-        → S.told shelf.old report.now ≡ Some lines → ¬ IsAccepted t lines
+    ensures no_cycle { (content lines : List ℕ) (t : Scenario) → S.told shelf.old trace.now ≡ Some content → scenario_in content ≡ Ok t
+        → S.told shelf.old report.now ≡ Some lines → IsAccepted t lines → ¬ HasCycle t cycle
         → ¬ RoseOf (to_check trace.now report.now) (S.faults shelf.old) (S.faults shelf.new)
-        → IsRefusal result t lines ⊎ (result ≡ Status.NoMemory) }
-    ensures refuses { (content : List ℕ) (line : ℕ) (why : TraceWhy) → S.told shelf.old trace.now ≡ Some content
-        → scenario_in content ≡ Err (line, why)
-        → ¬ Rose (S.faults shelf.old trace.now) (S.faults shelf.new trace.now)
-        → (result ≡ Status.BadTrace line why) ⊎ (result ≡ Status.NoMemory) }
+        → (result ≡ Status.Usage) ⊎ (result ≡ Status.NoMemory) }
+    ensures rejects { Rejects (S.told shelf.old) (S.faults shelf.old) (S.faults shelf.new) trace.now report.now result }
+    ensures refuses { Refuses (S.told shelf.old) (S.faults shelf.old) (S.faults shelf.new) trace.now report.now result }
     ensures same { S.told shelf.new ≡ S.told shelf.old }
     ensures later_reads { (other : List ℕ) → S.faults shelf.old other ≤ S.faults shelf.new other }
     ensures later_writes { K.faults sink.old ≤ K.faults sink.new }
 {
-    let mut unkept = Unkept;
-    match run_check(alloc, trace, report, shelf, &mut unkept) {
-        Status::Done => draw_accepted(alloc, trace, report, cycle, shelf, sink),
-        status => status,
+    let mut gathering = Gathering::new(alloc, cycle);
+    match check_seen(alloc, trace, report, shelf, &mut gathering) {
+        Ok(trace) => draw_gathered(alloc, &trace, gathering, sink),
+        Err(status) => status,
     }
 }

@@ -13,7 +13,7 @@ use Rattle.tetri_split.specs.Parts.{jobs_in}
 use Rattle.tetri_commands.specs.Printing.{IsInstanceOf}
 use Rattle.tetri_reserve.specs.Answers.{EachAnswer, IsAnswer, booked, is_booked}
 use Rattle.tetri_reserve.specs.Book.{IsBook}
-use Rattle.tetri_reserve.specs.Meaning.{IsTrue}
+use Rattle.tetri_reserve.specs.Meaning.{IsTrueAnswer}
 use Rattle.tetri_reserve.specs.declared.answer.Answer.{Answer}
 use Rattle.tetri_trace.specs.Scenario.{Scenario}
 use Rattle.tetri_commands.specs.Answered.{AreFirstAnswers, answer, count, first_instance}
@@ -86,7 +86,7 @@ module _ (t : Scenario) where
   firsts : (i : ℕ) (answers : List Answer) (w : Space) (carry : List Grant) → IsBook s budget i answers w carry → length answers ≡ i → AreFirstAnswers t answers
   firsts i answers w carry book e = record {
     answered = subst (λ n. EachAnswer (IsAnswer s budget) [] (take n s.bids) answers) (sym e) book.answered;
-    meaning = subst (λ n. EachAnswer (IsTrue s budget) [] (take n s.bids) answers) (sym e) book.meaning;
+    meaning = subst (λ n. EachAnswer (IsTrueAnswer s budget) [] (take n s.bids) answers) (sym e) book.meaning;
   }
 
   module _ (i booked_count : ℕ) (w v : Space) (carry held : List Grant) (before middle now : Option (List ℕ)) (so_far : Answering i booked_count w carry before middle) where
@@ -131,7 +131,7 @@ module _ (t : Scenario) where
       answers = so_far.answers;
       are = record {
         answered = subst (λ (bs : List Bid). EachAnswer (IsAnswer s budget) [] bs so_far.answers) (take_all i s.bids past) so_far.book.answered;
-        meaning = subst (λ (bs : List Bid). EachAnswer (IsTrue s budget) [] bs so_far.answers) (take_all i s.bids past) so_far.book.meaning;
+        meaning = subst (λ (bs : List Bid). EachAnswer (IsTrueAnswer s budget) [] bs so_far.answers) (take_all i s.bids past) so_far.book.meaning;
       };
       counted = so_far.counted;
       written = so_far.written;
@@ -152,7 +152,7 @@ module _ (t : Scenario) where
         let e : take (length all.answers) s.bids ≡ s.bids = take_all (length all.answers) s.bids (omega (arith, whole)) in
         record {
           answered = subst (λ (bs : List Bid). EachAnswer (IsAnswer s budget) [] bs all.answers) (sym e) all.are.answered;
-          meaning = subst (λ (bs : List Bid). EachAnswer (IsTrue s budget) [] bs all.answers) (sym e) all.are.meaning;
+          meaning = subst (λ (bs : List Bid). EachAnswer (IsTrueAnswer s budget) [] bs all.answers) (sym e) all.are.meaning;
         }
 
     pub stopped_before_count : now ≡ middle → StoppedBetweenAnswers t before now

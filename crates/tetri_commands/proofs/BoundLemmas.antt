@@ -1,5 +1,5 @@
 -- No lawful allotment is worth more than the bound of a root.
-use Rattle.std.proofs.Common.{◌≡◌, ℕ, ◌-◌, ◌≤◌, inr, List, arith}
+use Rattle.std.proofs.Common.{◌≡◌, ℕ, inr, List, arith}
 use Rattle.std.specs.Prelude.{Option, Some, None, IfSome, pos, ◌≤ℤ◌}
 use Rattle.std.proofs.lemmas.Int.{ints}
 use Rattle.tetri_strl.specs.declared.grants.Grant.{Grant}

@@ -1,7 +1,7 @@
 -- The answers for the jobs of a trace's first slot.
 use Rattle.std.specs.Prelude.{◌≡◌, ℕ, List, [], ◌∷◌, ◌++◌, length, take}
 use Rattle.tetri_reserve.specs.Answers.{AreAnswers, EachAnswer, IsAnswer}
-use Rattle.tetri_reserve.specs.Meaning.{AreTrue, IsTrue}
+use Rattle.tetri_reserve.specs.Meaning.{AreTrue, IsTrueAnswer}
 use Rattle.tetri_reserve.specs.declared.answer.Answer.{Answer}
 use Rattle.tetri_space.specs.Space.{Space}
 use Rattle.tetri_state.specs.Planning.{instance_at}
@@ -22,7 +22,7 @@ pub record AreTraceAnswers (t : Scenario) (answers : List Answer) : Type 0 where
 -- The first of these answers: one for each of as many first jobs, in order.
 pub record AreFirstAnswers (t : Scenario) (answers : List Answer) : Type 0 where
   pub answered : EachAnswer (IsAnswer (first_instance t) t.header.budget) [] (take (length answers) (first_instance t).bids) answers
-  pub meaning : EachAnswer (IsTrue (first_instance t) t.header.budget) [] (take (length answers) (first_instance t).bids) answers
+  pub meaning : EachAnswer (IsTrueAnswer (first_instance t) t.header.budget) [] (take (length answers) (first_instance t).bids) answers
 
 -- all lines
 abbrev pub whole_text : Scenario → List Answer → List ℕ

@@ -10,7 +10,7 @@ use std::alloc::{AllocError, Global};
 use tetri_cycles::{Planner, Ready, SlotTally, run_cycles};
 use tetri_io::Sink;
 use tetri_report::{SendFault, print_events, print_launches};
-use tetri_state::{State, launch_of};
+use tetri_state::{State, find_launch};
 use tetri_trace::Trace;
 
 // Plans each cycle part by part, with a program and a budget for each part, and asks nobody.
@@ -33,16 +33,16 @@ impl Planner<()> for ByParts {
         let inst = state.instance(alloc, trace)?;
         let carry = state.carry(alloc, trace, &inst)?;
         let plan = plan_by_parts(alloc, trace, &inst, &carry)?;
-        let launch = launch_of(alloc, &inst, plan.grants.as_slice())?;
+        let launch = find_launch(alloc, trace, &inst, plan.grants.as_slice())?;
         let mut text = print_events(alloc, trace, inst.now, &happened)?;
         text.extend_from_slice(&plan.text)?;
         let launches = print_launches(alloc, trace, &launch.jobs)?;
         text.extend_from_slice(&launches)?;
-        let prepared = state.prepare(alloc, trace, &inst, &plan.grants)?;
         let tally = SlotTally {
             worth: launch.worth,
             optimal: plan.optimal,
         };
+        let prepared = state.prepare_launch(alloc, launch, &plan.grants)?;
         Ok(Ready {
             text,
             prepared,

@@ -13,7 +13,7 @@ use std::alloc::{AllocError, Global};
 use tetri_plan::choose;
 use tetri_report::{name_of, print_plan};
 use tetri_space::Instance;
-use tetri_split::{Parts, bounds_of_parts_add, join, split};
+use tetri_split::{Parts, join, split};
 use tetri_state::starts_of;
 use tetri_strl::Allotment;
 use tetri_trace::Trace;
@@ -144,7 +144,6 @@ pub(crate) fn plan_by_parts(
     ensures most { IfOk result (λ p. p.optimal ≤ 1) }
 {
     let parts = split(alloc, inst)?;
-    bounds_of_parts_add(inst, &parts);
     let plans = plan_parts(alloc, trace, inst, carry, &parts)?;
     let grants = join(alloc, &plans.grants)?;
     let mut text = parts_line(alloc, parts.count(), plans.value, plans.bound)?;

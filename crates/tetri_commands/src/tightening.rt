@@ -12,7 +12,6 @@ ghost use Rattle.tetri_commands.specs.Tightened.{IsTightText, IsTightened};
 use crate::cut_lines::tight_text;
 use std::alloc::{AllocError, Global};
 use tetri_cert::Certificate;
-use tetri_claims::programs_earn_little;
 use tetri_compile::compile;
 use tetri_cuts::{Tight, tighten};
 use tetri_space::{Instance, find_partitions};
@@ -24,7 +23,6 @@ fn tightened_program(alloc: Global, inst: &Instance) -> Result<Tight, AllocError
     ensures tightened { IfOk result (λ t. (p : Program) × (plain p ≡ program_of (space inst.entry.now)) × IsTightening p t) }
     ensures bounded { IfOk result (λ t. IfSome t.root (λ r. BoundsEveryLawful (space inst.entry.now) r.bound)) }
 {
-    programs_earn_little();
     let parts = find_partitions(alloc, inst)?;
     let compiled = compile(alloc, inst, &parts)?;
     tighten(alloc, &compiled.program)

@@ -1,3 +1,4 @@
 pub mod RunLemmas
 pub mod ToldLemmas
+pub mod ObserveLemmas
 pub mod CycleLaws

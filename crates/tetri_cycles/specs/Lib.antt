@@ -5,3 +5,4 @@ pub mod Texts
 pub mod Told
 pub mod Tally
 pub mod Progress
+pub mod Observed

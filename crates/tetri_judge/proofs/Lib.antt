@@ -1,4 +1,5 @@
 pub mod WastedLemmas
+pub mod UnorderedLemmas
 pub mod VerdictLaws
 pub mod PlaceLemmas
 pub mod SeenLemmas

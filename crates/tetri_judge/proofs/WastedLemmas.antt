@@ -71,7 +71,7 @@ module _ (p : Grant → Bool) where
   abbrev pub Never : List Grant → Type 0
   Never = All (λ g. p g ≡ false)
 
-  none_passes : (k : ℕ) (c : List Grant) → Never c → position_from p k c ≡ None
+  pub none_passes : (k : ℕ) (c : List Grant) → Never c → position_from p k c ≡ None
   none_passes k [] never = refl
   none_passes k (g ∷ gs) never =
       ap (λ t. cond t (Some k) (position_from p (k + 1) gs)) (All-head (λ h. p h ≡ false) g gs never) ∙ none_passes (k + 1) gs (All-tail (λ h. p h ≡ false) g gs never)
@@ -96,7 +96,7 @@ module _ (p : Grant → Bool) where
       by_test true rest = ap Some e
       by_test false rest = rest
 
-  position_within : (k m : ℕ) (xs : List Grant) → position_from p k xs ≡ Some m → (k ≤ m) × (m < k + length xs)
+  pub position_within : (k m : ℕ) (xs : List Grant) → position_from p k xs ≡ Some m → (k ≤ m) × (m < k + length xs)
   position_within k m [] e = absurd cc
   position_within k m (g ∷ gs) e = by_test (p g) (position_within (k + 1) m gs) e
     where
@@ -105,7 +105,7 @@ module _ (p : Grant → Bool) where
       by_test true rest e = let same : k ≡ m = cc in (omega arith, omega arith)
       by_test false rest e = let later = rest e in (omega arith, omega arith)
 
-other_test : (x y : ℕ) → x ≢ y → (x == y) ≡ false
+pub other_test : (x y : ℕ) → x ≢ y → (x == y) ≡ false
 other_test x y ne = grind (arith, nat_tests)
 
 -- grants of other jobs are not wasted for this one

@@ -17,15 +17,17 @@ ghost use Rattle.tetri_space.specs.Space.{space};
 use crate::certificate::{bound_of, is_rightly_marked};
 use crate::seen::Seen;
 use crate::tree_walk::see;
+use crate::unordered::{ordered_copy, total_by, wasted_by};
 use crate::verdict::Verdict;
-use crate::wasted::first_wasted;
 use std::alloc::Global;
 use tetri_report::{Cycle, Head, PlanLine};
-use tetri_space::{Instance, lawful, total};
+use tetri_space::{Instance, lawful};
 use tetri_strl::Allotment;
 
-// The tests of the grants.
+// The tests of the grants. Those that do not ascend by job are weighed by a copy in order, and where there is no memory for it each
+// job is held against all grants.
 fn test_grants(
+    alloc: Global,
     inst: &Instance,
     carry: u64,
     plan: PlanLine,
@@ -37,14 +39,15 @@ fn test_grants(
     if let Err(unlawful) = lawful(inst, grants) {
         return Err(Verdict::Unlawful(unlawful));
     }
-    let found = total(inst, grants);
+    let ordered = ordered_copy(alloc, grants);
+    let found = total_by(inst, grants, &ordered);
     if found != plan.value {
         return Err(Verdict::WrongValue {
             printed: plan.value,
             found,
         });
     }
-    if let Some(place) = first_wasted(inst, grants) {
+    if let Some(place) = wasted_by(alloc, inst, grants, &ordered) {
         return Err(Verdict::WasteGrant(place));
     }
     if plan.value < carry {
@@ -101,7 +104,7 @@ fn test_plan(
     ensures { (c : Certificate) → Tells (space inst.entry.now) c seen.now
         → IsVerdict (space inst.entry.now) carry budget (planned_as plan grants.entry.now c) result }
 {
-    match test_grants(inst, carry, plan, grants) {
+    match test_grants(alloc, inst, carry, plan, grants) {
         Ok(()) => {}
         Err(verdict) => return Err(verdict),
     }

@@ -7,6 +7,7 @@ mod laws;
 mod places;
 mod seen;
 mod tree_walk;
+mod unordered;
 mod verdict;
 mod wasted;
 

@@ -64,18 +64,18 @@ seven_words tag a b c d e f g = by_words tag (a ∷ b ∷ c ∷ d ∷ e ∷ f �
 
 -- The text of a report is made of its lines.
 module _ (t : Scenario) where
-  abbrev lines_text : List ReportLine → List ℕ
+  abbrev pub lines_text : List ReportLine → List ℕ
   lines_text ls = text_of (map (line_of t) ls)
 
   lines_text-append : (ls ms : List ReportLine) → lines_text (ls ++ ms) ≡ lines_text ls ++ lines_text ms
   lines_text-append [] ms = refl
   lines_text-append (l ∷ ls) ms = ap (λ x. line_of t l ++ 10 ∷ x) (lines_text-append ls ms) ∙ sym (append_assoc (line_of t l) (10 ∷ lines_text ls) (lines_text ms))
 
-  cycle_is : (number : ℕ) → cycle_line number ≡ line_of t (lines.Cycle number) ++ 10 ∷ []
+  pub cycle_is : (number : ℕ) → cycle_line number ≡ line_of t (lines.Cycle number) ++ 10 ∷ []
   unfolding cycle_line
   cycle_is number = refl
 
-  name_is : (word name : List ℕ) → name_line word name ≡ join_with_byte 32 (word ∷ name ∷ []) ++ 10 ∷ []
+  pub name_is : (word name : List ℕ) → name_line word name ≡ join_with_byte 32 (word ∷ name ∷ []) ++ 10 ∷ []
   unfolding name_line
   name_is word name = simp append_assoc
 
@@ -83,7 +83,7 @@ module _ (t : Scenario) where
   unfolding leaf_line
   leaf_is word name leaf = simp append_assoc
 
-  plan_is : (b : Block) → plan_line b.value b.bound b.mark b.nodes ≡ line_of t (lines.Plan (plan_of b)) ++ 10 ∷ []
+  pub plan_is : (b : Block) → plan_line b.value b.bound b.mark b.nodes ≡ line_of t (lines.Plan (plan_of b)) ++ 10 ∷ []
   unfolding plan_line
   plan_is b = simp append_assoc
 
@@ -108,25 +108,25 @@ module _ (t : Scenario) where
       (codes "expired=" ++ decimal s.expired) (codes "worth=" ++ decimal s.worth) (codes "optimal=" ++ decimal s.optimal)
 
   -- lines of one kind
-  flat_is : {X : Type 0} (text : X → List ℕ) (make : X → ReportLine) → ((x : X) → text x ≡ line_of t (make x) ++ 10 ∷ []) → (xs : List X) → flat_map text xs ≡ lines_text (map make xs)
+  pub flat_is : {X : Type 0} (text : X → List ℕ) (make : X → ReportLine) → ((x : X) → text x ≡ line_of t (make x) ++ 10 ∷ []) → (xs : List X) → flat_map text xs ≡ lines_text (map make xs)
   flat_is text make is [] = refl
   flat_is text make is (x ∷ xs) = ap (λ l. l ++ flat_map text xs) (is x) ∙ append_assoc (line_of t (make x)) (10 ∷ []) (flat_map text xs) ∙ ap (λ l. line_of t (make x) ++ 10 ∷ l) (flat_is text make is xs)
 
   node_is : (m : Mark) → node_line m ≡ line_of t (lines.Node m) ++ 10 ∷ []
   node_is m = ap (λ l. l ++ 10 ∷ []) (text_joined m)
 
-  certificate_is : (c : Certificate) → certificate_text c ≡ lines_text (certificate_lines c)
+  pub certificate_is : (c : Certificate) → certificate_text c ≡ lines_text (certificate_lines c)
   unfolding certificate_text
   certificate_is (Tops columns rows) = simp append_assoc
   certificate_is (Tree marks) = flat_is node_line lines.Node node_is marks
 
-  grants_are : (gs : List Grant) (ss : List ℕ) → grant_lines t gs ss ≡ lines_text (map read.grant_line (granted gs ss))
+  pub grants_are : (gs : List Grant) (ss : List ℕ) → grant_lines t gs ss ≡ lines_text (map read.grant_line (granted gs ss))
   grants_are [] ss = refl
   grants_are (g ∷ gs) [] = refl
   grants_are (g ∷ gs) (s ∷ ss) =
       ap (λ l. l ++ grant_lines t gs ss) (grant_is g s) ∙ append_assoc (line_of t (lines.Grant g s)) (10 ∷ []) (grant_lines t gs ss) ∙ ap (λ l. line_of t (lines.Grant g s) ++ 10 ∷ l) (grants_are gs ss)
 
-  happened_is : (b : Block) → happened_text t (occurrences_in b) ≡ lines_text (map lines.End b.ended) ++ lines_text (map lines.Cancel b.cancelled) ++ lines_text (map lines.Fail b.failed) ++ lines_text (map lines.Over b.over) ++ lines_text (map lines.Expire b.expired)
+  pub happened_is : (b : Block) → happened_text t (occurrences_in b) ≡ lines_text (map lines.End b.ended) ++ lines_text (map lines.Cancel b.cancelled) ++ lines_text (map lines.Fail b.failed) ++ lines_text (map lines.Over b.over) ++ lines_text (map lines.Expire b.expired)
   unfolding happened_text
   happened_is b =
       let ended = flat_is (piece_line t (codes "end")) lines.End (λ p. leaf_is (codes "end") (job_name t p.job) p.leaf) b.ended in
@@ -170,6 +170,10 @@ module _ (t : Scenario) where
       ∙ glue (cycle_text t b) (flat_map (cycle_text t) bs ++ summary_text s) (block_lines b) (report_lines bs s) (cycle_text_is b) (report_text_is bs s)
 
 module _ (t : Scenario) (sound : IsSound t) where
+  pub certificate_good : (c : Certificate) → IsPrintableCertificate c → IsCertificateInRange c → All (IsPrintableLine t) (certificate_lines c)
+  certificate_good (Tops columns rows) fits small = All-cons (IsPrintableLine t) (lines.Tops columns rows) [] small (All-nil (IsPrintableLine t))
+  certificate_good (Tree marks) fits small = All-map (IsPrintableLine t) lines.Node marks fits.1
+
   inner_printable : (b : Block) → IsPrintable t b → IsInRange b → All (IsPrintableLine t) (inner_lines b)
   inner_printable b good range =
       let P = IsPrintableLine t in
@@ -182,10 +186,6 @@ module _ (t : Scenario) (sound : IsSound t) where
       (All-append P (map read.grant_line (granted b.grants b.starts)) _
       (All-map P read.grant_line (granted b.grants b.starts) (grants_good t b.grants b.starts good.starts good.grants range.grants range.starts))
       (All-append P (certificate_lines b.certificate) _ (certificate_good b.certificate good.certificate range.certificate) (All-map P lines.Launch b.launched good.launched))))))))
-    where
-      certificate_good : (c : Certificate) → IsPrintableCertificate c → IsCertificateInRange c → All (IsPrintableLine t) (certificate_lines c)
-      certificate_good (Tops columns rows) fits small = All-cons (IsPrintableLine t) (lines.Tops columns rows) [] small (All-nil (IsPrintableLine t))
-      certificate_good (Tree marks) fits small = All-map (IsPrintableLine t) lines.Node marks fits.1
 
   summary_good : (s : Summary) → IsSummaryInRange s → IsPrintableLine t (lines.Summary s)
   summary_good s range = (range.cycles, range.launched, range.ended, range.cancelled, range.expired, range.worth, range.optimal)

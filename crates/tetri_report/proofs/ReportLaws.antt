@@ -16,6 +16,7 @@ use Rattle.tetri_report.specs.declared.cycle.Summary.{Summary}
 use Rattle.tetri_report.proofs.DifferLemmas.{nothing_else}
 use Rattle.tetri_report.proofs.ReadReports.{report_back}
 use Rattle.tetri_report.proofs.ShortLines.{lines_short}
+pub use Rattle.tetri_report.proofs.ShortTexts.{behind_short, events_short, launches_short, plan_short, read_short}
 pub use Rattle.tetri_report.proofs.StageLemmas.{before_certificate}
 use Rattle.tetri_report.proofs.StripLemmas.{bare_behind, begins_bare_behind, certificate_behind, line_as_told, opened_begins_bare, told_bare}
 pub use Rattle.tetri_report.proofs.LinesAhead.{none_left, texts_from}

@@ -33,6 +33,12 @@ name_short name h = let few = second (nat_le 1 (length name)) (nat_le (length na
     second true false c h = absurd (false≢true h)
     second false b c h = absurd (false≢true h)
 
+abbrev pub IsShort : List ℕ → Type 0
+IsShort line = length line ≤ 1048576
+
+pub from_map : (ls : List (List ℕ × ℕ)) → All IsShort (map (λ l. l.0) ls) → All (λ l. IsShort l.0) ls
+from_map ls short k d lt = subst IsShort (get_or-map (λ (l : List ℕ × ℕ). l.0) ls k d d.0 lt) (short k d.0 (omega (arith, lt, length-map ls (λ (l : List ℕ × ℕ). l.0))))
+
 module _ (t : Scenario) (sound : IsSound t) where
   job_short : (job : ℕ) → job < length t.submissions → length (job_name t job) ≤ 64
   job_short job h = name_short (job_name t job) (job_named t sound job h)
@@ -44,7 +50,7 @@ module _ (t : Scenario) (sound : IsSound t) where
       let rest = nodes_room ns (All-tail (λ m. m < length t.nodes) n ns all) in
       omega arith
 
-  line_short : (l : ReportLine) → IsPrintableLine t l → length (line_of t l) ≤ 1048576
+  pub line_short : (l : ReportLine) → IsPrintableLine t l → length (line_of t l) ≤ 1048576
   line_short (lines.Cycle number) h = omega (arith, joined_within 32 (words t (lines.Cycle number)), smalls.short number h)
   line_short (lines.End piece) h = omega (arith, joined_within 32 (words t (lines.End piece)), job_short piece.job h.0, smalls.short piece.leaf h.1)
   line_short (lines.Cancel job) h = omega (arith, joined_within 32 (words t (lines.Cancel job)), job_short job h)
@@ -71,9 +77,6 @@ module _ (t : Scenario) (sound : IsSound t) where
         entry_short (codes "optimal=") s.optimal (lit≤ tt) (omega (arith, h.6)),
       )
 
-  abbrev IsShort : List ℕ → Type 0
-  IsShort line = length line ≤ 1048576
-
   pub lines_short : (bs : List Block) (s : Summary) → All (IsPrintable t) bs → All IsInRange bs → IsSummaryInRange s →
       All (λ l. length l.0 ≤ 1048576) (lines_from 0 (flat_map (cycle_text t) bs ++ summary_text s))
   lines_short bs s good range small =
@@ -81,6 +84,3 @@ module _ (t : Scenario) (sound : IsSound t) where
       let short = All-weaker (IsPrintableLine t) (λ l. IsShort (line_of t l)) line_short ls (lines_printable t sound bs s good range small) in
       from_map (lines_from 0 (flat_map (cycle_text t) bs ++ summary_text s))
       (subst (All IsShort) (sym (lines_printed t sound bs s good range small)) (All-map IsShort (line_of t) ls short))
-    where
-      from_map : (ls : List (List ℕ × ℕ)) → All IsShort (map (λ l. l.0) ls) → All (λ l. IsShort l.0) ls
-      from_map ls short k d lt = subst IsShort (get_or-map (λ (l : List ℕ × ℕ). l.0) ls k d d.0 lt) (short k d.0 (omega (arith, lt, length-map ls (λ (l : List ℕ × ℕ). l.0))))

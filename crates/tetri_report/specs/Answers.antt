@@ -16,8 +16,11 @@ Answers view (Err NoMemory) answer = Unit {0}
 abbrev pub AnswersLine : Result (Option Cycle) ReportFault → Result (Option Block) ℕ → Type 0
 AnswersLine = Answers (λ o. option_map block o)
 
+-- What the end of a report answers is what the definition does: it takes no memory.
 abbrev pub AnswersEnd : Result Summary ReportFault → Result Summary ℕ → Type 0
-AnswersEnd = Answers (λ s. s)
+AnswersEnd (Ok summary) answer = answer ≡ Ok summary
+AnswersEnd (Err (Malformed line)) answer = answer ≡ Err line
+AnswersEnd (Err NoMemory) answer = ⊥
 
 -- What is read so far afterwards: the same where memory ran out.
 abbrev pub Leaves : {X : Type 0} → Result X ReportFault → Reading → Reading → Reading → Type 0

@@ -7,3 +7,4 @@ pub mod Differences
 pub mod Reading
 pub mod Answers
 pub mod Strips
+pub mod WholeLines

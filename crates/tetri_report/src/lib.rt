@@ -9,7 +9,6 @@ mod laws;
 mod line;
 mod lines;
 mod print;
-mod ranges;
 mod read;
 mod send_fault;
 mod stages;
@@ -21,8 +20,8 @@ pub use cycle::{Cycle, Head, Summary};
 pub use differences::{Expected, first_other_line_by_head, plan_place_behind};
 pub use fault::ReportFault;
 pub use laws::{
-    certificates_are_told, printed_lines_are_short, printed_reports_read_back,
-    strips_read_as_blocks,
+    certificates_are_told, printed_lines_are_short, printed_parts_are_short,
+    printed_reports_read_back, strips_read_as_blocks,
 };
 pub use line::PlanLine;
 pub use lines::name_of;

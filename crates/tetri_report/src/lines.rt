@@ -1,8 +1,8 @@
 // The lines of a cycle.
-ghost use Rattle.std.specs.Prelude.{◌≡◌, ◌++◌, ◌<◌, ◌≤◌, ◌^◌, OnOk, string_bytes, length, All, map, flat_map};
+ghost use Rattle.std.specs.Prelude.{◌≡◌, ◌++◌, ◌<◌, ◌≤◌, OnOk, string_bytes, length, All, map, flat_map};
 ghost use Rattle.tetri_cert.specs.Text.{mark_text};
 ghost use Rattle.tetri_cluster.specs.Cluster.{name_at};
-ghost use Rattle.tetri_report.specs.Printable.{AreJobs, ArePieces, GrantSmallLeaves, HaveSmallLeaves, IsPrintableGrant};
+ghost use Rattle.tetri_report.specs.Printable.{AreJobs, ArePieces, IsPrintableGrant};
 ghost use Rattle.tetri_report.specs.Text.{cycle_line, plan_line, name_line, leaf_line, joined, granted_line, job_name, job_line, piece_line, grant_line, grant_lines};
 ghost use Rattle.tetri_trace.specs.Scenario.{scenario};
 
@@ -43,8 +43,7 @@ fn add_name_line(out: &mut String, word: &str, name: &str) -> Result<(), AllocEr
 
 #[tactic(auto, unfolding(crate::specs::Text::leaf_line))]
 fn add_leaf_line(out: &mut String, word: &str, name: &str, leaf: u32) -> Result<(), AllocError>
-    ensures text { OnOk result (string_bytes out.new ≡ string_bytes out.old ++ leaf_line word.now name.now leaf) }
-    ensures in_range { leaf < 2 ^ 32 }
+    ensures { OnOk result (string_bytes out.new ≡ string_bytes out.old ++ leaf_line word.now name.now leaf) }
 {
     write!(out, "{word} {name} {leaf}\n")
 }
@@ -79,8 +78,7 @@ pub(crate) fn add_piece_lines(
     pieces: &[PieceId],
 ) -> Result<(), AllocError>
     requires { ArePieces (scenario trace.now) pieces.now }
-    ensures text { OnOk result (string_bytes out.new ≡ string_bytes out.old ++ flat_map (piece_line (scenario trace.entry.now) word.now) pieces.now) }
-    ensures in_range { OnOk result (HaveSmallLeaves pieces.now) }
+    ensures { OnOk result (string_bytes out.new ≡ string_bytes out.old ++ flat_map (piece_line (scenario trace.entry.now) word.now) pieces.now) }
 {
     for piece in pieces {
         add_leaf_line(out, word, name_of(trace, piece.job), piece.leaf)?;
@@ -112,8 +110,7 @@ fn add_grant_line(
     start: u32,
 ) -> Result<(), AllocError>
     requires { IsPrintableGrant (scenario trace.now) grant.now }
-    ensures text { OnOk result (string_bytes out.new ≡ string_bytes out.old ++ grant_line (scenario trace.entry.now) grant.now start) }
-    ensures in_range { grant.now.leaf < 2 ^ 32 }
+    ensures { OnOk result (string_bytes out.new ≡ string_bytes out.old ++ grant_line (scenario trace.entry.now) grant.now start) }
 {
     let name = name_of(trace, grant.job);
     let leaf = grant.leaf;
@@ -130,8 +127,7 @@ pub(crate) fn add_grant_lines(
 ) -> Result<(), AllocError>
     requires printable { All (IsPrintableGrant (scenario trace.now)) grants.now }
     requires starts { length starts.now ≡ length grants.now }
-    ensures text { OnOk result (string_bytes out.new ≡ string_bytes out.old ++ grant_lines (scenario trace.entry.now) grants.now starts.now) }
-    ensures in_range { OnOk result (GrantSmallLeaves grants.now) }
+    ensures { OnOk result (string_bytes out.new ≡ string_bytes out.old ++ grant_lines (scenario trace.entry.now) grants.now starts.now) }
 {
     for (i, grant) in grants.iter().enumerate() {
         add_grant_line(out, trace, grant, starts[i])?;

@@ -1,7 +1,7 @@
 // A cycle as text.
 ghost use Rattle.std.specs.Prelude.{◌≡◌, ◌++◌, All, OnOk, IfOk, string_bytes, length};
 ghost use Rattle.tetri_report.specs.Block.{block};
-ghost use Rattle.tetri_report.specs.Printable.{AreJobs, GrantSmallLeaves, HaveSmallLeaves, IsInRange, IsPrintable, IsPrintableGrant};
+ghost use Rattle.tetri_report.specs.Printable.{AreJobs, IsPrintable, IsPrintableGrant};
 ghost use Rattle.tetri_report.specs.Text.{cycle_text, events_text, happened_text, launches_text, plan_text};
 ghost use Rattle.tetri_state.specs.Begin.{occurrences};
 ghost use Rattle.tetri_state.specs.Known.{AreOfJobs};
@@ -11,7 +11,6 @@ use crate::Cycle;
 use crate::lines::{
     add_cycle_line, add_grant_lines, add_job_lines, add_piece_lines, add_plan_line,
 };
-use crate::ranges::cycle_is_in_range;
 use std::alloc::{AllocError, Global};
 use tetri_cert::{Certificate, PlanMark, print_onto};
 use tetri_state::Happened;
@@ -21,9 +20,7 @@ use tetri_trace::Trace;
 #[tactic(auto, unfolding(crate::specs::Text::happened_text))]
 fn add_happened(out: &mut String, trace: &Trace, happened: &Happened) -> Result<(), AllocError>
     requires { AreOfJobs (scenario trace.now) (occurrences happened.now) }
-    ensures text { OnOk result (string_bytes out.new ≡ string_bytes out.old ++ happened_text (scenario trace.entry.now) (occurrences happened.entry.now)) }
-    ensures ended { OnOk result (HaveSmallLeaves happened.entry.now.ended.items) }
-    ensures over { OnOk result (HaveSmallLeaves happened.entry.now.over.items) }
+    ensures { OnOk result (string_bytes out.new ≡ string_bytes out.old ++ happened_text (scenario trace.entry.now) (occurrences happened.entry.now)) }
 {
     add_piece_lines(out, trace, "end", &happened.ended)?;
     add_job_lines(out, trace, "cancel", &happened.cancelled)?;
@@ -40,9 +37,7 @@ fn add_events(
     happened: &Happened,
 ) -> Result<(), AllocError>
     requires { AreOfJobs (scenario trace.now) (occurrences happened.now) }
-    ensures text { OnOk result (string_bytes out.new ≡ string_bytes out.old ++ events_text (scenario trace.entry.now) number (occurrences happened.entry.now)) }
-    ensures ended { OnOk result (HaveSmallLeaves happened.entry.now.ended.items) }
-    ensures over { OnOk result (HaveSmallLeaves happened.entry.now.over.items) }
+    ensures { OnOk result (string_bytes out.new ≡ string_bytes out.old ++ events_text (scenario trace.entry.now) number (occurrences happened.entry.now)) }
 {
     add_cycle_line(out, number)?;
     add_happened(out, trace, happened)
@@ -62,9 +57,8 @@ fn add_plan(
 ) -> Result<(), AllocError>
     requires printable { All (IsPrintableGrant (scenario trace.now)) grants.now }
     requires starts { length starts.now ≡ length grants.now }
-    ensures text { OnOk result (string_bytes out.new ≡ string_bytes out.old
+    ensures { OnOk result (string_bytes out.new ≡ string_bytes out.old
         ++ plan_text (scenario trace.entry.now) value bound mark nodes grants.entry.now starts.entry.now certificate.entry.now) }
-    ensures in_range { OnOk result (GrantSmallLeaves grants.entry.now) }
 {
     add_plan_line(out, value, bound, mark, nodes)?;
     add_grant_lines(out, trace, grants.as_slice(), starts)?;
@@ -139,12 +133,10 @@ pub fn print_launches(alloc: Global, trace: &Trace, launched: &[u32]) -> Result<
 }
 
 /// The lines of a cycle: those of `print_events`, of `print_plan` and of `print_launches`. All its jobs and nodes are the trace's.
-/// Its numbers, which have the types of their fields, are within the ranges of their lines.
 #[tactic(auto, unfolding(crate::specs::Text::cycle_text))]
 pub fn print_cycle(alloc: Global, trace: &Trace, cycle: &Cycle) -> Result<Vec<u8>, AllocError>
     requires { IsPrintable (scenario trace.now) (block cycle.now) }
-    ensures text { IfOk result (λ v. v.items ≡ cycle_text (scenario trace.entry.now) (block cycle.entry.now)) }
-    ensures in_range { OnOk result (IsInRange (block cycle.entry.now)) }
+    ensures { IfOk result (λ v. v.items ≡ cycle_text (scenario trace.entry.now) (block cycle.entry.now)) }
 {
     let mut out = String::new(alloc);
     add_events(&mut out, trace, cycle.number, &cycle.happened)?;
@@ -160,6 +152,5 @@ pub fn print_cycle(alloc: Global, trace: &Trace, cycle: &Cycle) -> Result<Vec<u8
         &cycle.certificate,
     )?;
     add_launches(&mut out, trace, &cycle.launched)?;
-    cycle_is_in_range(cycle);
     Ok(out.into_bytes())
 }

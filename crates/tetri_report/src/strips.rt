@@ -241,7 +241,7 @@ impl Strips {
     }
 
     /// The summary, once all lines were read. `Malformed` comes where a line was refused, or with the number behind the
-    /// last line where there was no summary.
+    /// last line where there was no summary. It takes no memory, and so `NoMemory` never comes.
     pub fn finish(self) -> Result<Summary, ReportFault>
         ensures { AnswersEnd result (end_answer self) }
     {

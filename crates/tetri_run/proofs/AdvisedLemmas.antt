@@ -22,7 +22,7 @@ use Rattle.tetri_state.proofs.StateLaws.{begin_reached, early_begun, instance_so
 use Rattle.tetri_strl.specs.declared.grants.Grant.{Grant}
 use Rattle.tetri_trace.specs.Scenario.{Scenario}
 use Rattle.tetri_trace.specs.Sound.{IsSound}
-use Rattle.tetri_plan.proofs.PlanLaws.{carried_worth, chosen_bounds, given_bounds, kept_bounds}
+use Rattle.tetri_plan.proofs.PlanLaws.{carried_worth, chosen_bounds, given_bounds, kept_bounds, unfound_worth}
 use Rattle.tetri_run.specs.Advised.{AreListsOf, BeginsWithin, IsAdvice, IsAdvisedRun, IsOnlyRun, IsWorthCreeds, IsWorthFirst, by_panel}
 use Rattle.tetri_run.specs.Cycle.{IsPlannedCycle}
 use Rattle.tetri_run.specs.Run.{AnyLists, IsPlannedRun, IsRunOf, state_behind}
@@ -114,17 +114,18 @@ module _ (t : Scenario) (sound : IsSound t) where
         omega (arith, least, kept_worth s b right c)
 
     -- with what its search begins
-    begins_within : (s : Snapshot) (b : Block) → IsSoundSpace (instance_at t s) → (c : IsPlannedCycle M t s b) → BeginsWithin (instance_at t s) c.cycle.carry c.given b.value
+    begins_within : (s : Snapshot) (b : Block) → IsSoundSpace (instance_at t s) → (c : IsPlannedCycle M t s b) → BeginsWithin (instance_at t s) c.cycle.carry c.given b.value b.certificate
     begins_within s b right c =
         let i = instance_at t s in
         record {
           carried = kept_bounds i right c.cycle.carry c.given;
           each = given_bounds i right c.cycle.carry c.given;
           most = kept_worth s b right c;
+          no_whole = unfound_worth i right c.cycle.carry c.given t.header.budget (planned b) c.chosen c.cycle.plan.honest.attained;
           alone = λ none. subst (λ (gs : List (List Grant)). total_in i (kept i c.cycle.carry gs) ≡ total_in i c.cycle.carry) (sym none) (carried_worth i right c.cycle.carry);
         }
 
-    pub run_begins_within : (past : List Block) (b : Block) → (run : IsPlannedRun M t (b ∷ past)) → BeginsWithin (instance_at t (state_behind t past)) run.1.cycle.carry run.1.given b.value
+    pub run_begins_within : (past : List Block) (b : Block) → (run : IsPlannedRun M t (b ∷ past)) → BeginsWithin (instance_at t (state_behind t past)) run.1.cycle.carry run.1.given b.value b.certificate
     run_begins_within past b run = begins_within (state_behind t past) b (instance_is_sound (state_behind t past) (run_reaches t past (run_of M t past run.2)) run.0) run.1
 
   -- ---- a run that a panel advised

@@ -59,9 +59,9 @@ run_front : (t : Scenario) (xs p : List Block) → IsRun t (xs ++ p) → IsRun t
 run_front t [] p run = run
 run_front t (x ∷ xs) p run = run_front t xs p run.2
 
-length-in_order : (xs : List Block) → length (in_order xs) ≡ length xs
-length-in_order [] = refl
-length-in_order (x ∷ xs) = omega (arith, length-append (in_order xs) (x ∷ []), length-in_order xs)
+pub cycles_in_order : (xs : List Block) → length (in_order xs) ≡ length xs
+cycles_in_order [] = refl
+cycles_in_order (x ∷ xs) = omega (arith, length-append (in_order xs) (x ∷ []), cycles_in_order xs)
 
 one_more : (p bs : List Block) (b : Block) → in_order p ++ b ∷ bs ≡ in_order (b ∷ p) ++ bs
 one_more p bs b = sym (append_assoc (in_order p) (b ∷ []) bs)
@@ -328,7 +328,7 @@ module _ (t : Scenario) (sound : IsSound t) where
         let summary : r.summary ≡ None = ap (λ (q : Reading). q.summary) read.behind ∙ goes.1 in
         let some = block_comes t r rest (ap (λ (q : Reading). is_within q.stage) read.behind ∙ goes.0) summary on.0 s on.2 in
         subst (FitsRun t front) (sym summary)
-        (omega (arith, ap length order, length-append (in_order front) on.0, length-in_order past, length-in_order front, whole, some)))
+        (omega (arith, ap length order, length-append (in_order front) on.0, cycles_in_order past, cycles_in_order front, whole, some)))
         (summary_or_block read.said)
 
     not_refused : (c : Checking) (line : List ℕ) (rest : List (List ℕ)) (blocks : List Block) → IsRestOf past s c (line ∷ rest) blocks → (number : ℕ) (why : Why) →
@@ -369,15 +369,13 @@ module _ (t : Scenario) (sound : IsSound t) where
 -- What comes to no refusal is accepted.
 
 -- the run that further lines make of an accepted front
-record AcceptsRest (t : Scenario) (c : Checking) (rest : List (List ℕ)) (cycles : ℕ) : Type 0 where
-  pub past : List Block
+record AcceptsRest (t : Scenario) (c : Checking) (rest : List (List ℕ)) (past : List Block) : Type 0 where
   pub blocks : List Block
   pub run : IsRun t past
   pub whole : length past ≡ t.header.until
   pub order : in_order past ≡ in_order c.past ++ blocks
   pub reads : report_from t c.reading rest ≡ Ok (blocks, summary_of t past)
   pub short : All IsShort rest
-  pub count : cycles ≡ length past
 
 fits_before_end : (t : Scenario) (p : List Block) (b : Block) (m : Option Summary) → FitsRun t (b ∷ p) m → length p < t.header.until
 fits_before_end t p b None fits = omega (arith, fits)
@@ -388,30 +386,28 @@ pub run_on : (t : Scenario) (c : Checking) (ended : Option Block) (m : Option Su
 run_on t c None m run right fits = run
 run_on t c (Some b) m run right fits = (omega (arith, fits_before_end t c.past b m fits, now_behind block_cycles t c.past), right, run)
 
-accepts_rest : (t : Scenario) (c : Checking) (rest : List (List ℕ)) (cycles : ℕ) → IsRun t c.past → IsInPlace t c → ComesTo t c rest (Ok cycles) → AcceptsRest t c rest cycles
-accepts_rest t c [] cycles run fits ends =
+accepts_rest : (t : Scenario) (c : Checking) (rest : List (List ℕ)) (past : List Block) → IsRun t c.past → IsInPlace t c → ComesTo t c rest (Ok past) → AcceptsRest t c rest past
+accepts_rest t c [] past run fits ends =
     let summary = end_summary c.reading.fault c.reading.summary (c.reading.lines + 1) ends.1.0 ends.1.1 in
     let closed : FitsRun t c.past (Some ends.1.0) = subst (FitsRun t c.past) summary fits in
-    record {
-      past = c.past;
+    subst (AcceptsRest t c []) (sym ends.0)
+    (record {
       blocks = [];
       run = run;
       whole = closed.0;
       order = sym (append-nil (in_order c.past));
       reads = ap (λ (q : Result Summary ℕ). ◌>>=◌ {B = List Block × Summary} q (λ m. Ok ([], m))) ends.1.1 ∙ ap (λ m. Ok ([], m)) closed.1;
       short = All-nil IsShort;
-      count = ends.0;
-    }
-accepts_rest t c (line ∷ rest) cycles run fits comes =
+    })
+accepts_rest t c (line ∷ rest) past run fits comes =
     ⊎_elim (λ refused. absurd refused)
     (λ on.
     let passed = on.1 in
     let behind = checked_behind t c line passed.ended in
     let place : IsInPlace t behind = subst (IsInPlace t) passed.is passed.in_place in
-    let more : AcceptsRest t behind rest cycles =
-    accepts_rest t behind rest cycles (run_on t c passed.ended behind.reading.summary run passed.right place) place (subst (λ (d : Checking). ComesTo t d rest (Ok cycles)) passed.is on.2) in
+    let more : AcceptsRest t behind rest past =
+    accepts_rest t behind rest past (run_on t c passed.ended behind.reading.summary run passed.right place) place (subst (λ (d : Checking). ComesTo t d rest (Ok past)) passed.is on.2) in
     record {
-      past = more.past;
       blocks = with_first passed.ended more.blocks;
       run = more.run;
       whole = more.whole;
@@ -419,7 +415,6 @@ accepts_rest t c (line ∷ rest) cycles run fits comes =
       reads = ap (λ (a : Result (Option Block) ℕ). a >>= λ o. report_from t (behind_line t c.reading line) rest >>= λ x. Ok (with_first o x.0, x.1)) passed.reads
           ∙ ap (onto_report passed.ended) more.reads;
       short = All-cons IsShort line rest passed.short more.short;
-      count = more.count;
     })
     comes
   where
@@ -427,9 +422,10 @@ accepts_rest t c (line ∷ rest) cycles run fits comes =
     back None bs = refl
     back (Some b) bs = sym (one_more c.past bs b)
 
-pub comes_to_accepted : (t : Scenario) → IsSound t → (bytes : List ℕ) (cycles : ℕ) → ComesTo t unchecked (lines_in bytes) (Ok cycles) → IsAccepted t bytes × (cycles ≡ t.header.until)
-comes_to_accepted t sound bytes cycles comes =
-    let rest = accepts_rest t unchecked (lines_in bytes) cycles tt (omega (arith, sound.header.some_cycles)) comes in (
-      record { past = rest.past; reads = rest.reads ∙ ap (λ bs. Ok (bs, summary_of t rest.past)) (sym rest.order); run = rest.run; whole = rest.whole; short = rest.short },
-      rest.count ∙ rest.whole,
+-- the cycles that the check comes to are those of the accepted report
+pub comes_to_accepted : (t : Scenario) → IsSound t → (bytes : List ℕ) (past : List Block) → ComesTo t unchecked (lines_in bytes) (Ok past) → (a : IsAccepted t bytes) × (a.past ≡ past)
+comes_to_accepted t sound bytes past comes =
+    let rest = accepts_rest t unchecked (lines_in bytes) past tt (omega (arith, sound.header.some_cycles)) comes in (
+      record { past = past; reads = rest.reads ∙ ap (λ bs. Ok (bs, summary_of t past)) (sym rest.order); run = rest.run; whole = rest.whole; short = rest.short },
+      refl,
     )

@@ -8,5 +8,6 @@ pub mod ReadBackLemmas
 pub mod RefusalLemmas
 pub mod RunLaws
 pub mod RunLemmas
+pub mod SeenLemmas
 pub mod StepLemmas
 pub mod TopLemmas

@@ -29,6 +29,7 @@ use Rattle.tetri_report.proofs.ReportLaws.{before_certificate, begins_bare_first
 use Rattle.tetri_report.specs.declared.fault.ReportFault.{ReportFault}
 use Rattle.tetri_report.specs.declared.fault.ReportFault.TheVariants as faults
 use Rattle.tetri_state.specs.Begin.{begin}
+use Rattle.tetri_space.specs.Sound.{IsSound as IsSoundSpace}
 use Rattle.tetri_space.specs.Space.{Space, space}
 use Rattle.tetri_report.specs.Reading.{Reading, behind_line, block_before, end_answer, is_certified, line_answer, opened, with_line, with_node}
 use Rattle.tetri_base.specs.Lists.{with_first}
@@ -40,15 +41,16 @@ use Rattle.tetri_report.specs.declared.line.Stage.{Stage}
 use Rattle.tetri_report.specs.declared.line.Stage.TheVariants as stages
 use Rattle.tetri_state.specs.Reached.{IsReached, begun, between}
 use Rattle.tetri_state.proofs.StateLaws.{begin_reached}
-use Rattle.tetri_state.specs.Snapshot.{Snapshot}
+use Rattle.tetri_state.specs.Snapshot.{Snapshot, opening_state}
 use Rattle.tetri_trace.specs.Scenario.{Scenario}
 use Rattle.tetri_run.specs.Check.{Checking, ComesTo, EndsAs, FitsRun, IsInPlace, IsPassed, IsRefused, IsShort, checked_behind, faulty, first_behind, malformed, out_of_place, too_long}
-use Rattle.tetri_run.specs.Checked.{AnswersCycle, AnswersLine, AnswersPlace, AnswersPlan, AnswersReport, AnswersTaken, AnswersVerdict, CountsRun, HasBegun, IsAt, IsBehind, IsDone, IsFed, IsInOrder, IsTaken, IsViewOf, Keeps, Sees, SeesSome, halt_of}
+use Rattle.tetri_run.specs.Checked.{AnswersCycle, AnswersLine, AnswersPlace, AnswersPlan, AnswersReport, AnswersTaken, AnswersVerdict, CountsRun, HasBegun, IsAt, IsBehind, IsDone, IsFed, IsInOrder, IsTaken, IsViewOf, Keeps, SawEnded, Sees, SeesSome, halt_of}
 use Rattle.tetri_run.specs.Faulty.{why_of}
-use Rattle.tetri_run.specs.Run.{IsRun, optimal_cycles, state_behind, worth_of_run}
+use Rattle.tetri_run.specs.Run.{IsRun, in_order, optimal_cycles, state_behind, worth_of_run}
 use Rattle.tetri_run.specs.declared.check.Progress.{Progress}
 use Rattle.tetri_run.specs.declared.sight.BegunSlot.{BegunSlot}
 use Rattle.tetri_run.specs.declared.sight.Sight.{Sight}
+use Rattle.tetri_run.specs.declared.sight.View.{View}
 use Rattle.tetri_run.specs.declared.sight.Sight.TheVariants as sights
 use Rattle.tetri_cycles.specs.declared.planner.SlotTally.{SlotTally}
 use Rattle.tetri_run.specs.declared.halt.CheckHalt.{CheckHalt}
@@ -57,7 +59,9 @@ use Rattle.tetri_run.specs.declared.why.Why.{Why}
 use Rattle.tetri_run.specs.declared.why.Why.TheVariants.{LineTooLong, Malformed, WrongEvents}
 use Rattle.tetri_run.proofs.CheckLemmas.{closed_blocks, read_line, true_not_false}
 use Rattle.tetri_run.proofs.RunLemmas.{run_reaches}
-use Rattle.tetri_cycles.proofs.CycleLaws.{now_behind, summary_is}
+use Rattle.tetri_cycles.proofs.CycleLaws.{behind_last, now_behind, observed_last, summary_is}
+use Rattle.tetri_cycles.specs.Observed.{IsShown, Observed, behind, next}
+use Rattle.tetri_cycles.specs.declared.observer.SeenSlot.{SeenSlot}
 use Rattle.tetri_run.specs.Telling.{block_cycles}
 
 -- how many events, grants, lines of its certificate and launches a cycle has
@@ -397,7 +401,7 @@ tops_first t r line columns rows answer = by_fault r.fault (line_in t line) answ
 
 -- A line that was read, and told this.
 module _ (t : Scenario) (c : Checking) (p : Progress) (line : List ℕ) (told : Telling) (is : IsFed t c p line told) where
-  fed_reads : line_answer t c.reading line ≡ Ok (block_told c.reading.block.certificate told)
+  pub fed_reads : line_answer t c.reading line ≡ Ok (block_told c.reading.block.certificate told)
   fed_reads = line_is_told t c.reading line ∙ ap (λ (a : Result Telling ℕ). a >>= λ x. Ok (block_told c.reading.block.certificate x)) is.tells
 
   fed_certificate : (behind_line t c.reading line).block.certificate ≡ certificate_with c.reading.block.certificate told
@@ -484,6 +488,30 @@ module _ (t : Scenario) (c : Checking) (p : Progress) (line : List ℕ) (head : 
   cycle_refused new state ReadFault found = absurd found
   cycle_refused new state NoMemory found = tt
 
+  -- the cycle is shown once it was found right
+  pub cycle_shown : (now new : Snapshot) (view : View) (tally : SlotTally) (slot : SeenSlot) → IsViewOf t (state_behind t c.past) c.reading.block.certificate now view →
+      IsDone t (state_behind t c.past) new ended tally → space slot.inst.now ≡ space view.slot.inst → slot.held ≡ length now.pieces → slot.worth ≡ tally.worth →
+      IsShown t (state_behind t c.past) ended new slot
+  cycle_shown now new view tally slot viewed done inst held worth = record {
+    reached = fed_reached t c p line _ is;
+    right = record {
+      may_run = record {
+        in_run = fed_in_run t c p line _ is;
+        plan = record { lawful = done.cycle.plan.honest.lawful; thrifty = done.cycle.plan.honest.thrifty };
+      };
+      number = done.cycle.number;
+      happened = done.cycle.happened;
+      attained = done.cycle.plan.honest.attained;
+      starts = done.cycle.plan.starts;
+      launched = done.cycle.plan.launched;
+    };
+    state = done.state;
+    instance = inst ∙ viewed.slot.instance;
+    sound = subst IsSoundSpace (sym inst) viewed.slot.sound;
+    held = held ∙ ap (λ (s : Snapshot). length s.pieces) viewed.slot.state;
+    worth = worth ∙ done.worth;
+  }
+
   -- the run has one cycle more
   module _ (new : Progress) (slot : SlotTally) (done : IsDone t (state_behind t c.past) new.state ended slot) (small : slot.worth < 2 ^ 64) (most : slot.optimal ≤ 1)
       (worth : new.tally.worth ≡ p.tally.worth + slot.worth) (optimal : new.tally.optimal ≡ p.tally.optimal + slot.optimal) where
@@ -551,27 +579,28 @@ comes_too_long t c p content offset number at counted long =
     (inl (subst (λ n. IsRefused t c found.0.0 n LineTooLong) (sym (counted ∙ ap (λ (r : Reading). r.lines + 1) at.keeps.reading)) (too_long (omega (arith, long, ap length first.bytes_are)))))
 
 -- no byte is left
-pub comes_to_end : (t : Scenario) (c : Checking) (content : List ℕ) (offset : ℕ) (outcome : Result ℕ (ℕ × Why)) → length content ≤ offset → EndsAs t c outcome →
+pub comes_to_end : (t : Scenario) (c : Checking) (content : List ℕ) (offset : ℕ) (outcome : Result (List Block) (ℕ × Why)) → length content ≤ offset → EndsAs t c outcome →
     ComesTo t c (texts_from offset (drop offset content)) outcome
 comes_to_end t c content offset outcome past ends = subst (λ ls. ComesTo t c ls outcome) (sym (none_left content offset past)) ends
 
-pub end_accepted : (t : Scenario) (c : Checking) (p : Progress) (cycles : ℕ) (s : Summary) → IsAt t c p → cycles ≡ p.state.now → end_answer p.strips ≡ Ok s → EndsAs t c (Ok cycles)
-end_accepted t c p cycles s at counted ends =
-    (counted ∙ (keeps_counts t c p at.keeps).now, (s, subst (λ r. end_answer r ≡ Ok s) at.keeps.reading ends))
+pub end_accepted : (t : Scenario) (c : Checking) (p : Progress) (s : Summary) → IsAt t c p → end_answer p.strips ≡ Ok s → EndsAs t c (Ok c.past)
+end_accepted t c p s at ends = (refl, (s, subst (λ r. end_answer r ≡ Ok s) at.keeps.reading ends))
 
 pub end_refused : (t : Scenario) (c : Checking) (p : Progress) (content : List ℕ) (offset : ℕ) (fault : ReportFault) → IsAt t c p → length content ≤ offset →
-    report.AnswersEnd (Err fault) (end_answer p.strips) → (Comes : Result ℕ (ℕ × Why) → Type 0) →
-    ((outcome : Result ℕ (ℕ × Why)) → ComesTo t c (texts_from offset (drop offset content)) outcome → Comes outcome) → AnswersReport (Err (halt_of fault)) Comes
-end_refused t c p content offset (faults.Malformed number) at past ends Comes goes =
+    report.AnswersEnd (Err fault) (end_answer p.strips) → (Comes : Result (List Block) (ℕ × Why) → Type 0) (Saw : List Block → Type 0) →
+    ((outcome : Result (List Block) (ℕ × Why)) → ComesTo t c (texts_from offset (drop offset content)) outcome → Comes outcome) →
+    AnswersReport {U = Unit {0}} (Err (halt_of fault)) Comes Saw
+end_refused t c p content offset (faults.Malformed number) at past ends Comes Saw goes =
     goes (Err (number, Malformed)) (comes_to_end t c content offset (Err (number, Malformed)) past (refl, subst (λ r. end_answer r ≡ Err number) at.keeps.reading ends))
-end_refused t c p content offset faults.NoMemory at past ends Comes goes = tt
+end_refused t c p content offset faults.NoMemory at past ends Comes Saw goes = tt
 
 -- a line that refuses ends the check of further lines
 pub line_ends : (t : Scenario) (c : Checking) (new : Progress) (line : List ℕ) (rest : List (List ℕ)) (h : CheckHalt) → AnswersLine {U = Unit {0}} (Err h) t c new line →
-    (Comes : Result ℕ (ℕ × Why) → Type 0) → ((outcome : Result ℕ (ℕ × Why)) → ComesTo t c (line ∷ rest) outcome → Comes outcome) → AnswersReport (Err h) Comes
-line_ends t c new line rest (Refused number why) refused Comes goes = goes (Err (number, why)) (inl refused)
-line_ends t c new line rest ReadFault refused Comes goes = tt
-line_ends t c new line rest NoMemory refused Comes goes = tt
+    (Comes : Result (List Block) (ℕ × Why) → Type 0) (Saw : List Block → Type 0) → ((outcome : Result (List Block) (ℕ × Why)) → ComesTo t c (line ∷ rest) outcome → Comes outcome) →
+    AnswersReport {U = Unit {0}} (Err h) Comes Saw
+line_ends t c new line rest (Refused number why) refused Comes Saw goes = goes (Err (number, why)) (inl refused)
+line_ends t c new line rest ReadFault refused Comes Saw goes = tt
+line_ends t c new line rest NoMemory refused Comes Saw goes = tt
 
 -- Seeing a node, and what a cycle is judged by.
 
@@ -623,3 +652,20 @@ module _ (t : Scenario) (now : Snapshot) where
     tells = subst (λ d. Tells (space slot.inst) d found) (sym sees.1.1) (told (space slot.inst) sees.1.0 sees.1.2);
     lines = ap (λ d. length (certificate_lines d)) sees.1.1 ∙ length-map sees.1.0 lines.Node ∙ sym sees.1.3;
   }
+
+-- An observer, behind the cycles that were accepted.
+module _ {O : Type 0} (saw : Scenario → Snapshot → Block → O → O → Type 0) (t : Scenario) where
+  -- the state behind cycles, in their order
+  pub behind_run : (past : List Block) → behind t (opening_state t) (in_order past) ≡ state_behind t past
+  behind_run [] = refl
+  behind_run (b ∷ past) = behind_last t (opening_state t) (in_order past) b ∙ ap (λ s. next t s b) (behind_run past)
+
+  -- it saw the cycles so far, and then the one that a line ended, if it ended one
+  pub saw_on : (c d : Checking) (line : List ℕ) (passed : IsPassed t c line d) (first old new : O) → Observed saw t (opening_state t) (in_order c.past) first old →
+      SawEnded saw t c.past passed.ended old new → Observed saw t (opening_state t) (in_order d.past) first new
+  saw_on c d line passed first old new seen more =
+      subst (λ (e : Checking). Observed saw t (opening_state t) (in_order e.past) first new) (sym passed.is) (by_ended passed.ended more)
+    where
+      by_ended : (ended : Option Block) → SawEnded saw t c.past ended old new → Observed saw t (opening_state t) (in_order (with_first ended c.past)) first new
+      by_ended None same = subst (Observed saw t (opening_state t) (in_order c.past) first) (sym same) seen
+      by_ended (Some b) last = observed_last t saw (opening_state t) (in_order c.past) b first old new seen (subst (λ s. saw t s b old new) (sym (behind_run c.past)) last)

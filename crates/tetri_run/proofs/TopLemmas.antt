@@ -18,12 +18,14 @@ use Rattle.tetri_cycles.proofs.CycleLaws.{append_known-nil, between_of, stopped_
 use Rattle.tetri_run.specs.Progress.{StoppedInSummary, WroteReport}
 use Rattle.tetri_run.specs.Promised.{IsPromisedBy}
 use Rattle.tetri_run.specs.Run.{AnyLists, IsPlannedRun, summary_of}
+use Rattle.tetri_cycles.specs.Progress.{ArePlanned, IsRunBy}
+use Rattle.tetri_run.specs.Chosen.{IsChosenRun, by_chooser}
 use Rattle.tetri_run.specs.Telling.{block_cycles}
 use Rattle.tetri_run.specs.Status.{IsCheckAnswer, IsCheckPromised, IsLoadAnswer, IsPromised, IsPromisedOf, IsRefusal, IsRunAnswer}
 use Rattle.tetri_run.specs.declared.telling.Telling.{Telling}
 use Rattle.tetri_run.specs.declared.telling.Telling.TheVariants.{Report, Untold}
 use Rattle.tetri_run.proofs.AdvisedLemmas.{any_run}
-use Rattle.tetri_run.proofs.ReadBackLemmas.{wrote_report}
+use Rattle.tetri_run.proofs.ReadBackLemmas.{planned_is_told, wrote_report}
 use Rattle.tetri_run.specs.Words.{Asked}
 use Rattle.tetri_run.specs.declared.status.Status.{Status}
 use Rattle.tetri_run.specs.declared.status.Status.TheVariants.{Done, Refused, Usage, ReadFault, WriteFault, BadTrace, NoMemory}
@@ -97,7 +99,7 @@ module _ (trace : Result Scenario (ℕ × TraceWhy)) (t : Scenario) (is : trace 
     pub report_promised : IsPromisedOf (IsAdvisedRun sat missed now) status trace before after
     report_promised =
         answer_promised Report (IsAdvisedRun sat missed now) (WroteReport (IsAdvisedRun sat missed now)) status before after
-        (wrote_report (Heard sat missed now) (IsAdvisedRun sat missed now) t sound (λ past advised. advised.run) before after) answer
+        (wrote_report (IsAdvisedRun sat missed now) t sound (λ past advised. planned_is_told (Heard sat missed now) t past advised.run) before after) answer
 
     -- whatever lists were given
     pub plan_promised : IsPromised status trace before after
@@ -135,3 +137,18 @@ module _ (IsSuch : Scenario → List Block → Type 0) (t : Scenario) (before af
 
   pub load_of : (status : Status) (s : Scenario) → t ≡ s → IsRunAnswer Untold IsSuch status t before after → IsLoadAnswer IsSuch status s before after
   load_of status s is answer = subst (λ (u : Scenario). IsLoadAnswer IsSuch status u before after) is (load_answered status answer)
+
+-- ---- a run whose plans a chooser chose
+chosen_cycles : {Planner : Type 0} (first now : Planner) (t : Scenario) (past : List Block) → ArePlanned by_chooser first now t past → IsChosenRun t past
+chosen_cycles first now t [] planned = tt
+chosen_cycles first now t (b ∷ past) (before, (step, rest)) = (step.in_run, step.planned, chosen_cycles first before t past rest)
+
+pub chosen_run : {Planner : Type 0} (first now : Planner) (t : Scenario) (past : List Block) → IsRunBy by_chooser first now t past → IsChosenRun t past
+chosen_run first now t past ran = chosen_cycles first ran.last t past ran.planned
+
+-- its report, of a trace that was read
+pub chosen_promised : (trace : Result Scenario (ℕ × TraceWhy)) (t : Scenario) → trace ≡ Ok t → IsSound t → (status : Status) (before after : Option (List ℕ)) →
+    IsRunAnswer Report IsChosenRun status t before after → IsPromisedOf IsChosenRun status trace before after
+chosen_promised trace t is sound status before after answer =
+    answer_promised trace t is Report IsChosenRun (WroteReport IsChosenRun) status before after
+    (wrote_report IsChosenRun t sound (λ past run. run) before after) answer

@@ -41,15 +41,21 @@ module _ (told : List ℕ → Option (List ℕ)) where
   abbrev pub IsSaidOf : List ℕ → (Result Scenario (ℕ × TraceWhy) → Type 0) → Type 0
   IsSaidOf name Says = (content : List ℕ) → told name ≡ Some content → Says (scenario_in content)
 
-  -- What a status says of checking the report of one name against the trace of another: what was found, and where the report was neither
-  -- accepted nor a write failed, nothing is written. A trace is said to be bad only where it is, whatever the report.
-  pub record IsCheckOf (trace report : List ℕ) (status : Status) (before after : Option (List ℕ)) : Type 0 where
-    pub found : (content lines : List ℕ) → told trace ≡ Some content → told report ≡ Some lines → IsCheckPromised status (scenario_in content) lines before after
+  -- What a status says of checking the report of one name against the trace of another: what was
+  -- found, and where the report was neither accepted nor a write failed, nothing is written. A
+  -- trace is said to be bad only where it is, whatever the report.
+  pub record IsCheckOf (trace report : List ℕ) (status : Status)
+      (before after : Option (List ℕ)) : Type 0 where
+    pub found : (content lines : List ℕ) → told trace ≡ Some content → told report ≡ Some lines
+        → IsCheckPromised status (scenario_in content) lines before after
     pub silent : (status ≡ Done → ⊥) → (status ≡ WriteFault → ⊥) → after ≡ before
-    pub bad_trace : (content : List ℕ) (line : ℕ) (why : TraceWhy) → told trace ≡ Some content → status ≡ BadTrace line why → scenario_in content ≡ Err (line, why)
+    pub bad_trace : (content : List ℕ) (line : ℕ) (why : TraceWhy) → told trace ≡ Some content
+        → status ≡ BadTrace line why → scenario_in content ≡ Err (line, why)
 
-  -- What a status says of what was asked, and of the written bytes before and after: by such a run, where a panel is asked.
-  module _ (IsSuch : Scenario → List Block → Type 0) (status : Status) (before after : Option (List ℕ)) where
+  -- What a status says of what was asked, and of the written bytes before and after: by such a run,
+  -- where a panel is asked.
+  module _ (IsSuch : Scenario → List Block
+      → Type 0) (status : Status) (before after : Option (List ℕ)) where
     abbrev pub IsAnswerTo : Asked → Type 0
     IsAnswerTo (to_plan trace) = IsSaidOf trace (λ t. IsPromisedOf IsSuch status t before after)
     IsAnswerTo (to_check trace report) = IsCheckOf trace report status before after
@@ -60,12 +66,17 @@ module _ (told : List ℕ → Option (List ℕ)) where
 
   -- Where no read and no write failed, a trace that is accepted is worked on to the end.
   abbrev pub IsWorkedOn : Type 0 → Status → List ℕ → Type 0
-  IsWorkedOn Quiet status trace = (content : List ℕ) (t : Scenario) → told trace ≡ Some content → scenario_in content ≡ Ok t → Quiet → EndsWell status
+  IsWorkedOn Quiet status trace = (content : List ℕ) (t : Scenario) → told trace ≡ Some content
+      → scenario_in content ≡ Ok t → Quiet → EndsWell status
 
-  -- Where no read failed, a report that is accepted is told so where no write failed, and one that is not accepted is refused.
+  -- Where no read failed, a report that is accepted is told so where no write failed, and one that
+  -- is not accepted is refused.
   pub record IsDecided (Quiet : Type 0) (status : Status) (trace report : List ℕ) : Type 0 where
-    pub accepts : (content lines : List ℕ) (t : Scenario) → told trace ≡ Some content → scenario_in content ≡ Ok t → told report ≡ Some lines → IsAccepted t lines → Quiet → EndsWell status
-    pub rejects : (content lines : List ℕ) (t : Scenario) → told trace ≡ Some content → scenario_in content ≡ Ok t → told report ≡ Some lines → (IsAccepted t lines → ⊥)
+    pub accepts : (content lines : List ℕ) (t : Scenario) → told trace ≡ Some content
+        → scenario_in content ≡ Ok t → told report ≡ Some lines → IsAccepted t lines → Quiet
+        → EndsWell status
+    pub rejects : (content lines : List ℕ) (t : Scenario) → told trace ≡ Some content
+        → scenario_in content ≡ Ok t → told report ≡ Some lines → (IsAccepted t lines → ⊥)
         → IsRefusal status t lines ⊎ (status ≡ NoMemory)
 
   -- How a call ends where no read failed; `Quiet` says that no write failed.

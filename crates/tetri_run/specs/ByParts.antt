@@ -6,6 +6,8 @@ use Rattle.tetri_notice.specs.declared.fault.TraceWhy.{TraceWhy}
 use Rattle.tetri_run.specs.Promised.{IsPromisedBy}
 use Rattle.tetri_run.specs.declared.status.Status.{Status}
 
--- What a status says of planning the trace that was read part by part, and of the written bytes before and after.
-abbrev pub IsPartsPromised : Status → Result Scenario (ℕ × TraceWhy) → Option (List ℕ) → Option (List ℕ) → Type 0
+-- What a status says of planning the trace that was read part by part, and of the written bytes
+-- before and after.
+abbrev pub IsPartsPromised : Status → Result Scenario (ℕ × TraceWhy) → Option (List ℕ)
+    → Option (List ℕ) → Type 0
 IsPartsPromised = IsPromisedBy WroteParts StoppedInPartsText StoppedBetweenParts

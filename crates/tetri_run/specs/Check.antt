@@ -19,8 +19,9 @@ IsShort line = length line ≤ 1048576
 abbrev pub lines_in : List ℕ → List (List ℕ)
 lines_in bytes = map (λ l. l.0) (lines_from 0 bytes)
 
--- The report is accepted: its lines read as a whole run of the trace and its summary, and none is too long. That no lawful
--- allotment is worth more than a bound is no part of it: it follows from the certificates.
+-- The report is accepted: its lines read as a whole run of the trace and its summary, and none is
+-- too long. That no lawful allotment is worth more than a bound is no part of it: it follows from
+-- the certificates.
 pub record IsAccepted (t : Scenario) (bytes : List ℕ) : Type 0 where
   pub past : List Block
   pub reads : report_in t bytes ≡ Ok (in_order past, summary_of t past)
@@ -28,13 +29,14 @@ pub record IsAccepted (t : Scenario) (bytes : List ℕ) : Type 0 where
   pub whole : length past ≡ t.header.until
   pub short : All IsShort (lines_in bytes)
 
--- The report is accepted, and no lawful allotment of any of its cycles' instances is worth more than the cycle's bound.
+-- The report is accepted, and no lawful allotment of any of its cycles' instances is worth more
+-- than the cycle's bound.
 pub record IsAssured (t : Scenario) (bytes : List ℕ) : Type 0 where
   pub accepted : IsAccepted t bytes
   pub bounds : BoundsHold t accepted.past
 
--- How far a check has come: the cycles that were accepted, the line at which the one behind them begins, and what is read so
--- far.
+-- How far a check has come: the cycles that were accepted, the line at which the one behind them
+-- begins, and what is read so far.
 pub record Checking : Type 0 where
   pub past : List Block
   pub first : ℕ
@@ -51,15 +53,21 @@ first_behind c (Some b) = c.reading.lines + 1
 
 -- how far it has come behind a line, which ended this cycle, if it ended one
 abbrev pub checked_behind : Scenario → Checking → List ℕ → Option Block → Checking
-checked_behind t c line ended = record { past = with_first ended c.past; first = first_behind c ended; reading = behind_line t c.reading line }
+checked_behind t c line ended
+    = record {
+      past = with_first ended c.past;
+      first = first_behind c ended;
+      reading = behind_line t
+          c.reading line;
+    }
 
 -- the cycle that a line ended is one of the run
 abbrev pub IsRight : Scenario → Checking → Option Block → Type 0
 IsRight t c None = Unit {0}
 IsRight t c (Some b) = IsCycle t (state_behind t c.past) b
 
--- The last line has a place in the run: the summary counts the run, which is whole, and any other line is of a cycle before
--- the end of the trace.
+-- The last line has a place in the run: the summary counts the run, which is whole, and any other
+-- line is of a cycle before the end of the trace.
 abbrev pub FitsRun : Scenario → List Block → Option Summary → Type 0
 FitsRun t past None = length past < t.header.until
 FitsRun t past (Some s) = (length past ≡ t.header.until) × (s ≡ summary_of t past)
@@ -67,7 +75,8 @@ FitsRun t past (Some s) = (length past ≡ t.header.until) × (s ≡ summary_of 
 abbrev pub IsInPlace : Scenario → Checking → Type 0
 IsInPlace t c = FitsRun t c.past c.reading.summary
 
--- A line is checked without fault: it may stand there, the cycle that it ends is right, and it has its place in the run.
+-- A line is checked without fault: it may stand there, the cycle that it ends is right, and it has
+-- its place in the run.
 pub record IsPassed (t : Scenario) (c : Checking) (line : List ℕ) (behind : Checking) : Type 0 where
   pub short : IsShort line
   pub ended : Option Block
@@ -79,24 +88,30 @@ pub record IsPassed (t : Scenario) (c : Checking) (line : List ℕ) (behind : Ch
 -- A line shows a fault, which refuses this line or an earlier one, by the first test that fails.
 pub data IsRefused (t : Scenario) (c : Checking) (line : List ℕ) : ℕ → Why → Type 0 where
   too_long : 1048576 < length line → IsRefused t c line (c.reading.lines + 1) LineTooLong
-  malformed : (number : ℕ) → IsShort line → line_answer t c.reading line ≡ Err number → IsRefused t c line number Malformed
-  faulty : (b : Block) (place : ℕ) (why : Why) → IsShort line → line_answer t c.reading line ≡ Ok (Some b)
+  malformed : (number : ℕ) → IsShort line → line_answer t c.reading line ≡ Err number
+      → IsRefused t c line number Malformed
+  faulty : (b : Block) (place : ℕ) (why : Why) → IsShort line
+      → line_answer t c.reading line ≡ Ok (Some b)
       → IsFaulty t (state_behind t c.past) b place why → IsRefused t c line (c.first + place) why
-  out_of_place : (ended : Option Block) → IsShort line → line_answer t c.reading line ≡ Ok ended → IsRight t c ended
-      → (IsInPlace t (checked_behind t c line ended) → ⊥) → IsRefused t c line (c.reading.lines + 1) WrongEvents
+  out_of_place : (ended : Option Block) → IsShort line → line_answer t c.reading line ≡ Ok ended
+      → IsRight t c ended
+      → (IsInPlace t (checked_behind t c line ended) → ⊥)
+      → IsRefused t c line (c.reading.lines + 1) WrongEvents
 
--- What the check of further lines comes to: the number of cycles of an accepted report, or the line that is refused and why.
-abbrev pub EndsAs : Scenario → Checking → Result ℕ (ℕ × Why) → Type 0
-EndsAs t c (Ok cycles) = (cycles ≡ length c.past) × ((s : Summary) × (end_answer c.reading ≡ Ok s))
+-- What the check of further lines comes to: the cycles of an accepted report, the last one first,
+-- or the line that is refused and why.
+abbrev pub EndsAs : Scenario → Checking → Result (List Block) (ℕ × Why) → Type 0
+EndsAs t c (Ok past) = (past ≡ c.past) × ((s : Summary) × (end_answer c.reading ≡ Ok s))
 EndsAs t c (Err (line, why)) = (why ≡ Malformed) × (end_answer c.reading ≡ Err line)
 
-abbrev pub RefusesAs : Scenario → Checking → List ℕ → Result ℕ (ℕ × Why) → Type 0
-RefusesAs t c line (Ok cycles) = ⊥
+abbrev pub RefusesAs : Scenario → Checking → List ℕ → Result (List Block) (ℕ × Why) → Type 0
+RefusesAs t c line (Ok past) = ⊥
 RefusesAs t c line (Err (number, why)) = IsRefused t c line number why
 
-abbrev pub ComesTo : Scenario → Checking → List (List ℕ) → Result ℕ (ℕ × Why) → Type 0
+abbrev pub ComesTo : Scenario → Checking → List (List ℕ) → Result (List Block) (ℕ × Why) → Type 0
 ComesTo t c [] outcome = EndsAs t c outcome
-ComesTo t c (line ∷ rest) outcome = RefusesAs t c line outcome ⊎ ((behind : Checking) × IsPassed t c line behind × ComesTo t behind rest outcome)
+ComesTo t c (line ∷ rest) outcome = RefusesAs t c line outcome
+    ⊎ ((behind : Checking) × IsPassed t c line behind × ComesTo t behind rest outcome)
 
 -- the report is refused at this line, for the first test that fails
 abbrev pub IsRefusedAt : Scenario → List ℕ → ℕ → Why → Type 0

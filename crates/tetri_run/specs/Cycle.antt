@@ -19,16 +19,17 @@ use Rattle.tetri_state.specs.Planning.{IsCarry, instance_at}
 use Rattle.tetri_state.specs.Snapshot.{Snapshot}
 use Rattle.tetri_trace.specs.Scenario.{Scenario}
 
--- The plan of a cycle is honest for this instance, worth at least what is carried over, and certified for this budget; each grant is
--- told with its leaf's start, and exactly the launched jobs are listed.
+-- The plan of a cycle is honest for this instance, worth at least what is carried over, and
+-- certified for this budget; each grant is told with its leaf's start, and exactly the launched
+-- jobs are listed.
 pub record IsPlanFor (i : Space) (budget : ℕ) (carry : List Grant) (b : Block) : Type 0 where
   pub honest : IsHonest i (total_in i carry) (planned b)
   pub certified : IsCertified i budget (planned b)
   pub starts : b.starts ≡ map (start_of i) b.grants
   pub launched : b.launched ≡ launched_in i b.grants
 
--- The cycle that begins in this state: it has the number of the slot, tells what happened, and has a plan for what is
--- pending and carried over then.
+-- The cycle that begins in this state: it has the number of the slot, tells what happened, and has
+-- a plan for what is pending and carried over then.
 pub record IsCycle (t : Scenario) (s : Snapshot) (b : Block) : Type 0 where
   pub number : b.number ≡ s.now
   pub happened : occurrences_in b ≡ occurring t s
@@ -40,10 +41,12 @@ pub record IsCycle (t : Scenario) (s : Snapshot) (b : Block) : Type 0 where
 abbrev pub IsBoundedCycle : Scenario → Snapshot → Block → Type 0
 IsBoundedCycle t s b = BoundsEveryLawful (instance_at t s) b.bound
 
--- The cycle that this planner plans, where lists of grants are given that may be given of its instance: its plan is the chosen one for
--- what is carried over, these lists, which are lawful, and the budget of the trace, with its grants by job and leaf; its certificate
--- may be printed, and its numbers are within the ranges of their lines.
-pub record IsPlannedCycle (MayBeGiven : Space → List (List Grant) → Type 0) (t : Scenario) (s : Snapshot) (b : Block) : Type 0 where
+-- The cycle that this planner plans, where lists of grants are given that may be given of its
+-- instance: its plan is the chosen one for what is carried over, these lists, which are lawful, and
+-- the budget of the trace, with its grants by job and leaf; its certificate may be printed, and its
+-- numbers are within the ranges of their lines.
+pub record IsPlannedCycle (MayBeGiven : Space → List (List Grant)
+    → Type 0) (t : Scenario) (s : Snapshot) (b : Block) : Type 0 where
   pub cycle : IsCycle t s b
   pub bounded : IsBoundedCycle t s b
   pub given : List (List Grant)

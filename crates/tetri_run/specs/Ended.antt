@@ -21,8 +21,11 @@ NeedsMemory (Refused line why) = Unit {0}
 NeedsMemory (BadTrace line why) = Unit {0}
 NeedsMemory status = ⊥
 
--- The line of the status was written, which is empty once all is done. A line that is made in memory may be left out.
+-- The line of the status was written, which is empty once all is done. A line that is made in
+-- memory may be left out.
 abbrev pub IsSaid : Status → Option (List ℕ) → Option (List ℕ) → Type 0
-IsSaid (Refused line why) before after = (after ≡ append_known before (refused_words line why)) ⊎ (after ≡ before)
-IsSaid (BadTrace line why) before after = (after ≡ append_known before (bad_trace_words line why)) ⊎ (after ≡ before)
+IsSaid (Refused line why) before after = (after ≡ append_known before (refused_words line why))
+    ⊎ (after ≡ before)
+IsSaid (BadTrace line why) before after = (after ≡ append_known before (bad_trace_words line why))
+    ⊎ (after ≡ before)
 IsSaid status before after = after ≡ append_known before (status_words status)

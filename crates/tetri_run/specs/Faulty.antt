@@ -25,15 +25,22 @@ why_of failed = Some (whys.Plan failed)
 
 -- the cycle as it has to be in this state, with its own plan
 abbrev pub corrected_at : Scenario → Snapshot → Block → Block
-corrected_at t s b = corrected b s.now (occurring t s) (map (start_of (instance_at t s)) b.grants) (launched_in (instance_at t s) b.grants)
+corrected_at t s b = corrected b s.now (occurring t s) (map (start_of (instance_at t s)) b.grants)
+    (launched_in (instance_at t s) b.grants)
 
--- The cycle, which begins in this state, fails a test, which refuses the line at this place, counted from its first one. First
--- come the tests of its plan. Then its lines are held against those that the state and the plan make: the first that differs is
--- refused, or the one that stands where a line is missing, which may be the line behind the cycle.
+-- The cycle, which begins in this state, fails a test, which refuses the line at this place,
+-- counted from its first one. First come the tests of its plan. Then its lines are held against
+-- those that the state and the plan make: the first that differs is refused, or the one that stands
+-- where a line is missing, which may be the line behind the cycle.
 pub data IsFaulty (t : Scenario) (s : Snapshot) (b : Block) : ℕ → Why → Type 0 where
-  planned_badly : (carry : List Grant) (v : Verdict) (why : Why) → IsCarry (instance_at t s) s.plan carry
-      → IsFirstFailed (instance_at t s) (total_in (instance_at t s) carry) t.header.budget (planned b) v → why_of v ≡ Some why
+  planned_badly : (carry : List Grant) (v : Verdict) (why : Why)
+      → IsCarry (instance_at t s) s.plan carry
+      → IsFirstFailed (instance_at t s) (total_in (instance_at t s) carry) t.header.budget
+      (planned b) v → why_of v ≡ Some why
       → IsFaulty t s b (place_of b v) why
   told_badly : (carry : List Grant) (place : ℕ) → IsCarry (instance_at t s) s.plan carry
-      → ((test : Test) → Passes (instance_at t s) (total_in (instance_at t s) carry) t.header.budget (planned b) test)
-      → DifferFirstAt (block_lines b) (block_lines (corrected_at t s b)) place → IsFaulty t s b place whys.WrongEvents
+      → ((test : Test)
+      → Passes (instance_at t s) (total_in (instance_at t s) carry) t.header.budget
+      (planned b) test)
+      → DifferFirstAt (block_lines b) (block_lines (corrected_at t s b)) place
+      → IsFaulty t s b place whys.WrongEvents

@@ -1,6 +1,7 @@
 pub mod Cycle
 pub mod Run
 pub mod Telling
+pub mod Chosen
 pub mod Advised
 pub mod Faulty
 pub mod Check
@@ -9,6 +10,7 @@ pub mod Progress
 pub mod Words
 pub mod Promised
 pub mod Status
+pub mod CheckEnds
 pub mod Ended
 pub mod ByParts
 pub mod Admitting

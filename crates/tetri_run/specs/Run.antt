@@ -21,7 +21,8 @@ plans_of past = map (λ b. b.grants) past
 abbrev pub state_behind : Scenario → List Block → Snapshot
 state_behind = state_behind_cycles block_cycles
 
--- each of the cycles begins before the end of the trace, and is such a cycle in the state that the earlier ones leave
+-- each of the cycles begins before the end of the trace, and is such a cycle in the state that the
+-- earlier ones leave
 abbrev pub IsRunOf : (Scenario → Snapshot → Block → Type 0) → Scenario → List Block → Type 0
 IsRunOf = AreCycles block_cycles
 
@@ -33,14 +34,15 @@ IsRun = IsRunOf IsCycle
 abbrev pub BoundsHold : Scenario → List Block → Type 0
 BoundsHold = IsRunOf IsBoundedCycle
 
--- Behind one cycle more the piece still runs, on the same nodes, or the cycle tells that the piece ended, or that its job was
--- cancelled or failed.
+-- Behind one cycle more the piece still runs, on the same nodes, or the cycle tells that the piece
+-- ended, or that its job was cancelled or failed.
 abbrev pub RunsOnBehind : Scenario → List Block → Block → Piece → Type 0
 RunsOnBehind t past b p =
     ((q : Piece) × Contains (state_behind t (b ∷ past)).pieces q × IsSameRun p q)
     ⊎ (Contains b.ended (named p) ⊎ (Contains b.cancelled p.job ⊎ Contains b.failed p.job))
 
--- a run that this planner plans, where lists are given in each cycle that may be given of its instance
+-- a run that this planner plans, where lists are given in each cycle that may be given of its
+-- instance
 abbrev pub IsPlannedRun : (Space → List (List Grant) → Type 0) → Scenario → List Block → Type 0
 IsPlannedRun MayBeGiven = IsRunOf (IsPlannedCycle MayBeGiven)
 

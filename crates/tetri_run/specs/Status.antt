@@ -28,26 +28,35 @@ use Rattle.tetri_run.specs.declared.telling.Telling.TheVariants.{Report, Tight}
 use Rattle.tetri_run.specs.declared.status.Status.TheVariants.{Done, Refused, Usage, ReadFault, WriteFault, BadTrace, NoMemory}
 
 -- What a status says of planning the trace that was read by such a run, whose report is written.
-abbrev pub IsPromisedOf : (Scenario → List Block → Type 0) → Status → Result Scenario (ℕ × TraceWhy) → Option (List ℕ) → Option (List ℕ) → Type 0
-IsPromisedOf IsSuch = IsPromisedBy (WroteReport IsSuch) (StoppedInText block_cycles Report IsSuch) (StoppedBetween block_cycles Report IsSuch)
+abbrev pub IsPromisedOf : (Scenario → List Block → Type 0) → Status → Result Scenario (ℕ × TraceWhy)
+    → Option (List ℕ) → Option (List ℕ) → Type 0
+IsPromisedOf IsSuch = IsPromisedBy (WroteReport IsSuch) (StoppedInText block_cycles Report IsSuch)
+    (StoppedBetween block_cycles Report IsSuch)
 
--- What a status says of planning the trace that was read by such a run, of which is written what cuts make of the bound of each cycle: the
--- value of a cycle is attained by a lawful allotment, and no lawful allotment is worth more than the tightened bound.
-abbrev pub IsTightPromised : (Scenario → List Block → Type 0) → Status → Result Scenario (ℕ × TraceWhy) → Option (List ℕ) → Option (List ℕ) → Type 0
-IsTightPromised IsSuch = IsPromisedBy (WroteRun block_cycles Tight IsSuch) (StoppedInText block_cycles Tight IsSuch) (StoppedBetween block_cycles Tight IsSuch)
+-- What a status says of planning the trace that was read by such a run, of which is written what
+-- cuts make of the bound of each cycle: the value of a cycle is attained by a lawful allotment, and
+-- no lawful allotment is worth more than the tightened bound.
+abbrev pub IsTightPromised : (Scenario → List Block → Type 0) → Status
+    → Result Scenario (ℕ × TraceWhy) → Option (List ℕ) → Option (List ℕ) → Type 0
+IsTightPromised IsSuch = IsPromisedBy (WroteRun block_cycles Tight IsSuch)
+    (StoppedInText block_cycles Tight IsSuch) (StoppedBetween block_cycles Tight IsSuch)
 
 -- What such a run of a trace that is told so answers, of the written bytes before and after.
-abbrev pub IsRunAnswer : Telling → (Scenario → List Block → Type 0) → Status → Scenario → Option (List ℕ) → Option (List ℕ) → Type 0
+abbrev pub IsRunAnswer : Telling → (Scenario → List Block → Type 0) → Status → Scenario
+    → Option (List ℕ) → Option (List ℕ) → Type 0
 IsRunAnswer telling IsSuch Done t before after = WroteRun block_cycles telling IsSuch t before after
 IsRunAnswer telling IsSuch (Refused line why) t before after = ⊥
 IsRunAnswer telling IsSuch Usage t before after = ⊥
 IsRunAnswer telling IsSuch ReadFault t before after = ⊥
-IsRunAnswer telling IsSuch WriteFault t before after = StoppedInText block_cycles telling IsSuch t before after
+IsRunAnswer telling IsSuch WriteFault t before after = StoppedInText block_cycles telling IsSuch t
+    before after
 IsRunAnswer telling IsSuch (BadTrace line why) t before after = ⊥
-IsRunAnswer telling IsSuch NoMemory t before after = StoppedBetween block_cycles telling IsSuch t before after
+IsRunAnswer telling IsSuch NoMemory t before after = StoppedBetween block_cycles telling IsSuch t
+    before after
 
 -- The same of any run that this planner plans, whatever lists were given in its cycles.
-abbrev pub IsPromised : Status → Result Scenario (ℕ × TraceWhy) → Option (List ℕ) → Option (List ℕ) → Type 0
+abbrev pub IsPromised : Status → Result Scenario (ℕ × TraceWhy) → Option (List ℕ) → Option (List ℕ)
+    → Type 0
 IsPromised = IsPromisedOf (IsPlannedRun AnyLists)
 
 -- what is written of an accepted report
@@ -56,11 +65,14 @@ accepted_text cycles = codes "accepted " ++ decimal cycles ++ codes "\n"
 
 -- What checking a report against a trace answers, of the written bytes before and after.
 abbrev pub IsCheckAnswer : Status → Scenario → List ℕ → Option (List ℕ) → Option (List ℕ) → Type 0
-IsCheckAnswer Done t report before after = IsAssured t report × (after ≡ append_known before (accepted_text t.header.until))
-IsCheckAnswer (Refused line why) t report before after = IsRefusedAt t report line why × (IsAccepted t report → ⊥)
+IsCheckAnswer Done t report before after = IsAssured t report
+    × (after ≡ append_known before (accepted_text t.header.until))
+IsCheckAnswer (Refused line why) t report before after = IsRefusedAt t report line why
+    × (IsAccepted t report → ⊥)
 IsCheckAnswer Usage t report before after = ⊥
 IsCheckAnswer ReadFault t report before after = Unit {0}
-IsCheckAnswer WriteFault t report before after = IsAssured t report × AppendsPart before after (accepted_text t.header.until)
+IsCheckAnswer WriteFault t report before after = IsAssured t report
+    × AppendsPart before after (accepted_text t.header.until)
 IsCheckAnswer (BadTrace line why) t report before after = ⊥
 IsCheckAnswer NoMemory t report before after = Unit {0}
 
@@ -69,14 +81,16 @@ abbrev pub IsRefusal : Status → Scenario → List ℕ → Type 0
 IsRefusal (Refused line why) t report = IsRefusedAt t report line why
 IsRefusal status t report = ⊥
 
--- What a status says of checking a report against the trace that was read: that this is refused, or is accepted and the
--- report was checked.
-abbrev pub IsCheckPromised : Status → Result Scenario (ℕ × TraceWhy) → List ℕ → Option (List ℕ) → Option (List ℕ) → Type 0
+-- What a status says of checking a report against the trace that was read: that this is refused, or
+-- is accepted and the report was checked.
+abbrev pub IsCheckPromised : Status → Result Scenario (ℕ × TraceWhy) → List ℕ → Option (List ℕ)
+    → Option (List ℕ) → Type 0
 IsCheckPromised (BadTrace line why) trace report before after = trace ≡ Err (line, why)
 IsCheckPromised Usage trace report before after = Unit {0}
 IsCheckPromised ReadFault trace report before after = Unit {0}
 IsCheckPromised NoMemory trace report before after = Unit {0}
-IsCheckPromised status trace report before after = (t : Scenario) × (trace ≡ Ok t) × IsCheckAnswer status t report before after
+IsCheckPromised status trace report before after = (t : Scenario) × (trace ≡ Ok t)
+    × IsCheckAnswer status t report before after
 
 -- Where the words, the trace or the report are refused, or cannot be read, nothing is written.
 abbrev pub IsSilent : Status → Option (List ℕ) → Option (List ℕ) → Type 0
@@ -97,7 +111,8 @@ status_of trace_faults.NoMemory = NoMemory
 -- A fault was counted of a name that the words give.
 abbrev pub RoseOf : Asked → (List ℕ → ℕ) → (List ℕ → ℕ) → Type 0
 RoseOf (to_plan trace) before after = Rose (before trace) (after trace)
-RoseOf (to_check trace report) before after = Rose (before trace) (after trace) ⊎ Rose (before report) (after report)
+RoseOf (to_check trace report) before after = Rose (before trace) (after trace)
+    ⊎ Rose (before report) (after report)
 RoseOf (to_load number) before after = ⊥
 RoseOf (to_parts trace) before after = Rose (before trace) (after trace)
 RoseOf (to_tight trace) before after = Rose (before trace) (after trace)
@@ -113,7 +128,8 @@ trace_of (to_tight trace) = Some trace
 trace_of (to_admit trace) = Some trace
 
 -- What such a run of a trace answers, for its summary alone, of the written bytes before and after.
-abbrev pub IsLoadAnswer : (Scenario → List Block → Type 0) → Status → Scenario → Option (List ℕ) → Option (List ℕ) → Type 0
+abbrev pub IsLoadAnswer : (Scenario → List Block → Type 0) → Status → Scenario → Option (List ℕ)
+    → Option (List ℕ) → Type 0
 IsLoadAnswer IsSuch Done t before after = WroteSummary IsSuch t before after
 IsLoadAnswer IsSuch (Refused line why) t before after = ⊥
 IsLoadAnswer IsSuch Usage t before after = ⊥
@@ -124,13 +140,15 @@ IsLoadAnswer IsSuch NoMemory t before after = after ≡ before
 
 -- a line of a trace and what is wrong with it
 unfoldable pub bad_trace_words : ℕ → TraceWhy → List ℕ
-bad_trace_words line why = codes "bad trace: line " ++ decimal line ++ codes ": " ++ why_words why ++ codes "\n"
+bad_trace_words line why = codes "bad trace: line " ++ decimal line ++ codes ": " ++ why_words why
+    ++ codes "\n"
 
 -- a value after a space
 abbrev pub value : ℕ → List ℕ
 value n = codes " " ++ decimal n
 
--- the name of a test that the plan of a cycle fails, and the values that show it; no refusal is for want of memory
+-- the name of a test that the plan of a cycle fails, and the values that show it; no refusal is for
+-- want of memory
 abbrev pub verdict_name : Verdict → List ℕ
 verdict_name (verdicts.Unlawful u) = codes "unlawful"
 verdict_name (verdicts.WrongValue printed found) = codes "wrong-value"
@@ -167,7 +185,8 @@ refusal_values (refusals.Plan v) = verdict_values v
 refusal_values refusals.WrongEvents = []
 
 unfoldable pub refused_words : ℕ → Why → List ℕ
-refused_words line why = codes "refused: line " ++ decimal line ++ codes ": " ++ refusal_name why ++ refusal_values why ++ codes "\n"
+refused_words line why = codes "refused: line " ++ decimal line ++ codes ": " ++ refusal_name why
+    ++ refusal_values why ++ codes "\n"
 
 -- the line that is said of a status, which is empty once all is done
 abbrev pub status_words : Status → List ℕ

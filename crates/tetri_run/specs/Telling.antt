@@ -14,14 +14,15 @@ use Rattle.tetri_trace.specs.Scenario.{Scenario}
 use Rattle.tetri_run.specs.declared.telling.Telling.{Telling}
 use Rattle.tetri_run.specs.declared.telling.Telling.TheVariants.{Report, Tight, Untold}
 
--- The text tells what cuts make of the bound of a cycle with this instance: its value is attained by its grants, which are lawful, and no
--- lawful allotment is worth more than the tightened bound.
+-- The text tells what cuts make of the bound of a cycle with this instance: its value is attained
+-- by its grants, which are lawful, and no lawful allotment is worth more than the tightened bound.
 pub record IsToldTight (i : Space) (b : Block) (text : List ℕ) : Type 0 where
   pub lines : IsTightText i b.number b.value b.bound b.certificate text
   pub lawful : IsLawful i b.grants
   pub attained : total_in i b.grants ≡ b.value
 
--- The text tells of a cycle with this instance: it is its block of the report, or tells what cuts make of its bound, or is empty.
+-- The text tells of a cycle with this instance: it is its block of the report, or tells what cuts
+-- make of its bound, or is empty.
 abbrev pub IsTold : Telling → Scenario → Space → Block → List ℕ → Type 0
 IsTold Report t i b text = text ≡ cycle_text t b
 IsTold Tight t i b text = IsToldTight i b text

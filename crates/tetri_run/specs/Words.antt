@@ -5,8 +5,9 @@ use Rattle.tetri_io.specs.Numbers.{digits_below}
 use Rattle.tetri_run.specs.declared.words.Request.{Request}
 use Rattle.tetri_run.specs.declared.words.Request.TheVariants.{Plan, Check, Load, Parts, Tight, Admit}
 
--- to plan the trace of this name, to check a report against a trace, to run the trace that is made of this number, to plan the trace of
--- this name part by part, to plan it and tighten its bounds by cuts, or to ask which of its first jobs can be served together
+-- to plan the trace of this name, to check a report against a trace, to run the trace that is made
+-- of this number, to plan the trace of this name part by part, to plan it and tighten its bounds by
+-- cuts, or to ask which of its first jobs can be served together
 pub data Asked : Type 0 where
   to_plan : (trace : List ℕ) → Asked
   to_check : (trace report : List ℕ) → Asked
@@ -15,7 +16,8 @@ pub data Asked : Type 0 where
   to_tight : (trace : List ℕ) → Asked
   to_admit : (trace : List ℕ) → Asked
 
--- `plan`, `parts`, `tight` or `admit` and one more word; `load` and 1 to 10 digits of a number below 2^31; or `check` and two more words
+-- `plan`, `parts`, `tight` or `admit` and one more word; `load` and 1 to 10 digits of a number
+-- below 2^31; or `check` and two more words
 abbrev pub asked : List (List ℕ) → Option Asked
 asked (verb ∷ word ∷ []) =
     if bytes_eq verb (codes "plan") then Some (to_plan word)
@@ -23,7 +25,8 @@ asked (verb ∷ word ∷ []) =
     else (if bytes_eq verb (codes "parts") then Some (to_parts word)
     else (if bytes_eq verb (codes "tight") then Some (to_tight word)
     else (if bytes_eq verb (codes "admit") then Some (to_admit word) else None))))
-asked (verb ∷ trace ∷ report ∷ []) = if bytes_eq verb (codes "check") then Some (to_check trace report) else None
+asked (verb ∷ trace ∷ report ∷ []) = if bytes_eq verb (codes "check")
+    then Some (to_check trace report) else None
 asked words = None
 
 -- the same of names that are kept

@@ -16,9 +16,10 @@ use tetri_io::{Shelf, Sink};
 use tetri_report::SendFault;
 use tetri_trace::read_trace;
 
-/// Answers for each job that is pending in the first slot of the trace that a name holds whether it can be served together with those
-/// booked before it, with the trace's budget, and writes each answer by one send once it is made, and then the count of booked jobs by
-/// one more. Later slots are not run.
+/// Answers for each job that is pending in the first slot of the trace that a name holds whether it
+/// can be served together with those booked before it, with the trace's budget, and writes each
+/// answer by one send once it is made, and then the count of booked jobs by one more. Later slots
+/// are not run.
 pub fn run_admit<S: Shelf, K: Sink>(
     alloc: Global,
     name: &str,
@@ -38,7 +39,8 @@ pub fn run_admit<S: Shelf, K: Sink>(
         → ¬ Rose (S.faults shelf.old name.now) (S.faults shelf.new name.now)
         → ¬ Rose (K.faults sink.old) (K.faults sink.new)
         → (result ≡ Status.Done) ⊎ (result ≡ Status.NoMemory) }
-    ensures refuses { (content : List ℕ) (line : ℕ) (why : TraceWhy) → S.told shelf.old name.now ≡ Some content
+    ensures refuses { (content : List ℕ) (line : ℕ) (why : TraceWhy)
+        → S.told shelf.old name.now ≡ Some content
         → scenario_in content ≡ Err (line, why)
         → ¬ Rose (S.faults shelf.old name.now) (S.faults shelf.new name.now)
         → (result ≡ Status.BadTrace line why) ⊎ (result ≡ Status.NoMemory) }

@@ -39,14 +39,13 @@ impl<A: Advisor> Planner<Telling> for PanelOf<A> {
         let happened = state.begin_cycle(alloc, trace)?;
         let inst = state.instance(alloc, trace)?;
         let carry = state.carry(alloc, trace, &inst)?;
-        let budget = trace.header.budget;
-        let told = told_cycle(alloc, &inst, inst.now, happened, &carry, self, budget)?;
+        let told = told_cycle(alloc, trace, &inst, happened, &carry, self)?;
         let text = told_text(alloc, trace, &inst, &told.cycle, telling)?;
-        let prepared = state.prepare(alloc, trace, &inst, &told.cycle.grants)?;
         let tally = SlotTally {
-            worth: told.launched_worth,
+            worth: told.launch.worth,
             optimal: optimal_count(told.cycle.mark),
         };
+        let prepared = state.prepare_launch(alloc, told.launch, &told.cycle.grants)?;
         Ok(Ready {
             text,
             prepared,

@@ -1,12 +1,16 @@
 // The check of a report, line by line.
-ghost use Rattle.std.specs.Prelude.{◌≡◌, ◌↔◌, ◌+◌, ◌≤◌, ◌<◌, ◌^◌, List, ℕ, Some, IsErrOf, IsTrue, IfOk};
+ghost use Rattle.std.specs.Prelude.{◌≡◌, ◌↔◌, ◌+◌, ◌≤◌, ◌<◌, ◌^◌, List, ℕ, Option, Ok, Some, IsErrOf, IsTrue, IfOk, OnOk, length};
 ghost use Rattle.tetri_algebra.specs.Counts.{Rose};
 ghost use Rattle.tetri_cert.specs.declared.certificate.Certificate.TheVariants.{Tops};
+ghost use Rattle.tetri_cycles.specs.Observed.{Observed};
 ghost use Rattle.tetri_report.specs.Block.{Block, headed};
+ghost use Rattle.tetri_report.specs.Reading.{line_answer};
 ghost use Rattle.tetri_report.specs.Strips as strips;
-ghost use Rattle.tetri_report.specs.Strips.{telling};
+ghost use Rattle.tetri_report.specs.Strips.{block_told, telling};
 ghost use Rattle.tetri_run.specs.Check.{Checking, ComesTo, FitsRun, IsShort, lines_in, unchecked};
-ghost use Rattle.tetri_run.specs.Checked.{AnswersLine, AnswersPlace, AnswersReport, AnswersTaken, CountsRun, IsAt, IsFed, halt_of};
+ghost use Rattle.tetri_run.specs.Checked.{AnswersLine, AnswersPlace, AnswersReport, AnswersTaken, CountsRun, IsAt, IsFed, SawEnded};
+ghost use Rattle.tetri_run.specs.Run.{in_order, state_behind};
+ghost use Rattle.tetri_state.specs.Snapshot.{opening_state};
 ghost use Rattle.tetri_trace.specs.Scenario.{scenario};
 ghost use Rattle.tetri_trace.specs.Sound.{IsSound};
 
@@ -15,18 +19,18 @@ use crate::halt::CheckHalt;
 use crate::sight::{Sight, see_node, view_of};
 use crate::why::Why;
 use std::alloc::{AllocError, Global};
-use tetri_cycles::{RunTally, summary_at};
+use tetri_cycles::{Observer, RunTally, SeenSlot, summary_at};
 use tetri_io::{Line, LineFault, LineReader, Shelf};
-use tetri_report::{Head, ReportFault, Strips, Told};
+use tetri_report::{Head, Strips, Told};
 use tetri_state::State;
 use tetri_trace::Trace;
 
 // No line of a report has more bytes.
 const LINE_MOST: usize = 1_048_576;
 
-/// How far the check of a report has come: the state behind the cycles that were accepted, which has begun the next slot where a tree
-/// is told of it, what is read of the next cycle and what is seen of its certificate, the line at which that cycle begins, and what is
-/// added up.
+/// How far the check of a report has come: the state behind the cycles that were accepted, which
+/// has begun the next slot where a tree is told of it, what is read of the next cycle and what is
+/// seen of its certificate, the line at which that cycle begins, and what is added up.
 #[derive(Drop)]
 pub(crate) struct Progress {
     pub(crate) state: State,
@@ -57,22 +61,43 @@ fn begin_check(alloc: Global, trace: &Trace) -> Result<Progress, AllocError>
     })
 }
 
-// Checks the cycle that this line ended, and goes on behind it.
-fn end_cycle(
+// How many pieces run in a state. Its only error is that they are more than memory can hold.
+fn count_pieces(state: &State) -> Result<usize, AllocError>
+    ensures { IfOk result (λ count. count ≡ length state.entry.now.pieces) }
+{
+    for count in 0..usize::MAX {
+        if state.piece(count).is_none() {
+            return Ok(count);
+        }
+    }
+    Err(AllocError)
+}
+
+// Checks the cycle that this line ended, shows it to the observer, and goes on behind it.
+fn end_cycle<O: Observer>(
     alloc: Global,
     trace: &Trace,
     progress: &mut Progress,
+    observer: &mut O,
     number: u64,
     head: &Head,
 ) -> Result<(), CheckHalt>
     requires sound { IsSound (scenario trace.now) }
     requires fed { (c : Checking) × (line : List ℕ)
-        × IsFed (scenario trace.now) c progress.old line (strips.ended (headed head.now (Tops 0 0))) }
+        × IsFed (scenario trace.now) c progress.old line
+        (strips.ended (headed head.now (Tops 0 0))) }
     requires number { number ≡ progress.old.strips.lines }
     requires few { number < 2 ^ 63 }
-    ensures { (c : Checking) (line : List ℕ)
-        → IsFed (scenario trace.entry.now) c progress.old line (strips.ended (headed head.entry.now (Tops 0 0)))
+    ensures answer { (c : Checking) (line : List ℕ)
+        → IsFed (scenario trace.entry.now) c progress.old line
+        (strips.ended (headed head.entry.now (Tops 0 0)))
         → AnswersTaken result (scenario trace.entry.now) c progress.new line }
+    ensures saw { (c : Checking) (line : List ℕ)
+        → IsFed (scenario trace.entry.now) c progress.old line
+        (strips.ended (headed head.entry.now (Tops 0 0)))
+        → OnOk result
+        (O.saw (scenario trace.entry.now) (state_behind (scenario trace.entry.now) c.past)
+        (headed head.entry.now c.reading.block.certificate) observer.old observer.new) }
 {
     let unseen = Sight::Tops {
         columns: 0,
@@ -80,38 +105,42 @@ fn end_cycle(
     };
     let sight = std::mem::replace(&mut progress.sight, unseen);
     let view = view_of(alloc, trace, &mut progress.state, sight)?;
-    match check_cycle(
-        alloc,
-        trace,
-        &mut progress.state,
-        progress.first,
-        head,
-        &view,
-    ) {
-        Ok(slot) => {
-            progress.first = number;
-            progress.tally.worth += u128::from(slot.worth);
-            progress.tally.optimal += slot.optimal;
-            Ok(())
-        }
-        Err(halt) => Err(halt),
-    }
+    let held = count_pieces(&progress.state)?;
+    let first = progress.first;
+    let tally = check_cycle(alloc, trace, &mut progress.state, first, head, &view)?;
+    let slot = SeenSlot {
+        inst: &view.slot.inst,
+        held,
+        worth: tally.worth,
+    };
+    observer.see(alloc, trace, &progress.state, slot, head)?;
+    progress.first = number;
+    progress.tally.worth += u128::from(tally.worth);
+    progress.tally.optimal += tally.optimal;
+    Ok(())
 }
 
 // Takes what the line told that was read, which has this number.
-fn take(
+fn take<O: Observer>(
     alloc: Global,
     trace: &Trace,
     progress: &mut Progress,
+    observer: &mut O,
     number: u64,
     told: Told,
 ) -> Result<(), CheckHalt>
     requires sound { IsSound (scenario trace.now) }
-    requires fed { (c : Checking) × (line : List ℕ) × IsFed (scenario trace.now) c progress.old line (telling told) }
+    requires fed { (c : Checking) × (line : List ℕ)
+        × IsFed (scenario trace.now) c progress.old line (telling told) }
     requires number { number ≡ progress.old.strips.lines }
     requires few { number < 2 ^ 63 }
-    ensures { (c : Checking) (line : List ℕ) → IsFed (scenario trace.entry.now) c progress.old line (telling told)
+    ensures answer { (c : Checking) (line : List ℕ)
+        → IsFed (scenario trace.entry.now) c progress.old line (telling told)
         → AnswersTaken result (scenario trace.entry.now) c progress.new line }
+    ensures saw { (c : Checking) (line : List ℕ)
+        → IsFed (scenario trace.entry.now) c progress.old line (telling told)
+        → OnOk result (SawEnded O.saw (scenario trace.entry.now) c.past
+        (block_told c.reading.block.certificate (telling told)) observer.old observer.new) }
 {
     match told {
         Told::More => Ok(()),
@@ -129,10 +158,7 @@ fn take(
             )?;
             Ok(())
         }
-        Told::Block(head) => match end_cycle(alloc, trace, progress, number, &head) {
-            Ok(()) => Ok(()),
-            Err(halt) => Err(halt),
-        },
+        Told::Block(head) => end_cycle(alloc, trace, progress, observer, number, &head),
     }
 }
 
@@ -162,45 +188,38 @@ fn test_place(trace: &Trace, progress: &Progress, number: u64) -> Result<(), Che
     })
 }
 
-// The end of a check that a fault of the report's text makes.
-fn halt_of(fault: ReportFault) -> CheckHalt
-    ensures { result ≡ halt_of fault }
-{
-    match fault {
-        ReportFault::Malformed(line) => CheckHalt::Refused {
-            line,
-            why: Why::Malformed,
-        },
-        ReportFault::NoMemory => CheckHalt::NoMemory,
-    }
-}
-
 // Goes on behind a line that was read, which has this number and told this.
-fn go_on(
+fn go_on<O: Observer>(
     alloc: Global,
     trace: &Trace,
     progress: &mut Progress,
+    observer: &mut O,
     number: u64,
     told: Told,
 ) -> Result<(), CheckHalt>
     requires sound { IsSound (scenario trace.now) }
-    requires fed { (c : Checking) × (line : List ℕ) × IsFed (scenario trace.now) c progress.old line (telling told) }
+    requires fed { (c : Checking) × (line : List ℕ)
+        × IsFed (scenario trace.now) c progress.old line (telling told) }
     requires number { number ≡ progress.old.strips.lines }
     requires few { number < 2 ^ 63 }
-    ensures { (c : Checking) (line : List ℕ) → IsFed (scenario trace.entry.now) c progress.old line (telling told)
+    ensures answer { (c : Checking) (line : List ℕ)
+        → IsFed (scenario trace.entry.now) c progress.old line (telling told)
         → AnswersLine result (scenario trace.entry.now) c progress.new line }
+    ensures saw { (c : Checking) (line : List ℕ)
+        → IsFed (scenario trace.entry.now) c progress.old line (telling told)
+        → OnOk result (SawEnded O.saw (scenario trace.entry.now) c.past
+        (block_told c.reading.block.certificate (telling told)) observer.old observer.new) }
 {
-    match take(alloc, trace, progress, number, told) {
-        Ok(()) => test_place(trace, progress, number),
-        Err(halt) => Err(halt),
-    }
+    take(alloc, trace, progress, observer, number, told)?;
+    test_place(trace, progress, number)
 }
 
 // Checks one line more, which has this number.
-fn check_line(
+fn check_line<O: Observer>(
     alloc: Global,
     trace: &Trace,
     progress: &mut Progress,
+    observer: &mut O,
     number: u64,
     line: &[u8],
 ) -> Result<(), CheckHalt>
@@ -209,26 +228,34 @@ fn check_line(
     requires short { IsShort line.now }
     requires number { number ≡ progress.old.strips.lines + 1 }
     requires few { number < 2 ^ 63 }
-    ensures { (c : Checking) → IsAt (scenario trace.entry.now) c progress.old
+    ensures answer { (c : Checking) → IsAt (scenario trace.entry.now) c progress.old
         → AnswersLine result (scenario trace.entry.now) c progress.new line.now }
+    ensures saw { (c : Checking) (ended : Option Block)
+        → IsAt (scenario trace.entry.now) c progress.old
+        → line_answer (scenario trace.entry.now) c.reading line.now ≡ Ok ended
+        → OnOk result
+        (SawEnded O.saw (scenario trace.entry.now) c.past ended observer.old observer.new) }
 {
-    match progress.strips.feed(trace, line) {
-        Ok(told) => go_on(alloc, trace, progress, number, told),
-        Err(fault) => Err(halt_of(fault)),
-    }
+    let told = progress.strips.feed(trace, line)?;
+    go_on(alloc, trace, progress, observer, number, told)
 }
 
-/// Checks the report that a name holds against the trace: the number of its cycles, where it is accepted.
-pub(crate) fn check_report<S: Shelf>(
+/// Checks the report that a name holds against the trace, and shows its cycles to the observer.
+pub(crate) fn check_report<S: Shelf, O: Observer>(
     alloc: Global,
     trace: &Trace,
     shelf: &mut S,
     name: &str,
-) -> Result<u64, CheckHalt>
+    observer: &mut O,
+) -> Result<(), CheckHalt>
     requires { IsSound (scenario trace.now) }
     ensures answer { (content : List ℕ) → S.told shelf.old name.now ≡ Some content
-        → AnswersReport result (ComesTo (scenario trace.entry.now) unchecked (lines_in content)) }
-    ensures read { IsErrOf result CheckHalt.ReadFault → Rose (S.faults shelf.old name.now) (S.faults shelf.new name.now) }
+        → AnswersReport result (ComesTo (scenario trace.entry.now) unchecked (lines_in content))
+        (λ past. Observed O.saw (scenario trace.entry.now)
+        (opening_state (scenario trace.entry.now)) (in_order past)
+        observer.old observer.new) }
+    ensures read { IsErrOf result CheckHalt.ReadFault
+        → Rose (S.faults shelf.old name.now) (S.faults shelf.new name.now) }
     ensures same { S.told shelf.new ≡ S.told shelf.old }
     ensures later { (other : List ℕ) → S.faults shelf.old other ≤ S.faults shelf.new other }
 {
@@ -238,10 +265,7 @@ pub(crate) fn check_report<S: Shelf>(
     'lines: loop {
         match reader.next_line(alloc, shelf, name, LINE_MOST) {
             Ok(Line::Text { bytes, next: _next }) => {
-                match check_line(alloc, trace, &mut progress, number, &bytes) {
-                    Ok(()) => {}
-                    Err(halt) => return Err(halt),
-                }
+                check_line(alloc, trace, &mut progress, observer, number, &bytes)?;
                 number += 1;
             }
             Ok(Line::End) => break 'lines,
@@ -255,9 +279,6 @@ pub(crate) fn check_report<S: Shelf>(
             Err(LineFault::NoMemory) => return Err(CheckHalt::NoMemory),
         }
     }
-    let cycles = u64::from(progress.state.now());
-    match progress.strips.finish() {
-        Ok(_) => Ok(cycles),
-        Err(fault) => Err(halt_of(fault)),
-    }
+    progress.strips.finish()?;
+    Ok(())
 }

@@ -23,7 +23,7 @@ use tetri_cycles::SlotTally;
 use tetri_judge::{Seen, Verdict, judge_seen, place_of};
 use tetri_report::{Expected, Head, first_other_line_by_head};
 use tetri_space::{Instance, total};
-use tetri_state::{State, launch_of, starts_of};
+use tetri_state::{State, find_launch};
 use tetri_trace::Trace;
 
 // The line at which a verdict refuses the plan, and why, unless memory ran out.
@@ -51,7 +51,8 @@ fn test_plan(
     seen: &Seen,
 ) -> Result<(), CheckHalt>
     requires sound { IsSoundInstance (space inst.now) }
-    requires few { (c : Certificate) × Tells (space inst.now) c seen.now × (first + end_place (headed head.now c) < 2 ^ 64) }
+    requires few { (c : Certificate) × Tells (space inst.now) c seen.now
+        × (first + end_place (headed head.now c) < 2 ^ 64) }
     ensures { (c : Certificate) → Tells (space inst.entry.now) c seen.entry.now
         → AnswersPlan result (space inst.entry.now) carry budget first (headed head.entry.now c) }
 {
@@ -61,8 +62,9 @@ fn test_plan(
     }
 }
 
-/// Checks the cycle that is viewed so, whose slot has begun with the state and whose first line has this number: first its plan, and
-/// then all else that it tells. What it launches is launched where nothing is wrong.
+/// Checks the cycle that is viewed so, whose slot has begun with the state and whose first line has
+/// this number: first its plan, and then all else that it tells. What it launches is launched where
+/// nothing is wrong.
 pub(crate) fn check_cycle(
     alloc: Global,
     trace: &Trace,
@@ -75,35 +77,27 @@ pub(crate) fn check_cycle(
     requires sound_instance { IsSoundInstance (space view.now.slot.inst) }
     requires reached { IsReached (scenario trace.now) begun state.old }
     requires instance { space view.now.slot.inst ≡ instance_of (scenario trace.now) state.old }
-    requires tells { (c : Certificate) × Tells (space view.now.slot.inst) c view.now.seen × (length (certificate_lines c) ≡ view.now.lines)
+    requires tells { (c : Certificate) × Tells (space view.now.slot.inst) c view.now.seen
+        × (length (certificate_lines c) ≡ view.now.lines)
         × (first + end_place (headed head.now c) < 2 ^ 64) }
     requires starts { length head.now.starts.items ≡ length head.now.grants }
-    ensures answer { (last : Snapshot) (c : Certificate) → IsViewOf (scenario trace.entry.now) last c state.old view.entry.now
-        → AnswersCycle result (scenario trace.entry.now) last state.new first (headed head.entry.now c) }
+    ensures answer { (last : Snapshot) (c : Certificate)
+        → IsViewOf (scenario trace.entry.now) last c state.old view.entry.now
+        → AnswersCycle result (scenario trace.entry.now) last state.new first
+        (headed head.entry.now c) }
     ensures most { IfOk result (λ tally. tally.optimal ≤ 1) }
     ensures small { IfOk result (λ tally. tally.worth < 2 ^ 64) }
 {
     let inst = &view.slot.inst;
     let carry = state.carry(alloc, trace, inst)?;
     let carried = total(inst, &carry);
-    match test_plan(
-        alloc,
-        inst,
-        carried,
-        trace.header.budget,
-        first,
-        head,
-        &view.seen,
-    ) {
-        Ok(()) => {}
-        Err(halt) => return Err(halt),
-    }
-    let starts = starts_of(alloc, inst, head.grants.as_slice())?;
-    let launch = launch_of(alloc, inst, head.grants.as_slice())?;
+    let budget = trace.header.budget;
+    test_plan(alloc, inst, carried, budget, first, head, &view.seen)?;
+    let launch = find_launch(alloc, trace, inst, head.grants.as_slice())?;
     let expected = Expected {
         number: inst.now,
         happened: &view.slot.happened,
-        starts: &starts,
+        starts: &launch.starts,
         launched: &launch.jobs,
     };
     if let Some(place) = first_other_line_by_head(head, view.lines, expected) {
@@ -112,10 +106,11 @@ pub(crate) fn check_cycle(
             why: Why::WrongEvents,
         });
     }
-    let prepared = state.prepare(alloc, trace, inst, &head.grants)?;
-    state.apply(prepared);
-    Ok(SlotTally {
+    let tally = SlotTally {
         worth: launch.worth,
         optimal: optimal_count(head.mark),
-    })
+    };
+    let prepared = state.prepare_launch(alloc, launch, &head.grants)?;
+    state.apply(prepared);
+    Ok(tally)
 }

@@ -24,8 +24,8 @@ pub fn exit_number(status: &Status) -> u8
     }
 }
 
-/// The status of a call whose words were not read, by the kind of error that kept them from it: want of memory is told as such, and
-/// words that are no text are none of the forms.
+/// The status of a call whose words were not read, by the kind of error that kept them from it:
+/// want of memory is told as such, and words that are no text are none of the forms.
 pub fn status_of_words(error: ErrorKind) -> Status
     ensures memory { (result ≡ Status.NoMemory) ↔ (error ≡ ErrorKind.OutOfMemory) }
     ensures usage { (result ≡ Status.NoMemory) ⊎ (result ≡ Status.Usage) }
@@ -36,8 +36,9 @@ pub fn status_of_words(error: ErrorKind) -> Status
     }
 }
 
-/// Says a status on the sink of errors, and gives the number with which the program exits, whether or not it could be said. Where no
-/// fault of that sink was counted, the status was said, but for want of memory for a line that has numbers.
+/// Says a status on the sink of errors, and gives the number with which the program exits, whether
+/// or not it could be said. Where no fault of that sink was counted, the status was said, but for
+/// want of memory for a line that has numbers.
 pub fn conclude<K: Sink>(alloc: Global, status: &Status, errors: &mut K) -> u8
     ensures number { result ≡ exit_number status.entry.now }
     ensures said { ¬ Rose (K.faults errors.old) (K.faults errors.new)

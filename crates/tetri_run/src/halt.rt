@@ -1,6 +1,7 @@
 // Why the check of a report stops before its end.
 use crate::why::Why;
 use std::alloc::AllocError;
+use tetri_report::ReportFault;
 
 /// Why the check of a report stops before its end. Lines count from 1.
 #[derive(Clone, Copy, Debug, PartialEq, Eq)]
@@ -18,5 +19,22 @@ impl From<AllocError> for CheckHalt {
 
     fn from(_: AllocError) -> Self {
         CheckHalt::NoMemory
+    }
+}
+
+impl From<ReportFault> for CheckHalt {
+    ghost use Rattle.std.specs.Prelude.{◌≡◌};
+    ghost use Rattle.tetri_run.specs.Checked.{halt_of};
+
+    ghost from_gives = { λ fault halt. halt ≡ halt_of fault };
+
+    fn from(fault: ReportFault) -> Self {
+        match fault {
+            ReportFault::Malformed(line) => CheckHalt::Refused {
+                line,
+                why: Why::Malformed,
+            },
+            ReportFault::NoMemory => CheckHalt::NoMemory,
+        }
     }
 }

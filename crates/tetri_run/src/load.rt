@@ -17,7 +17,8 @@ use tetri_advice::Panel;
 use tetri_io::Sink;
 use tetri_make::make;
 
-/// Makes the trace of a number, runs it with a panel as `run_plan` runs a trace, and writes the summary of the run alone, by one send.
+/// Makes the trace of a number, runs it with a panel as `run_plan` runs a trace, and writes the
+/// summary of the run alone, by one send.
 pub fn run_load<K: Sink>(alloc: Global, number: u32, sink: &mut K, panel: &mut Panel) -> Status
     requires { number < 2 ^ 31 }
     ensures usage { result ≢ Status.Usage }
@@ -25,11 +26,17 @@ pub fn run_load<K: Sink>(alloc: Global, number: u32, sink: &mut K, panel: &mut P
     ensures good_trace { (line : ℕ) (why : TraceWhy) → result ≢ Status.BadTrace line why }
     ensures read { result ≢ Status.ReadFault }
     ensures silent { IsSilent result (K.written sink.old) (K.written sink.new) }
-    ensures promise { IsLoadAnswer (IsAdvisedRun (seats (λ b. says b) (λ b. misses b) (λ b. creed b) panel.old) panel.old.missed panel.new.missed) result (generated number) (K.written sink.old) (K.written sink.new) }
+    ensures promise { IsLoadAnswer
+        (IsAdvisedRun
+        (seats (λ b. says b) (λ b. misses b)
+        (λ b. creed b) panel.old) panel.old.missed panel.new.missed) result (generated number)
+        (K.written sink.old) (K.written sink.new) }
     ensures write { result ≡ Status.WriteFault → Rose (K.faults sink.old) (K.faults sink.new) }
-    ensures complete { ¬ Rose (K.faults sink.old) (K.faults sink.new) → (result ≡ Status.Done) ⊎ (result ≡ Status.NoMemory) }
+    ensures complete { ¬ Rose (K.faults sink.old) (K.faults sink.new)
+        → (result ≡ Status.Done) ⊎ (result ≡ Status.NoMemory) }
     ensures later { K.faults sink.old ≤ K.faults sink.new }
-    ensures creeds { creeds_of (seats (λ b. says b) (λ b. misses b) (λ b. creed b) panel.new) ≡ creeds_of (seats (λ b. says b) (λ b. misses b) (λ b. creed b) panel.old) }
+    ensures creeds { creeds_of (seats (λ b. says b) (λ b. misses b) (λ b. creed b) panel.new)
+        ≡ creeds_of (seats (λ b. says b) (λ b. misses b) (λ b. creed b) panel.old) }
     ensures later_misses { panel.old.missed ≤ panel.new.missed }
 {
     match make(alloc, number) {

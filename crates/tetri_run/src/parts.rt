@@ -16,8 +16,9 @@ use tetri_io::{Shelf, Sink};
 use tetri_report::SendFault;
 use tetri_trace::read_trace;
 
-/// Plans the trace that a name holds part by part and writes its report: each cycle by one send once it is planned, and then the summary
-/// by one more. Jobs that can share no node are planned by themselves, each group with the trace's budget.
+/// Plans the trace that a name holds part by part and writes its report: each cycle by one send
+/// once it is planned, and then the summary by one more. Jobs that can share no node are planned by
+/// themselves, each group with the trace's budget.
 pub fn run_parts<S: Shelf, K: Sink>(
     alloc: Global,
     name: &str,
@@ -37,7 +38,8 @@ pub fn run_parts<S: Shelf, K: Sink>(
         → ¬ Rose (S.faults shelf.old name.now) (S.faults shelf.new name.now)
         → ¬ Rose (K.faults sink.old) (K.faults sink.new)
         → (result ≡ Status.Done) ⊎ (result ≡ Status.NoMemory) }
-    ensures refuses { (content : List ℕ) (line : ℕ) (why : TraceWhy) → S.told shelf.old name.now ≡ Some content
+    ensures refuses { (content : List ℕ) (line : ℕ) (why : TraceWhy)
+        → S.told shelf.old name.now ≡ Some content
         → scenario_in content ≡ Err (line, why)
         → ¬ Rose (S.faults shelf.old name.now) (S.faults shelf.new name.now)
         → (result ≡ Status.BadTrace line why) ⊎ (result ≡ Status.NoMemory) }

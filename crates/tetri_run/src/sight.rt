@@ -25,8 +25,9 @@ pub(crate) struct BegunSlot {
     pub(crate) inst: Instance,
 }
 
-/// What is seen so far of a certificate, in place of its marks: the numbers of tops, where 0 and 0 also stand before its first line,
-/// or a walk over a tree in the instance of the slot, which began at the tree's first node, and how many lines it has.
+/// What is seen so far of a certificate, in place of its marks: the numbers of tops, where 0 and 0
+/// also stand before its first line, or a walk over a tree in the instance of the slot, which began
+/// at the tree's first node, and how many lines it has.
 #[derive(Drop)]
 pub(crate) enum Sight {
     Tops {
@@ -40,7 +41,8 @@ pub(crate) enum Sight {
     },
 }
 
-/// What a cycle is judged by: its slot, what was seen of its certificate, and how many lines that has.
+/// What a cycle is judged by: its slot, what was seen of its certificate, and how many lines that
+/// has.
 #[derive(Drop)]
 pub(crate) struct View {
     pub(crate) slot: BegunSlot,
@@ -70,7 +72,8 @@ fn first_walk(alloc: Global, slot: &BegunSlot, mark: &Mark) -> Result<TreeWalk, 
     Ok(walk)
 }
 
-/// Sees one node more of the certificate, which is the next in preorder. Its only error is want of memory.
+/// Sees one node more of the certificate, which is the next in preorder. Its only error is want of
+/// memory.
 pub(crate) fn see_node(
     alloc: Global,
     trace: &Trace,
@@ -80,7 +83,8 @@ pub(crate) fn see_node(
 ) -> Result<(), AllocError>
     requires sound { IsSound (scenario trace.now) }
     requires sees { SeesSome (scenario trace.now) state.old sight.old (2 ^ 63) }
-    ensures { OnOk result ((last : Snapshot) (c : Certificate) → Sees (scenario trace.entry.now) last c state.old sight.old
+    ensures { OnOk result ((last : Snapshot) (c : Certificate)
+        → Sees (scenario trace.entry.now) last c state.old sight.old
         → Sees (scenario trace.entry.now) last (with_node c mark.now) state.new sight.new) }
 {
     match sight {
@@ -111,7 +115,8 @@ pub(crate) fn view_of(
 ) -> Result<View, AllocError>
     requires sound { IsSound (scenario trace.now) }
     requires sees { SeesSome (scenario trace.now) state.old sight (2 ^ 63) }
-    ensures { IfOk result (λ view. (last : Snapshot) (c : Certificate) → Sees (scenario trace.entry.now) last c state.old sight
+    ensures { IfOk result (λ view. (last : Snapshot) (c : Certificate)
+        → Sees (scenario trace.entry.now) last c state.old sight
         → IsViewOf (scenario trace.entry.now) last c state.new view) }
 {
     match sight {

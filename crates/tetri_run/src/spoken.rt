@@ -98,11 +98,13 @@ fn refused_line(alloc: Global, line: u64, why: Why) -> Result<String, AllocError
     Ok(out)
 }
 
-/// Writes the line of a status, and nothing for `Done`. `Failed` comes only where the count of faults rose, and then a
-/// proper prefix was written.
+/// Writes the line of a status, and nothing for `Done`. `Failed` comes only where the count of
+/// faults rose, and then a proper prefix was written.
 pub fn say<K: Sink>(alloc: Global, status: &Status, sink: &mut K) -> Result<(), SendFault>
-    ensures ok { OnOk result (K.written sink.new ≡ append_known (K.written sink.old) (status_words status.entry.now)) }
-    ensures failed { IsErrOf result SendFault.Failed → Rose (K.faults sink.old) (K.faults sink.new) }
+    ensures ok { OnOk result (K.written sink.new
+        ≡ append_known (K.written sink.old) (status_words status.entry.now)) }
+    ensures failed { IsErrOf result SendFault.Failed
+        → Rose (K.faults sink.old) (K.faults sink.new) }
     ensures part { IsErrOf result SendFault.Failed
         → AppendsPart (K.written sink.old) (K.written sink.new) (status_words status.entry.now) }
     ensures memory { IsErrOf result SendFault.NoMemory → K.written sink.new ≡ K.written sink.old }

@@ -2,9 +2,12 @@
 use crate::why::Why;
 use tetri_trace::TraceWhy;
 
-/// How a call ended. `Done` where all was done and the input was read to its end, `Refused` exactly where a report is not
-/// accepted, at the line and for the test that fails first, `Usage` exactly where the words are no form, `ReadFault` and
-/// `WriteFault` only where a fault was counted, and `BadTrace` exactly where the trace is refused, at that line. Only want of
+/// How a call ended. `Done` where all was done and the input was read to its end, `Refused` exactly
+/// where a report is not
+/// accepted, at the line and for the test that fails first, `Usage` exactly where the words are no
+/// form, `ReadFault` and
+/// `WriteFault` only where a fault was counted, and `BadTrace` exactly where the trace is refused,
+/// at that line. Only want of
 /// memory may come at any time.
 #[derive(Clone, Copy, Debug, PartialEq, Eq)]
 pub enum Status {

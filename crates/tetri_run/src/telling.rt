@@ -1,9 +1,9 @@
 // How the cycles of a run are told.
-ghost use Rattle.std.specs.Prelude.{◌≡◌, IfOk, OnOk};
+ghost use Rattle.std.specs.Prelude.{◌≡◌, IfOk};
 ghost use Rattle.tetri_claims.specs.Certified.{IsOfKind};
 ghost use Rattle.tetri_claims.specs.Good.{BoundsEveryLawful};
 ghost use Rattle.tetri_report.specs.Block.{block};
-ghost use Rattle.tetri_report.specs.Printable.{IsInRange, IsPrintable};
+ghost use Rattle.tetri_report.specs.Printable.{IsPrintable};
 ghost use Rattle.tetri_run.specs.Telling.{IsTold};
 ghost use Rattle.tetri_space.specs.Lawful.{IsLawful};
 ghost use Rattle.tetri_space.specs.Sound.{IsSound};
@@ -28,8 +28,8 @@ pub(crate) enum Telling {
     Untold,
 }
 
-/// The text that tells of a cycle of this instance. Its block of the report is made in each case: it shows that the numbers of the cycle
-/// are within the ranges of their lines.
+/// The text that tells of a cycle of this instance. Its block of the report is made only where that
+/// is what is told.
 pub(crate) fn told_text(
     alloc: Global,
     trace: &Trace,
@@ -40,15 +40,19 @@ pub(crate) fn told_text(
     requires printable { IsPrintable (scenario trace.now) (block cycle.now) }
     requires sound { IsSound (space inst.now) }
     requires lawful { IsLawful (space inst.now) (block cycle.now).grants }
-    requires attained { total_in (space inst.now) (block cycle.now).grants ≡ (block cycle.now).value }
+    requires attained { total_in (space inst.now) (block cycle.now).grants
+        ≡ (block cycle.now).value }
     requires kind { IsOfKind (space inst.now) (block cycle.now).certificate }
     requires bounded { BoundsEveryLawful (space inst.now) (block cycle.now).bound }
-    ensures told { IfOk result (λ v. IsTold telling (scenario trace.entry.now) (space inst.entry.now) (block cycle.entry.now) v.items) }
-    ensures in_range { OnOk result (IsInRange (block cycle.entry.now)) }
+    ensures { IfOk result
+        (λ v. IsTold telling (scenario trace.entry.now) (space inst.entry.now)
+        (block cycle.entry.now) v.items) }
 {
-    let own = print_cycle(alloc, trace, cycle)?;
     match telling {
-        Telling::Report => Ok(own),
+        Telling::Report => {
+            let own = print_cycle(alloc, trace, cycle)?;
+            Ok(own)
+        }
         Telling::Tight => {
             let (number, value, bound) = (cycle.number, cycle.value, cycle.bound);
             let lines = tight_lines(alloc, inst, number, value, bound, &cycle.certificate)?;

@@ -19,8 +19,9 @@ use tetri_advice::Panel;
 use tetri_io::{Shelf, Sink};
 use tetri_trace::read_trace;
 
-/// Plans the trace that a name holds as `run_plan` does, with the same panel and in the same cycles, and writes what cuts make of the
-/// bound of each: a cycle's lines by one send once the panel was asked and it is planned, and then the summary by one more.
+/// Plans the trace that a name holds as `run_plan` does, with the same panel and in the same
+/// cycles, and writes what cuts make of the bound of each: a cycle's lines by one send once the
+/// panel was asked and it is planned, and then the summary by one more.
 pub fn run_tight<S: Shelf, K: Sink>(
     alloc: Global,
     name: &str,
@@ -31,7 +32,10 @@ pub fn run_tight<S: Shelf, K: Sink>(
     ensures usage { result ≢ Status.Usage }
     ensures refused { (line : ℕ) (why : Why) → result ≢ Status.Refused line why }
     ensures promise { (content : List ℕ) → S.told shelf.old name.now ≡ Some content
-        → IsTightPromised (IsAdvisedRun (seats (λ b. says b) (λ b. misses b) (λ b. creed b) panel.old) panel.old.missed panel.new.missed)
+        → IsTightPromised
+        (IsAdvisedRun
+        (seats (λ b. says b) (λ b. misses b)
+        (λ b. creed b) panel.old) panel.old.missed panel.new.missed)
         result (scenario_in content) (K.written sink.old) (K.written sink.new) }
     ensures silent { IsSilent result (K.written sink.old) (K.written sink.new) }
     ensures read { result ≡ Status.ReadFault
@@ -42,13 +46,15 @@ pub fn run_tight<S: Shelf, K: Sink>(
         → ¬ Rose (S.faults shelf.old name.now) (S.faults shelf.new name.now)
         → ¬ Rose (K.faults sink.old) (K.faults sink.new)
         → (result ≡ Status.Done) ⊎ (result ≡ Status.NoMemory) }
-    ensures refuses { (content : List ℕ) (line : ℕ) (why : TraceWhy) → S.told shelf.old name.now ≡ Some content
+    ensures refuses { (content : List ℕ) (line : ℕ) (why : TraceWhy)
+        → S.told shelf.old name.now ≡ Some content
         → scenario_in content ≡ Err (line, why)
         → ¬ Rose (S.faults shelf.old name.now) (S.faults shelf.new name.now)
         → (result ≡ Status.BadTrace line why) ⊎ (result ≡ Status.NoMemory) }
     ensures same { S.told shelf.new ≡ S.told shelf.old }
     ensures later_reads { (other : List ℕ) → S.faults shelf.old other ≤ S.faults shelf.new other }
-    ensures creeds { creeds_of (seats (λ b. says b) (λ b. misses b) (λ b. creed b) panel.new) ≡ creeds_of (seats (λ b. says b) (λ b. misses b) (λ b. creed b) panel.old) }
+    ensures creeds { creeds_of (seats (λ b. says b) (λ b. misses b) (λ b. creed b) panel.new)
+        ≡ creeds_of (seats (λ b. says b) (λ b. misses b) (λ b. creed b) panel.old) }
     ensures later_writes { K.faults sink.old ≤ K.faults sink.new }
     ensures later_misses { panel.old.missed ≤ panel.new.missed }
 {

@@ -48,8 +48,9 @@ fn write_run<K: Sink, A: Advisor>(
     run_cycles(alloc, trace, sink, panel, telling)
 }
 
-/// Runs a trace and tells each cycle by one send once the panel was asked and it is planned, and then writes the summary by one more. A
-/// fault leaves whole texts and a proper front of the next one, and want of memory whole texts alone.
+/// Runs a trace and tells each cycle by one send once the panel was asked and it is planned, and
+/// then writes the summary by one more. A fault leaves whole texts and a proper front of the next
+/// one, and want of memory whole texts alone.
 pub(crate) fn run_told<K: Sink, A: Advisor>(
     alloc: Global,
     trace: &Trace,

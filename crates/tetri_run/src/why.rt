@@ -7,7 +7,8 @@ use tetri_judge::Verdict;
 /// Why a report is refused: the first test that it fails, in the order in which a check makes them.
 #[derive(Clone, Copy, Debug, PartialEq, Eq)]
 pub enum Why {
-    /// The line is not a line of a report, may not stand there, or names no job or node; or the summary is missing.
+    /// The line is not a line of a report, may not stand there, or names no job or node; or the
+    /// summary is missing.
     Malformed,
     /// The line has more than 1,048,576 bytes.
     LineTooLong,

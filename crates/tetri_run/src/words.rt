@@ -27,7 +27,8 @@ fn load_number(word: &str) -> Option<u32>
     }
 }
 
-/// What is asked for: `plan`, `parts`, `tight` or `admit` and one more word, `check` and two more, or `load` and a number.
+/// What is asked for: `plan`, `parts`, `tight` or `admit` and one more word, `check` and two more,
+/// or `load` and a number.
 pub(crate) fn asked(words: &[String]) -> Option<Request<'_>>
     ensures asked { option_map asked_of result ≡ asked (texts words.now) }
     ensures small { IfSome result IsSmall }

@@ -8,10 +8,15 @@ use Rattle.std.proofs.lemmas.List.{get_or_default, drop_more}
 use Rattle.std.proofs.lemmas.List.Folds.{list_any_at, list_any_none}
 use Rattle.tetri_base.specs.Lists.{EachPair}
 use Rattle.tetri_base.specs.Order.{in_order}
-use Rattle.tetri_base.proofs.OrderLaws.{in_order-rises as rises, IsOrder, NotAfter, order_by, order_then, sorted_is, sum_of-in_order}
+use Rattle.tetri_base.proofs.OrderLaws.{Each-in_order, in_order-rises as rises, IsOrder, NotAfter, order_by, order_then, sorted_is, sum_of-in_order}
 use Rattle.tetri_base.proofs.ListLaws.{Each-get}
 use Rattle.tetri_state.specs.declared.happened.PieceId.{PieceId}
 use Rattle.tetri_state.specs.Begin.{comes_before, finished, runs}
+use Rattle.tetri_state.proofs.Ascending.{all_each, each_from}
+
+-- what is true of pieces in some order is true of them in theirs
+pub all_in_order : (P : PieceId → Type 0) (ids : List PieceId) → All P ids → All P (in_order comes_before ids)
+all_in_order P ids all = all_each P (in_order comes_before ids) (Each-in_order comes_before P ids (each_from P ids all))
 
 order : IsOrder comes_before
 order = order_then (λ (a : PieceId). a.job) (λ a b. nat_lt a.leaf b.leaf) (order_by (λ (a : PieceId). a.leaf))

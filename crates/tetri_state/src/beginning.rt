@@ -1,5 +1,5 @@
 // The beginning of a cycle.
-ghost use Rattle.std.specs.Prelude.{◌≡◌, ◌+◌, ◌<◌, ◌≤◌, ◌&&◌, All, filter, length, map, not, IfOk, OnErr, OnOk};
+ghost use Rattle.std.specs.Prelude.{◌≡◌, ◌+◌, ◌<◌, ◌≤◌, ◌^◌, ◌&&◌, All, filter, length, map, not, IfOk, OnErr, OnOk};
 ghost use Rattle.std.specs.List.Sorted.{IsNonDecreasingBy, IsStrictlyIncreasing};
 ghost use Rattle.tetri_state.specs.Begin.{begin, ending, finished, has_ended, occurrences, occurring, prolonged, running_on, runs, standing, told, turn};
 ghost use Rattle.tetri_state.specs.Reached as moment;
@@ -78,6 +78,8 @@ fn begin_slot(
         IfOk result (λ b. b.finished.items ≡ finished (told (running_on s)) (told (ending s))) }
     ensures happened { let s = standing now drained.now pending.now pieces.now in
         IfOk result (λ b. occurrences b.happened ≡ occurring (scenario trace.entry.now) s) }
+    ensures ended { IfOk result (λ b. All (λ p. p.leaf < 2 ^ 32) b.happened.ended.items) }
+    ensures over { IfOk result (λ b. All (λ p. p.leaf < 2 ^ 32) b.happened.over.items) }
 {
     let ended = ended(alloc, pieces, now)?;
     let running = running(alloc, pieces, now)?;
@@ -112,6 +114,8 @@ impl State {
         requires more { self.old.now < (scenario trace.now).header.until }
         ensures state { OnOk result (self.new ≡ begin (scenario trace.entry.now) self.old) }
         ensures happened { IfOk result (λ h. occurrences h ≡ occurring (scenario trace.entry.now) self.old) }
+        ensures ended { IfOk result (λ h. All (λ p. p.leaf < 2 ^ 32) h.ended.items) }
+        ensures over { IfOk result (λ h. All (λ p. p.leaf < 2 ^ 32) h.over.items) }
         ensures expired { IfOk result (λ h. IsStrictlyIncreasing h.expired.items) }
         ensures reached { OnOk result (IsReached (scenario trace.entry.now) moment.begun self.new) }
         ensures err { OnErr result (self.new ≡ self.old) }
@@ -129,6 +133,8 @@ impl State {
         requires nodes { All (λ p. All (λ n. n < length (scenario trace.now).nodes) p.nodes) self.old.pieces }
         ensures state { OnOk result (self.new ≡ begin (scenario trace.now) self.old) }
         ensures happened { IfOk result (λ h. occurrences h ≡ occurring (scenario trace.now) self.old) }
+        ensures ended { IfOk result (λ h. All (λ p. p.leaf < 2 ^ 32) h.ended.items) }
+        ensures over { IfOk result (λ h. All (λ p. p.leaf < 2 ^ 32) h.over.items) }
         ensures err { OnErr result (self.new ≡ self.old) }
     {
         let now = self.now;

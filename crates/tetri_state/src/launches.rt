@@ -1,12 +1,12 @@
 // What is launched after a plan.
-ghost use Rattle.std.specs.Prelude.{◌≡◌, ◌<◌, ℕ, All, length, map, IfOk};
+ghost use Rattle.std.specs.Prelude.{◌≡◌, ◌<◌, ◌^◌, ℕ, All, length, map, IfOk, OnOk};
 ghost use Rattle.std.specs.List.{filter, sum_by};
 ghost use Rattle.std.specs.List.Sorted.{IsNonDecreasing, IsNonDecreasingBy};
 ghost use Rattle.tetri_base.specs.Lists.{has};
 ghost use Rattle.tetri_base.specs.Order.{in_order};
 ghost use Rattle.tetri_space.specs.GrantOrder.{comes_first};
 ghost use Rattle.tetri_space.specs.Sound.{IsSound as IsSoundSpace};
-ghost use Rattle.tetri_space.specs.Space.{space};
+ghost use Rattle.tetri_space.specs.Space.{leaf_in, space};
 ghost use Rattle.tetri_space.specs.Total.{bid_worth};
 ghost use Rattle.tetri_state.specs.After.{starting_pieces};
 ghost use Rattle.tetri_state.specs.Launch.{launched_in, start_of, start_or_0, starts_now, worth_launched};
@@ -69,6 +69,7 @@ pub fn find_launch(
     ensures pieces { IfOk result (λ l. l.pieces.items
         ≡ starting_pieces (scenario trace.entry.now) (space inst.entry.now) grants.now) }
     ensures worth { IfOk result (λ l. l.worth ≡ worth_launched (space inst.entry.now) grants.now) }
+    ensures leaves { OnOk result (All (λ g. g.leaf < 2 ^ 32) grants.now) }
 {
     let Found { starts, pieces } = find_pieces(alloc, trace, inst, grants)?;
     let starting = starting_jobs(alloc, inst, grants, &starts)?;
@@ -114,6 +115,16 @@ fn start_or_0(leaf: Option<Leaf>) -> u32
     }
 }
 
+// The leaf that a grant names, where its job offers it.
+fn leaf_named(inst: &Instance, grant: &Grant) -> Option<Leaf>
+    requires { IsSoundSpace (space inst.now) }
+    ensures leaf { result ≡ leaf_in (space inst.entry.now).bids grant.now.job grant.now.leaf }
+    ensures number { grant.now.leaf < 2 ^ 32 }
+{
+    let (job, number) = (grant.job, grant.leaf);
+    leaf_of(inst, job, number)
+}
+
 // Looks the leaf of each grant up.
 fn find_pieces(
     alloc: Global,
@@ -129,11 +140,12 @@ fn find_pieces(
         ≡ map (start_of (space inst.entry.now)) grants.now) }
     ensures pieces { IfOk result (λ f. f.pieces.items
         ≡ starting_pieces (scenario trace.entry.now) (space inst.entry.now) grants.now) }
+    ensures leaves { OnOk result (All (λ g. g.leaf < 2 ^ 32) grants.now) }
 {
     let mut starts = Vec::new(alloc);
     let mut pieces = Vec::new(alloc);
     for grant in grants {
-        let leaf = leaf_of(inst, grant.job, grant.leaf);
+        let leaf = leaf_named(inst, grant);
         starts.push(start_or_0(leaf))?;
         if let Some(leaf) = leaf {
             if leaf.start == inst.now {

@@ -1,5 +1,5 @@
 // Pieces as they are told, by job and then leaf.
-ghost use Rattle.std.specs.Prelude.{◌≡◌, ◌<◌, ◌+◌, ◌&&◌, ◌||◌, drop, filter, length, not, slice_index_or, IfOk};
+ghost use Rattle.std.specs.Prelude.{◌≡◌, ◌<◌, ◌+◌, ◌^◌, ◌&&◌, ◌||◌, All, drop, filter, length, not, slice_index_or, IfOk};
 ghost use Rattle.std.specs.List.Sorted.{IsNonDecreasingBy};
 ghost use Rattle.tetri_base.specs.Order.{in_order};
 ghost use Rattle.tetri_state.specs.Begin.{comes_before, finished, has_ended, is_over, named, runs, told};
@@ -10,12 +10,11 @@ use crate::pieces::Piece;
 use std::alloc::{AllocError, Global};
 
 fn named(piece: &Piece) -> PieceId
-    ensures { result ≡ named piece.now }
+    ensures named { result ≡ named piece.now }
+    ensures leaf { result.leaf < 2 ^ 32 }
 {
-    PieceId {
-        job: piece.job,
-        leaf: piece.leaf,
-    }
+    let (job, leaf) = (piece.job, piece.leaf);
+    PieceId { job, leaf }
 }
 
 fn sorted(ids: Vec<PieceId>) -> Result<Vec<PieceId>, AllocError>
@@ -39,6 +38,7 @@ pub fn runs(ids: &[PieceId], job: u32) -> bool
 pub fn ended(alloc: Global, pieces: &[Piece], now: u32) -> Result<Vec<PieceId>, AllocError>
     ensures told { IfOk result (λ v. v.items ≡ told (filter (has_ended now) pieces.now)) }
     ensures rise { IfOk result (λ v. IsNonDecreasingBy (λ a. a.job) v.items) }
+    ensures leaves { IfOk result (λ v. All (λ a. a.leaf < 2 ^ 32) v.items) }
 {
     let mut ids = Vec::new(alloc);
     for piece in pieces {
@@ -79,8 +79,9 @@ pub fn over(
     running: &[PieceId],
 ) -> Result<Vec<PieceId>, AllocError>
     requires { IsNonDecreasingBy (λ a. a.job) running.now }
-    ensures { IfOk result (λ v. v.items ≡ told (filter (is_over now)
+    ensures told { IfOk result (λ v. v.items ≡ told (filter (is_over now)
         (filter (λ p. not (has_ended now p) && runs running.now p.job) pieces.now))) }
+    ensures leaves { IfOk result (λ v. All (λ a. a.leaf < 2 ^ 32) v.items) }
 {
     let mut ids = Vec::new(alloc);
     for piece in pieces {

@@ -1,50 +1,80 @@
-use Rattle.std.proofs.Common.{◌∙◌, ⊎_elim, ap, refl, subst, inr, arith}
+use Rattle.std.proofs.Common.{sym, subst}
 use Rattle.tetri_trace.specs.Lines.{scenario_in}
+use Rattle.tetri_trace.specs.Scenario.{Scenario, scenario}
 use Rattle.tetri_run.proofs.RunLaws.{same_scenario}
-use Rattle.tetri_run.specs.Check.{IsAccepted}
-use Rattle.tetri_chart.proofs.ChartLemmas.{chart_promised, check_promised, drawn, no_rise, rose_before}
+use Rattle.tetri_chart.specs.Charted.{HasCycle}
+use Rattle.tetri_chart.proofs.ChartLemmas.{drawn_of, drawn_promised, drawn_where_asked, halted_promised, never_bad, never_read, only_memory, silent, some_drawn, usage_where_not}
 use Rattle.tetri_chart.proofs.top.chart.Goals as goal
 
-pub returns-in-Done-clause-drawn : goal.returns-in-Done-clause-drawn
-returns-in-Done-clause-drawn g c = λ content lines told told_lines.
-    let checked = c.in-Done.ensures.check content lines told told_lines in
-    let same = c.run_check.ensures.same in
-    chart_promised c.args.cycle c.draw_accepted.result (scenario_in content) checked.0 lines (g.K.Sink.written c.args.sink.now) (g.K.Sink.written c.draw_accepted.new.sink) checked.1
-    (c.draw_accepted.ensures.drawn content lines checked.0 (ap (λ f. f c.args.trace.now) same ∙ told) (ap (λ f. f c.args.report.now) same ∙ told_lines) checked.1 checked.2.0.accepted)
+pub returns-in-Ok-clause-drawn : goal.returns-in-Ok-clause-drawn
+returns-in-Ok-clause-drawn g c = λ content lines told told_lines.
+    let t = scenario c.in-Ok.trace in
+    let before = g.K.Sink.written c.args.sink.now in
+    let after = g.K.Sink.written c.draw_gathered.new.sink in
+    let status = c.draw_gathered.result in
+    drawn_promised c.args.cycle status (scenario_in content) t lines before after (c.in-Ok.ensures.kept content told)
+    (drawn_of t lines c.args.cycle c.new-gathering.result c.check_seen.new.observer c.new-gathering.ensures.nothing (c.in-Ok.ensures.seen lines told_lines) status before after
+    c.draw_gathered.ensures.answer)
 
-pub returns-in-Done-clause-bad_trace : goal.returns-in-Done-clause-bad_trace
-returns-in-Done-clause-bad_trace g c = λ content line why told is.
-    c.draw_accepted.ensures.bad_trace content line why (ap (λ f. f c.args.trace.now) c.run_check.ensures.same ∙ told) is
+pub returns-in-Ok-clause-bad_trace : goal.returns-in-Ok-clause-bad_trace
+returns-in-Ok-clause-bad_trace g c = λ content line why told bad.
+    let t = scenario c.in-Ok.trace in
+    let before = g.K.Sink.written c.args.sink.now in
+    let after = g.K.Sink.written c.draw_gathered.new.sink in
+    let status = c.draw_gathered.result in
+    let last = c.check_seen.new.observer in
+    absurd (never_bad t last before after status (some_drawn t last before after status c.draw_gathered.ensures.answer) line why bad)
 
-pub returns-in-Done-clause-read : goal.returns-in-Done-clause-read
-returns-in-Done-clause-read g c = λ is.
-    rose_before c.args.trace.now c.args.report.now (g.S.Shelf.faults c.args.shelf.now) (g.S.Shelf.faults c.run_check.new.shelf) (g.S.Shelf.faults c.draw_accepted.new.shelf)
-    c.run_check.ensures.later_reads (c.draw_accepted.ensures.read is)
+pub returns-in-Ok-clause-silent : goal.returns-in-Ok-clause-silent
+returns-in-Ok-clause-silent g c =
+    let t = scenario c.in-Ok.trace in
+    let before = g.K.Sink.written c.args.sink.now in
+    let after = g.K.Sink.written c.draw_gathered.new.sink in
+    let status = c.draw_gathered.result in
+    let last = c.check_seen.new.observer in
+    silent t last before after status (some_drawn t last before after status c.draw_gathered.ensures.answer)
 
-pub returns-in-Done-clause-accepts : goal.returns-in-Done-clause-accepts
-returns-in-Done-clause-accepts g c = λ content lines t told is told_lines accepted has reads writes.
-    let same = c.run_check.ensures.same in
-    drawn c.args.cycle c.draw_accepted.result t lines (g.K.Sink.written c.args.sink.now) (g.K.Sink.written c.draw_accepted.new.sink)
-    (c.draw_accepted.ensures.drawn content lines t (ap (λ f. f c.args.trace.now) same ∙ told) (ap (λ f. f c.args.report.now) same ∙ told_lines) is accepted) accepted has
-    (λ e. reads (rose_before c.args.trace.now c.args.report.now (g.S.Shelf.faults c.args.shelf.now) (g.S.Shelf.faults c.run_check.new.shelf)
-    (g.S.Shelf.faults c.draw_accepted.new.shelf) c.run_check.ensures.later_reads (c.draw_accepted.ensures.read e)))
-    (λ e. writes (c.draw_accepted.ensures.write e))
+pub returns-in-Ok-clause-read : goal.returns-in-Ok-clause-read
+returns-in-Ok-clause-read g c = λ read.
+    let t = scenario c.in-Ok.trace in
+    let before = g.K.Sink.written c.args.sink.now in
+    let after = g.K.Sink.written c.draw_gathered.new.sink in
+    let status = c.draw_gathered.result in
+    let last = c.check_seen.new.observer in
+    absurd (never_read t last before after status (some_drawn t last before after status c.draw_gathered.ensures.answer) read)
 
-pub returns-in-Done-clause-rejects : goal.returns-in-Done-clause-rejects
-returns-in-Done-clause-rejects g c = λ content lines t told is told_lines not quiet.
-    let checked = c.in-Done.ensures.check content lines told told_lines in
-    absurd (not (subst (λ s. IsAccepted s lines) (same_scenario content checked.0 t checked.1 is) checked.2.0.accepted))
+pub returns-in-Ok-clause-accepts : goal.returns-in-Ok-clause-accepts
+returns-in-Ok-clause-accepts g c = λ content lines t told is told_lines accepted has quiet writes.
+    let u = scenario c.in-Ok.trace in
+    let before = g.K.Sink.written c.args.sink.now in
+    let after = g.K.Sink.written c.draw_gathered.new.sink in
+    let status = c.draw_gathered.result in
+    let same = same_scenario content t u is (c.in-Ok.ensures.kept content told) in
+    drawn_where_asked c.args.cycle u lines before after status
+    (drawn_of u lines c.args.cycle c.new-gathering.result c.check_seen.new.observer c.new-gathering.ensures.nothing (c.in-Ok.ensures.seen lines told_lines) status before after
+    c.draw_gathered.ensures.answer)
+    (subst (λ (v : Scenario). HasCycle v c.args.cycle) same has) (λ fault. writes (c.draw_gathered.ensures.write fault))
 
-pub returns-in_default-clause-drawn : goal.returns-in_default-clause-drawn
-returns-in_default-clause-drawn g c = λ content lines told told_lines.
-    check_promised c.args.cycle c.run_check.result (scenario_in content) lines _ _ (g.K.Sink.written c.args.sink.now) (g.K.Sink.written c.args.sink.now)
-    (c.run_check.ensures.check content lines told told_lines) c.in_default.not-Done c.run_check.ensures.usage (λ e. no_rise (c.run_check.ensures.write e)) refl
+pub returns-in-Ok-clause-no_cycle : goal.returns-in-Ok-clause-no_cycle
+returns-in-Ok-clause-no_cycle g c = λ content lines t told is told_lines accepted lacks quiet.
+    let u = scenario c.in-Ok.trace in
+    let before = g.K.Sink.written c.args.sink.now in
+    let after = g.K.Sink.written c.draw_gathered.new.sink in
+    let status = c.draw_gathered.result in
+    let same = same_scenario content t u is (c.in-Ok.ensures.kept content told) in
+    usage_where_not c.args.cycle u lines before after status
+    (drawn_of u lines c.args.cycle c.new-gathering.result c.check_seen.new.observer c.new-gathering.ensures.nothing (c.in-Ok.ensures.seen lines told_lines) status before after
+    c.draw_gathered.ensures.answer)
+    (λ has. lacks (subst (λ (v : Scenario). HasCycle v c.args.cycle) (sym same) has))
 
-pub returns-in_default-clause-accepts : goal.returns-in_default-clause-accepts
-returns-in_default-clause-accepts g c = λ content lines t told is told_lines accepted has reads writes.
-    ⊎_elim (λ done. absurd (c.in_default.not-Done done)) inr (c.run_check.ensures.accepts content lines t told is told_lines accepted reads no_rise)
+pub returns-in-Err-clause-drawn : goal.returns-in-Err-clause-drawn
+returns-in-Err-clause-drawn g c = λ content lines told told_lines.
+    halted_promised c.args.cycle c.in-Err.status (scenario_in content) lines (g.K.Sink.written c.args.sink.now) (c.in-Err.ensures.halted content lines told told_lines)
 
-pub returns-in-Done-clause-refuses : goal.returns-in-Done-clause-refuses
-returns-in-Done-clause-refuses g c = λ content line why told is quiet.
-    ⊎_elim (λ bad. absurd cc) (λ none. absurd cc)
-    (c.in-Done.ensures.refuses content line why told is (λ rose. quiet (omega (arith, rose, c.draw_accepted.ensures.later_reads c.args.trace.now))))
+pub returns-in-Err-clause-accepts : goal.returns-in-Err-clause-accepts
+returns-in-Err-clause-accepts g c = λ content lines t told is told_lines accepted has quiet writes.
+    c.in-Err.ensures.accepts content lines t told is told_lines accepted quiet tt
+
+pub returns-in-Err-clause-no_cycle : goal.returns-in-Err-clause-no_cycle
+returns-in-Err-clause-no_cycle g c = λ content lines t told is told_lines accepted lacks quiet.
+    only_memory c.in-Err.status c.in-Err.ensures.halts (c.in-Err.ensures.accepts content lines t told is told_lines accepted quiet tt)

@@ -2,6 +2,7 @@ use Rattle.std.proofs.Common.{◌∙◌, ◌++◌, List, ℕ, ap, sym, subst}
 use Rattle.std.specs.Prelude.{flat_map}
 use Rattle.tetri_strl.specs.declared.grants.Grant.{Grant}
 use Rattle.tetri_space.specs.Space.{space}
+use Rattle.tetri_split.proofs.SplitLaws.{bounds_add}
 use Rattle.tetri_trace.specs.Scenario.{scenario}
 use Rattle.tetri_commands.specs.PartsReady.{ArePartsReady}
 use Rattle.tetri_commands.specs.PartsText.{part_text}
@@ -22,7 +23,7 @@ returns-clause-plan c =
     record {
       parts = done.parts;
       plans = joined_plans t s carry parts text lists plans.value plans.bound c.in_ok-grants.grants c.requires.instance.sound c.in_ok-parts.ensures done
-          c.in_ok-grants.ensures.grants c.in_ok-grants.ensures.lawful c.in_ok-grants.ensures.total c.in_ok-grants.ensures.thrifty c.bounds_of_parts_add.ensures;
+          c.in_ok-grants.ensures.grants c.in_ok-grants.ensures.lawful c.in_ok-grants.ensures.total c.in_ok-grants.ensures.thrifty (bounds_add s parts c.in_ok-parts.ensures);
       text = c.in_ok-extend_from_slice.ensures.items ∙ ap (λ (x : List ℕ). c.in_ok-text.text.items ++ x) (c.deref-2.ensures.value ∙ done.text_is)
           ∙ ap (λ (x : List ℕ). x ++ flat_map (part_text t) done.parts)
           (c.in_ok-text.ensures ∙ same_line t s carry parts text lists plans.value plans.bound c.count.result c.count.ensures done);

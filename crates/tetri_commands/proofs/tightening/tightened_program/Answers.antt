@@ -1,5 +1,6 @@
 use Rattle.std.specs.Prelude.{IfSome}
 use Rattle.std.proofs.lemmas.Result.{IfOk-weaker}
+use Rattle.tetri_claims.proofs.ClaimLaws.{programs_earn_little}
 use Rattle.tetri_cuts.specs.Tightening.{Bounds, IsTightening}
 use Rattle.tetri_cuts.specs.declared.tightening.Tight.{Tight}
 use Rattle.tetri_space.specs.Space.{space}
@@ -16,4 +17,4 @@ returns-clause-bounded c =
     let p = c.in_ok-compiled.compiled.program in
     let e = c.in_ok-compiled.ensures in
     IfOk-weaker c.tighten.result (λ (t : Tight). IfSome t.root (λ r. Bounds p r.bound)) _
-    (λ t bounds. roots_bound (space c.args.inst.now) p c.requires.sound e.compiled.program c.programs_earn_little.ensures e.allotments t.root bounds) c.tighten.ensures.bound
+    (λ t bounds. roots_bound (space c.args.inst.now) p c.requires.sound e.compiled.program programs_earn_little e.allotments t.root bounds) c.tighten.ensures.bound

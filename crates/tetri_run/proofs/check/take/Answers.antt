@@ -7,15 +7,15 @@ use Rattle.tetri_run.specs.declared.sight.Sight.TheVariants as sights
 use Rattle.tetri_run.proofs.StepLemmas.{fed_sees, taken_on, tops_told}
 use Rattle.tetri_run.proofs.check.take.Goals as goal
 
-pub returns-in-More : goal.returns-in-More
-returns-in-More c = λ d line is.
+pub returns-in-More-clause-answer : goal.returns-in-More-clause-answer
+returns-in-More-clause-answer g c = λ d line is.
     let t = scenario c.args.trace.now in
     let p = c.args.progress.now in
     let fed : IsFed t d p line told.more = subst (λ x. IsFed t d p line (telling x)) c.in-More.is is in
     taken_on t d p line told.more fed p refl refl refl refl fed.sight
 
-pub returns-in-Tops : goal.returns-in-Tops
-returns-in-Tops c = λ d line is.
+pub returns-in-Tops-clause-answer : goal.returns-in-Tops-clause-answer
+returns-in-Tops-clause-answer g c = λ d line is.
     let t = scenario c.args.trace.now in
     let p = c.args.progress.now in
     let columns = c.in-Tops.columns in
@@ -24,13 +24,13 @@ returns-in-Tops c = λ d line is.
     taken_on t d p line (told.tops columns rows) fed (record p { sight = sights.Tops columns rows }) refl refl refl refl (tops_told t d p line columns rows fed, refl)
 
 pub see_node-requires-clause-sees : goal.see_node-requires-clause-sees
-see_node-requires-clause-sees c =
+see_node-requires-clause-sees g c =
     let t = scenario c.args.trace.now in
     let fed = c.requires.fed in
     fed_sees t fed.0 c.args.progress.now fed.1 (telling c.args.told) fed.2 c.args.number c.requires.number c.requires.few
 
-pub returns-in-Node : goal.returns-in-Node
-returns-in-Node c = λ d line is.
+pub returns-in_ok-see_node-in-Node-clause-answer : goal.returns-in_ok-see_node-in-Node-clause-answer
+returns-in_ok-see_node-in-Node-clause-answer g c = λ d line is.
     let t = scenario c.args.trace.now in
     let p = c.args.progress.now in
     let mark = c.in-Node.mark in
@@ -39,17 +39,7 @@ returns-in-Node c = λ d line is.
     (c.in_ok-see_node-in-Node.ensures _ d.reading.block.certificate fed.sight)
 
 pub end_cycle-requires-clause-fed : goal.end_cycle-requires-clause-fed
-end_cycle-requires-clause-fed c =
+end_cycle-requires-clause-fed g c =
     let t = scenario c.args.trace.now in
     let fed = c.requires.fed in
     (fed.0, fed.1, subst (λ x. IsFed t fed.0 c.args.progress.now fed.1 (telling x)) c.in-Block.is fed.2)
-
-pub returns-in-Ok : goal.returns-in-Ok
-returns-in-Ok c = λ d line is.
-    let t = scenario c.args.trace.now in
-    c.in-Ok.ensures d line (subst (λ x. IsFed t d c.args.progress.now line (telling x)) c.in-Block.is is)
-
-pub returns : goal.returns
-returns c = λ d line is.
-    let t = scenario c.args.trace.now in
-    c.in-Err.ensures d line (subst (λ x. IsFed t d c.args.progress.now line (telling x)) c.in-Block.is is)

@@ -6,8 +6,8 @@ use Rattle.tetri_run.specs.Telling.{IsTold, IsToldTight}
 use Rattle.tetri_run.specs.declared.telling.Telling.{Telling}
 use Rattle.tetri_run.proofs.telling.told_text.Goals as goal
 
-pub returns-in_ok-lines-in-Tight-clause-told : goal.returns-in_ok-lines-in-Tight-clause-told
-returns-in_ok-lines-in-Tight-clause-told c =
+pub returns-in_ok-lines-in-Tight : goal.returns-in_ok-lines-in-Tight
+returns-in_ok-lines-in-Tight c =
     let t = scenario c.args.trace.now in
     let i = space c.args.inst.now in
     let b = block c.args.cycle.now in

@@ -53,7 +53,7 @@ module _ (c : After-drop-running-2) where
 
   over_is : c.in_ok-over.over.items ≡ told (filter (is_over s.now) (staying t s))
   over_is =
-      c.in_ok-over.ensures
+      c.in_ok-over.ensures.told
       ∙ ap (λ r. told (filter (is_over s.now) (filter (λ p. not (has_ended s.now p) && runs r p.job) s.pieces)))
       (c.deref-6.ensures.value ∙ ap (λ (v : Turn). v.running) (c.turn.view_is ∙ turn_now))
       ∙ ap (λ ps. told (filter (is_over s.now) ps)) (filter_both (λ (p : Piece). not (has_ended s.now p)) (λ (p : Piece). runs (turn t s).running p.job) s.pieces)
@@ -80,3 +80,9 @@ pub returns-clause-happened : goal.returns-clause-happened
 returns-clause-happened c =
     same_occurrences c.in_ok-ended.ensures.told (ap (λ (v : Turn). v.cancelled) (c.turn.view_is ∙ turn_now c)) (ap (λ (v : Turn). v.failed) (c.turn.view_is ∙ turn_now c))
     (over_is c) (c.in_ok-parted.ensures.expired ∙ ap (filter (has_expired (t c) c.args.now)) (turn_pending c))
+
+pub returns-clause-ended : goal.returns-clause-ended
+returns-clause-ended c = c.in_ok-ended.ensures.leaves
+
+pub returns-clause-over : goal.returns-clause-over
+returns-clause-over c = c.in_ok-over.ensures.leaves

@@ -1,16 +1,16 @@
-use Rattle.std.proofs.Common.{◌≡◌, ◌∙◌, ap, sym, subst}
+use Rattle.std.proofs.Common.{◌≡◌, ◌<◌, ◌∙◌, All, length, ap, sym, subst}
 use Rattle.tetri_advice.specs.Sitting.{seats}
 use Rattle.tetri_advice.proofs.AdviceLaws.{given_lawful}
 use Rattle.tetri_claims.specs.Good.{BoundsEveryLawful}
 use Rattle.tetri_report.specs.Block.{block}
-use Rattle.tetri_space.specs.Space.{Space, space}
+use Rattle.tetri_space.specs.Space.{Bid, Space, space}
 use Rattle.tetri_state.specs.Begin.{occurrences}
 use Rattle.tetri_state.specs.Known.{AreOfJobs}
 use Rattle.tetri_state.specs.Launch.{worth_launched}
 use Rattle.tetri_state.specs.Planning.{IsCarry, instance_at, instance_of}
 use Rattle.tetri_state.specs.Readied.{Fits, IsLaunchOf}
 use Rattle.tetri_state.specs.Snapshot.{Snapshot}
-use Rattle.tetri_state.proofs.StateLaws.{begun_bids, occurring_known}
+use Rattle.tetri_state.proofs.StateLaws.{begun_bids, found_for, occurring_known}
 use Rattle.tetri_trace.specs.Scenario.{scenario}
 use Rattle.tetri_judge.specs.PlanOf.{planned}
 use Rattle.tetri_plan.specs.Chosen.{IsChosen}
@@ -20,6 +20,12 @@ use Rattle.tetri_run.specs.Telling.{IsTold}
 use Rattle.tetri_commands.proofs.PrintLaws.{instance_of_trace}
 use Rattle.tetri_run.proofs.PrintLemmas.{cycle_printable}
 use Rattle.tetri_run.proofs.by_panel.PanelOfPlannerTelling.ready.Goals as goal
+
+pub told_cycle-requires-clause-known : goal.told_cycle-requires-clause-known
+told_cycle-requires-clause-known g c =
+    let t = scenario c.args.trace.now in
+    subst (λ (i : Space). All (λ (b : Bid). b.job < length t.submissions) i.bids) (sym c.in_ok-inst.ensures.instance)
+    (begun_bids t c.requires.sound c.begin_cycle.new.self c.in_ok-happened.ensures.reached)
 
 pub told_text-requires-clause-printable : goal.told_text-requires-clause-printable
 told_text-requires-clause-printable g c =
@@ -39,11 +45,14 @@ told_text-requires-clause-attained g c = c.in_ok-told.ensures.plan.honest.attain
 pub told_text-requires-clause-kind : goal.told_text-requires-clause-kind
 told_text-requires-clause-kind g c = c.in_ok-told.ensures.plan.certified.kind
 
-pub prepare-requires-clause-lawful : goal.prepare-requires-clause-lawful
-prepare-requires-clause-lawful g c = c.in_ok-told.ensures.plan.honest.lawful
-
-pub prepare-requires-clause-thrifty : goal.prepare-requires-clause-thrifty
-prepare-requires-clause-thrifty g c = c.in_ok-told.ensures.plan.honest.thrifty
+pub prepare_launch-requires : goal.prepare_launch-requires
+prepare_launch-requires g c =
+    let t = scenario c.args.trace.now in
+    let e = c.in_ok-told.ensures in (
+      t,
+      found_for t c.begin_cycle.new.self c.in_ok-told.told.cycle.grants (space c.in_ok-inst.inst) c.in_ok-told.told.launch c.requires.sound c.in_ok-happened.ensures.reached
+          c.in_ok-inst.ensures.instance e.plan.honest.lawful e.plan.honest.thrifty e.jobs e.pieces,
+    )
 
 pub returns-clause-ready : goal.returns-clause-ready
 returns-clause-ready g c =
@@ -59,6 +68,10 @@ returns-clause-ready g c =
     let chosen = c.in_ok-told.ensures.chosen in
     let given = chosen.0 in
     let begun = c.in_ok-happened.ensures.state in
+    let e = c.in_ok-told.ensures in
+    let found =
+    found_for t c.begin_cycle.new.self b.grants (space c.in_ok-inst.inst) c.in_ok-told.told.launch c.requires.sound c.in_ok-happened.ensures.reached c.in_ok-inst.ensures.instance
+    e.plan.honest.lawful e.plan.honest.thrifty e.jobs e.pieces in
     let is : space c.in_ok-inst.inst ≡ instance_at t s = c.in_ok-inst.ensures.instance ∙ ap (instance_of t) begun in
     let advice : IsAdvice sits before sat' now (instance_at t s) given = subst (λ (i : Space). IsAdvice sits before sat' now i given) is chosen.1 in
     record {
@@ -78,10 +91,10 @@ returns-clause-ready g c =
         chosen = subst (λ (i : Space). IsChosen i carry given t.header.budget (planned b)) is chosen.2;
         ordered = c.in_ok-told.ensures.ordered;
         printable = c.in_ok-told.ensures.printable;
-        in_range = c.in_ok-text.ensures.in_range;
+        in_range = c.in_ok-told.ensures.in_range;
       };
-      told = subst (λ (i : Space). IsTold c.args.telling t i b c.in_ok-text.text.items) is c.in_ok-text.ensures.told;
-      launch = subst (λ (q : Snapshot). IsLaunchOf t q b.grants c.in_ok-prepared.prepared) begun c.in_ok-prepared.ensures.launch;
+      told = subst (λ (i : Space). IsTold c.args.telling t i b c.in_ok-text.text.items) is c.in_ok-text.ensures;
+      launch = subst (λ (q : Snapshot). IsLaunchOf t q b.grants c.in_ok-prepared.prepared) begun (c.in_ok-prepared.ensures.launch t found);
       fits = subst (λ (q : Snapshot). Fits q c.in_ok-prepared.prepared) begun c.in_ok-prepared.ensures.fits;
       worth = c.in_ok-told.ensures.worth ∙ ap (λ (i : Space). worth_launched i b.grants) is;
       optimal = c.optimal_count.ensures.value;

@@ -66,3 +66,9 @@ returns-clause-happened c =
     let same = same_standing (ap (λ (r : Snapshot). r.now) c.self.view_is) (c.deref.ensures.value ∙ ap (λ (r : Snapshot). r.drained) c.self.view_is)
     (c.deref-2.ensures.value ∙ ap (λ (r : Snapshot). r.pending) c.self.view_is) (c.deref-3.ensures.value ∙ ap (λ (r : Snapshot). r.pieces) c.self.view_is) in
     c.in_ok-begun.ensures.happened ∙ ap (occurring (scenario c.args.trace.now)) same
+
+pub returns-clause-ended : goal.returns-clause-ended
+returns-clause-ended c = c.in_ok-begun.ensures.ended
+
+pub returns-clause-over : goal.returns-clause-over
+returns-clause-over c = c.in_ok-begun.ensures.over

@@ -1,0 +1,21 @@
+-- The bars of pieces.
+use Rattle.std.specs.Prelude.{ℕ, List, flat_map}
+use Rattle.tetri_cluster.specs.Cluster.{name_at}
+use Rattle.tetri_report.specs.Text.{job_name}
+use Rattle.tetri_svg.specs.Bars.{drawn_bar}
+use Rattle.tetri_svg.specs.declared.bar.Bar.{Bar}
+use Rattle.tetri_svg.specs.Layout.{Layout}
+use Rattle.tetri_trace.specs.Scenario.{Scenario}
+use Rattle.tetri_chart.specs.declared.picture.Span.{Span}
+
+-- the bar of a piece on a node
+abbrev pub bar_of : Span → ℕ → Bar
+bar_of s node = record { job = s.job; node = node; from = s.from; expected = s.expected; until = s.until; fate = s.fate }
+
+-- that bar as it is drawn
+abbrev pub node_text : Scenario → Layout → Span → ℕ → List ℕ
+node_text t f s node = drawn_bar f (bar_of s node) (job_name t s.job) (name_at t.nodes node)
+
+-- a piece: a bar on each of its nodes
+abbrev pub span_text : Scenario → Layout → Span → List ℕ
+span_text t f s = flat_map (node_text t f s) s.nodes

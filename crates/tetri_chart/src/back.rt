@@ -1,0 +1,148 @@
+// What stands in a picture behind the bars: waiting grants and the numbers of cycles.
+ghost use Rattle.std.specs.Prelude.{◌≡◌, ◌++◌, ◌<◌, OnOk, string_bytes};
+ghost use Rattle.tetri_cert.specs.Text.{mark_text};
+ghost use Rattle.tetri_chart.specs.Ends.{back_text, cycles_text, most_of, slot_text, slots_text, wait_bar, wait_bars, waits_text};
+ghost use Rattle.tetri_trace.specs.Scenario.{scenario};
+
+use crate::names::{job_name, node_name};
+use crate::picture::{Chart, CycleMark, Wait};
+use std::alloc::AllocError;
+use tetri_cert::PlanMark;
+use tetri_svg::{Frame, add_asked, add_cycle, add_legend, add_scale, add_wait};
+use tetri_trace::Trace;
+
+// Adds a waiting grant on a node.
+fn add_wait_bar(
+    out: &mut String,
+    trace: &Trace,
+    frame: &Frame,
+    wait: &Wait,
+    node: u32,
+) -> Result<(), AllocError>
+    ensures { OnOk result (string_bytes out.new ≡ string_bytes out.old ++ wait_bar (scenario trace.entry.now) frame.now wait.entry.now node) }
+{
+    let job = job_name(trace, wait.job);
+    let name = node_name(trace, node);
+    add_wait(out, frame, job, name, node, wait.from, wait.until)
+}
+
+// Adds a waiting grant on each of its nodes.
+fn add_wait_bars(
+    out: &mut String,
+    trace: &Trace,
+    frame: &Frame,
+    wait: &Wait,
+) -> Result<(), AllocError>
+    ensures { OnOk result (string_bytes out.new ≡ string_bytes out.old ++ wait_bars (scenario trace.entry.now) frame.now wait.entry.now) }
+{
+    for node in wait.nodes.as_slice() {
+        add_wait_bar(out, trace, frame, wait, *node)?;
+    }
+    Ok(())
+}
+
+// Adds the line at which the cycle begins whose waiting grants are shown, and these.
+fn add_waits(
+    out: &mut String,
+    trace: &Trace,
+    frame: &Frame,
+    asked: Option<u32>,
+    waits: &[Wait],
+) -> Result<(), AllocError>
+    ensures { OnOk result (string_bytes out.new ≡ string_bytes out.old ++ waits_text (scenario trace.entry.now) frame.now asked waits.entry.now) }
+{
+    let Some(cycle) = asked else {
+        return Ok(());
+    };
+    add_asked(out, frame, cycle)?;
+    for wait in waits {
+        add_wait_bars(out, trace, frame, wait)?;
+    }
+    Ok(())
+}
+
+// The number that stands at the top: the greatest value, or the greatest bound where this is more, but not more than four times as
+// much; and at least 1.
+fn most_of(cycles: &[CycleMark]) -> u64
+    ensures value { result ≡ most_of cycles.now }
+    ensures some { 0 < result }
+{
+    let mut value = 0;
+    let mut bound = 0;
+    for cycle in cycles {
+        value = cycle.value.max(value);
+        bound = cycle.bound.max(bound);
+    }
+    value.saturating_mul(4).min(bound).max(value).max(1)
+}
+
+// The word of a mark.
+fn mark_word(mark: PlanMark) -> &'static str
+    ensures { result.now ≡ mark_text mark }
+{
+    match mark {
+        PlanMark::Optimal => "optimal",
+        PlanMark::Spent => "spent",
+        PlanMark::Wide => "wide",
+    }
+}
+
+// Adds the value and the bound of the cycle of a slot, if it has one.
+fn add_slot(
+    out: &mut String,
+    frame: &Frame,
+    most: u64,
+    cycles: &[CycleMark],
+    slot: u32,
+) -> Result<(), AllocError>
+    requires { 0 < most }
+    ensures { OnOk result (string_bytes out.new ≡ string_bytes out.old ++ slot_text frame.now most cycles.now slot) }
+{
+    match cycles.get(slot as usize) {
+        Some(cycle) => {
+            let mark = mark_word(cycle.mark);
+            add_cycle(out, frame, most, slot, cycle.value, cycle.bound, mark)
+        }
+        None => Ok(()),
+    }
+}
+
+// Adds the values and the bounds of the cycles, where a number that stands at the top is this much.
+fn add_slots(
+    out: &mut String,
+    frame: &Frame,
+    most: u64,
+    cycles: &[CycleMark],
+) -> Result<(), AllocError>
+    requires { 0 < most }
+    ensures { OnOk result (string_bytes out.new ≡ string_bytes out.old ++ slots_text frame.now most cycles.now) }
+{
+    for slot in 0..frame.slots() {
+        add_slot(out, frame, most, cycles, slot)?;
+    }
+    Ok(())
+}
+
+// Adds the values and the bounds of the cycles, and the numbers of their axis.
+fn add_cycles(out: &mut String, frame: &Frame, cycles: &[CycleMark]) -> Result<(), AllocError>
+    ensures { OnOk result (string_bytes out.new ≡ string_bytes out.old ++ cycles_text frame.now cycles.now) }
+{
+    let most = most_of(cycles);
+    add_slots(out, frame, most, cycles)?;
+    add_scale(out, frame, most)
+}
+
+/// Adds all that stands behind the bars.
+pub(crate) fn add_back(
+    out: &mut String,
+    trace: &Trace,
+    frame: &Frame,
+    chart: &Chart,
+) -> Result<(), AllocError>
+    ensures { OnOk result (string_bytes out.new ≡ string_bytes out.old ++ back_text (scenario trace.entry.now) frame.now chart.entry.now) }
+{
+    add_waits(out, trace, frame, chart.asked, &chart.waits)?;
+    add_cycles(out, frame, &chart.cycles)?;
+    add_legend(out, frame)?;
+    out.push_str("</svg>\n")
+}

@@ -1,2 +1,0 @@
--- Laws that crates above cite.
-pub use Rattle.tetri_drawing.proofs.SpanLemmas.{tells_pieces}

@@ -1,8 +1,0 @@
-use Rattle.std.proofs.Common.{◌≡◌, ◌++◌, take, string_bytes}
-use Rattle.std.specs.Prelude.{flat_map}
-use Rattle.tetri_trace.specs.Scenario.{scenario}
-use Rattle.tetri_drawing.specs.Ends.{wait_bar}
-use Rattle.tetri_drawing.proofs.back.add_wait_bars.Given as goal
-
-abbrev pub invariant-loop-node : goal.invariant-loop-node
-invariant-loop-node l = string_bytes l.out ≡ string_bytes l.initial.out ++ flat_map (wait_bar (scenario l.trace) l.frame l.wait) (take l.node-index l.node-items)
