@@ -21,6 +21,7 @@ use Rattle.tetri_space.proofs.InstanceLaws.{all_of, each_of, lawful_trimmed, thr
 use Rattle.tetri_search.specs.Follow.{last_whole}
 use Rattle.tetri_claims.specs.Planned.{Planned}
 use Rattle.tetri_plan.specs.Chosen.{IsChosen, better, better_found, first_best, found_at, kept, searched}
+use Rattle.tetri_plan.specs.Plans.{HasNoWhole}
 
 -- what an allotment needs to be planned
 pub record IsFair (s : Space) (a : List Grant) : Type 0 where
@@ -52,6 +53,11 @@ module _ (s : Space) where
       by_found : (o : Option (List Cell)) → total_in s best ≤ total_in s (better_found s best o)
       by_found None = omega arith
       by_found (Some cells) = (better_bounds best (found_at s cells)).0
+
+  -- where it finds no whole point it leaves what was known
+  searched_none : (best : List Grant) (c : Certificate) → HasNoWhole c → searched s best c ≡ best
+  searched_none best (Tops columns rows) none = refl
+  searched_none best (Tree marks) none = ap (better_found s best) none
 
   -- one more given allotment
   pub next_given : (best : List Grant) (given : List (List Grant)) (i : ℕ) (a t b : List Grant) → i < length given → a ≡ get_or given i a → t ≡ all_trimmed s a → b ≡ better s best t →
@@ -118,6 +124,14 @@ module _ (s : Space) where
         let best = searched s (kept s carry given) p.certificate in
         let same : total_in s p.grants ≡ total_in s best = ap (total_in s) chosen.grants ∙ total_in_order s best in
         omega (arith, same, attained, searched_bounds (kept s carry given) p.certificate)
+
+    -- and no more where the search found no whole point
+    pub unfound_worth : (carry : List Grant) (given : List (List Grant)) (budget : ℕ) (p : Planned) → IsChosen s carry given budget p → total_in s p.grants ≡ p.value →
+        HasNoWhole p.certificate → total_in s (kept s carry given) ≡ p.value
+    unfound_worth carry given budget p chosen attained none =
+        let best = searched s (kept s carry given) p.certificate in
+        let same : total_in s p.grants ≡ total_in s best = ap (total_in s) chosen.grants ∙ total_in_order s best in
+        ap (total_in s) (sym (searched_none (kept s carry given) p.certificate none)) ∙ sym same ∙ attained
 
     -- with nothing given it is worth as much
     pub carried_worth : (carry : List Grant) → total_in s (kept s carry []) ≡ total_in s carry

@@ -1,5 +1,5 @@
 -- What a search says of the best plan.
-use Rattle.std.proofs.Common.{◌≡◌, ℕ, ◌*◌, ◌≤◌, ◌∙◌, refl, sym, ap, subst, arith, List, [], ◌∷◌, length, All, Option, Some, None, Result, Ok}
+use Rattle.std.proofs.Common.{◌≡◌, ℕ, ◌*◌, ◌^◌, ◌<◌, ◌≤◌, ◌∙◌, refl, sym, ap, subst, arith, List, [], ◌∷◌, length, All, Option, Some, None, Result, Ok}
 use Rattle.std.specs.Prelude.{IfSome, MatchOption, option_map}
 use Rattle.std.specs.Global.{Vec}
 use Rattle.std.proofs.lemmas.Int.{ints}
@@ -111,8 +111,8 @@ module _ (s : Space) (p : Program) (is : plain p ≡ program_of s) where
 
 -- what is kept, with the tops
 pub bounded_by_tops : (s : Space) (budget bound columns rows : ℕ) (c : Candidate) → IsFair s c.grants → c.worth ≡ total_in s c.grants → bound ≡ tops_in s → (MayHaveTree s → ⊥) →
-    columns ≡ column_count s → rows ≡ row_count s → IsSearched s c.grants budget (record { best = c; bound = bound; nodes = 0; certificate = Tops columns rows })
-bounded_by_tops s budget bound columns rows c fair worth is_bound not_tree columns_are rows_are = record {
+    columns ≡ column_count s → rows ≡ row_count s → columns < 2 ^ 64 → rows < 2 ^ 64 → IsSearched s c.grants budget (record { best = c; bound = bound; nodes = 0; certificate = Tops columns rows })
+bounded_by_tops s budget bound columns rows c fair worth is_bound not_tree columns_are rows_are few_columns few_rows = record {
   grants = refl;
   lawful = fair.lawful;
   thrifty = fair.thrifty;
@@ -123,7 +123,7 @@ bounded_by_tops s budget bound columns rows c fair worth is_bound not_tree colum
   bound = is_bound;
   nodes = refl;
   earned = tt;
-  printable = tt;
+  printable = (few_columns, few_rows);
   closed = λ has none. absurd has;
   enough = λ le. refl;
 }

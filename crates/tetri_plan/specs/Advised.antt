@@ -14,9 +14,11 @@ use Rattle.tetri_plan.specs.declared.planning.Plan.{Plan}
 abbrev pub IsWorthAtMost : Space → ℕ → Seat → Type 0
 IsWorthAtMost s worth a = IsLawful s (a.says s) → total_in s (a.says s) ≤ worth
 
--- The plan of a cycle for what is carried over and the budget, with the advisors that sat and the panel's count of misses before it
--- and afterwards: the panel was asked once of the instance and then taught, and the plan is the chosen one for what was given.
-pub record IsAdvisedPlan (s : Space) (carry : List Grant) (budget : ℕ) (sat : List Seat) (before : ℕ) (sits : List Seat) (now : ℕ) (p : Plan) : Type 0 where
+-- The plan of a cycle for what is carried over and the budget, with the advisors that sat and the
+-- panel's count of misses before it and afterwards: the panel was asked once of the instance and
+-- then taught, and the plan is the chosen one for what was given.
+pub record IsAdvisedPlan (s : Space) (carry : List Grant) (budget : ℕ) (sat : List Seat)
+    (before : ℕ) (sits : List Seat) (now : ℕ) (p : Plan) : Type 0 where
   pub given : List (List Grant)
   pub consulted : Consulted s sat before p.heard.items given sits now
   pub chosen : IsChosen s carry given budget (planned_of p)

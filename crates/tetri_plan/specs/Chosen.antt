@@ -26,7 +26,8 @@ abbrev pub first_best : Space → List Grant → List (List Grant) → List Gran
 first_best s best [] = best
 first_best s best (a ∷ later) = first_best s (better s best a) later
 
--- of no grant, what is carried over, and what of each given allotment earns something, in this order, the first that is worth most
+-- of no grant, what is carried over, and what of each given allotment earns something, in this
+-- order, the first that is worth most
 abbrev pub kept : Space → List Grant → List (List Grant) → List Grant
 kept s carry given = first_best s [] (carry ∷ map (all_trimmed s) given)
 
@@ -43,15 +44,19 @@ abbrev pub searched : Space → List Grant → Certificate → List Grant
 searched s best (Tops columns rows) = best
 searched s best (Tree marks) = better_found s best (last_whole marks)
 
--- a tree is that of a search over the program of the instance, with the worth of the best allotment known at first and the budget
+-- a tree is that of a search over the program of the instance, with the worth of the best allotment
+-- known at first and the budget
 abbrev pub IsEarnedFor : Space → ℕ → ℕ → Certificate → Type 0
 IsEarnedFor s low budget (Tops columns rows) = Unit {0}
-IsEarnedFor s low budget (Tree marks) = (p : Program) × (plain p ≡ program_of s) × IsEarned p low budget marks
+IsEarnedFor s low budget (Tree marks) = (p : Program) × (plain p ≡ program_of s)
+    × IsEarned p low budget marks
 
--- The plan is the chosen one for what is carried over, the given allotments and the budget: its certificate is that of the instance, a
--- tree is that of a search which knew the worth of the kept allotment, and its grants are the kept ones or those of the search's
--- last whole point, where these are worth more, by job and leaf.
-pub record IsChosen (s : Space) (carry : List Grant) (given : List (List Grant)) (budget : ℕ) (p : Planned) : Type 0 where
+-- The plan is the chosen one for what is carried over, the given allotments and the budget: its
+-- certificate is that of the instance, a tree is that of a search which knew the worth of the kept
+-- allotment, and its grants are the kept ones or those of the search's last whole point, where
+-- these are worth more, by job and leaf.
+pub record IsChosen (s : Space) (carry : List Grant) (given : List (List Grant)) (budget : ℕ)
+    (p : Planned) : Type 0 where
   pub certified : IsCertified s budget p
   pub earned : IsEarnedFor s (total_in s (kept s carry given)) budget p.certificate
   pub grants : p.grants ≡ in_order comes_first (searched s (kept s carry given) p.certificate)

@@ -30,9 +30,10 @@ mark_below (Tree marks) = Spent
 abbrev pub mark_for : ℕ → ℕ → Certificate → PlanMark
 mark_for value bound certificate = if value == bound then Optimal else mark_below certificate
 
--- The best allotment is the kept one or that of the last whole point of a search, and is lawful, thrifty and worth no less than the
--- kept one; the certificate is that of the instance, a tree is that of a search with this budget, and a tree with no node left open
--- bounds nothing above the best allotment's worth.
+-- The best allotment is the kept one or that of the last whole point of a search, and is lawful,
+-- thrifty and worth no less than the kept one; the certificate is that of the instance, a tree is
+-- that of a search with this budget, and a tree with no node left open bounds nothing above the
+-- best allotment's worth.
 pub record IsSearched (s : Space) (kept : List Grant) (budget : ℕ) (r : Searched) : Type 0 where
   pub grants : r.best.grants ≡ searched s kept r.certificate
   pub lawful : IsLawful s r.best.grants

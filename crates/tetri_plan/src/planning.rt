@@ -6,7 +6,7 @@ ghost use Rattle.tetri_claims.specs.Good.{IsGood};
 ghost use Rattle.tetri_compile.specs.Flat.{IsCompiled, column_count, row_count};
 ghost use Rattle.tetri_ip.specs.Points.{IsPoint, box_of};
 ghost use Rattle.tetri_plan.specs.Chosen.{IsChosen, better, kept};
-ghost use Rattle.tetri_plan.specs.Plans.{HasTree, IsPrintableTree, enough_in, leaves_open, planned_of};
+ghost use Rattle.tetri_plan.specs.Plans.{HasNoWhole, HasTree, IsPrintableTree, enough_in, leaves_open, planned_of};
 ghost use Rattle.tetri_plan.specs.Searched.{IsSearched, better_at, mark_for};
 ghost use Rattle.tetri_space.specs.GrantOrder.{ComesBefore};
 ghost use Rattle.tetri_space.specs.Lawful.{IsLawful};
@@ -71,7 +71,8 @@ fn better(inst: &Instance, earlier: Candidate, later: Allotment) -> Candidate
     }
 }
 
-// What of an allotment earns something. It is the same where the grants are put by job first, and then one pass finds it.
+// What of an allotment earns something. It is the same where the grants are put by job first, and
+// then one pass finds it.
 fn trim_given(alloc: Global, inst: &Instance, a: &Allotment) -> Result<Allotment, AllocError>
     requires { IsSound (space inst.now) }
     ensures { IfOk result (λ trimmed. trimmed ≡ all_trimmed (space inst.entry.now) a.now) }
@@ -82,7 +83,8 @@ fn trim_given(alloc: Global, inst: &Instance, a: &Allotment) -> Result<Allotment
     trim_all(alloc, inst, &by_job)
 }
 
-// Of no grant, what is carried over and what of each given allotment earns something, the first that is worth most.
+// Of no grant, what is carried over and what of each given allotment earns something, the first
+// that is worth most.
 fn kept(
     alloc: Global,
     inst: &Instance,
@@ -90,7 +92,8 @@ fn kept(
     given: &[Allotment],
 ) -> Result<Candidate, AllocError>
     requires sound { IsSound (space inst.now) }
-    ensures grants { IfOk result (λ c. c.grants ≡ kept (space inst.entry.now) carry.entry.now given.entry.now) }
+    ensures grants { IfOk result (λ c. c.grants
+        ≡ kept (space inst.entry.now) carry.entry.now given.entry.now) }
     ensures worth { IfOk result (λ c. c.worth ≡ total_in (space inst.entry.now) c.grants) }
 {
     let nothing = Candidate {
@@ -141,8 +144,10 @@ fn better_at(
     requires partitions { ArePartitionsOf (space inst.now) (parts_of parts.now) }
     requires compiled { IsCompiled (space inst.now) compiled.now }
     requires worth { best.worth ≡ total_in (space inst.now) best.grants }
-    requires point { IfSome last.now (λ v. IsPoint compiled.now.program (box_of compiled.now.program) v.items) }
-    ensures grants { IfOk result (λ c. c.grants ≡ better_at (space inst.entry.now) best.grants (option_map (λ v. v.items) last.now)) }
+    requires point { IfSome last.now
+        (λ v. IsPoint compiled.now.program (box_of compiled.now.program) v.items) }
+    ensures grants { IfOk result (λ c. c.grants
+        ≡ better_at (space inst.entry.now) best.grants (option_map (λ v. v.items) last.now)) }
     ensures worth { IfOk result (λ c. c.worth ≡ total_in (space inst.entry.now) c.grants) }
 {
     match last {
@@ -155,7 +160,8 @@ fn better_at(
     }
 }
 
-// The search of an instance that may have a tree, and the better of what was kept and the nodes of its last whole point.
+// The search of an instance that may have a tree, and the better of what was kept and the nodes of
+// its last whole point.
 fn search_on(
     alloc: Global,
     inst: &Instance,
@@ -182,7 +188,8 @@ fn search_on(
     })
 }
 
-// What is known of the best plan: by a search, where the instance may have a tree, else by the tops.
+// What is known of the best plan: by a search, where the instance may have a tree, else by the
+// tops.
 fn bound_on(
     alloc: Global,
     inst: &Instance,
@@ -208,10 +215,11 @@ fn bound_on(
     })
 }
 
-/// The chosen plan of an instance. Of no grant, what is carried over and what of each given allotment earns something, the first
-/// that is worth most is kept. Where a job is pending and the program of the instance has at most 2,000 columns and rows, a search by
-/// branch and bound with this budget follows, and the nodes of its last whole point take the place of the kept ones where they are
-/// worth more. Nobody is heard. Its only error is want of memory.
+/// The chosen plan of an instance. Of no grant, what is carried over and what of each given
+/// allotment earns something, the first that is worth most is kept. Where a job is pending and the
+/// program of the instance has at most 2,000 columns and rows, a search by branch and bound with
+/// this budget follows, and the nodes of its last whole point take the place of the kept ones where
+/// they are worth more. Nobody is heard. Its only error is want of memory.
 pub fn choose(
     alloc: Global,
     inst: &Instance,
@@ -223,19 +231,30 @@ pub fn choose(
     requires lawful { IsLawful (space inst.now) carry.now }
     requires thrifty { IsThriftyForAll (space inst.now) carry.now }
     requires given { All (IsLawful (space inst.now)) given.now }
-    ensures good { IfOk result (λ p. IsGood (space inst.entry.now) (total_in (space inst.entry.now) carry.entry.now) (planned_of p)) }
-    ensures chosen { IfOk result (λ p. IsChosen (space inst.entry.now) carry.entry.now given.entry.now budget (planned_of p)) }
-    ensures low { IfOk result (λ p. p.low ≡ total_in (space inst.entry.now) (kept (space inst.entry.now) carry.entry.now given.entry.now)) }
+    ensures good { IfOk result
+        (λ p. IsGood (space inst.entry.now) (total_in (space inst.entry.now) carry.entry.now)
+        (planned_of p)) }
+    ensures chosen { IfOk result
+        (λ p. IsChosen (space inst.entry.now) carry.entry.now given.entry.now budget
+        (planned_of p)) }
+    ensures low { IfOk result (λ p. p.low
+        ≡ total_in (space inst.entry.now)
+        (kept (space inst.entry.now) carry.entry.now given.entry.now)) }
     ensures at_least { IfOk result (λ p. p.low ≤ p.value) }
+    ensures no_whole { IfOk result (λ p. HasNoWhole p.certificate → p.low ≡ p.value) }
     ensures heard { IfOk result (λ p. p.heard.items ≡ []) }
     ensures ordered { IfOk result (λ p. AllPairs ComesBefore p.grants) }
     ensures printable { IfOk result (λ p. IsPrintableTree p.certificate) }
     ensures tree { IfOk result (λ p. HasTree p.certificate ↔ MayHaveTree (space inst.entry.now)) }
-    ensures no_rest { IfOk result (λ p. MayHaveTree (space inst.entry.now) → leaves_open p.certificate ≡ false → p.mark ≡ marks.Optimal) }
-    ensures spent { IfOk result (λ p. p.mark ≡ marks.Spent → (p.value < p.bound) × (leaves_open p.certificate ≡ true) × (p.nodes ≡ budget)) }
+    ensures no_rest { IfOk result (λ p. MayHaveTree (space inst.entry.now)
+        → leaves_open p.certificate ≡ false → p.mark ≡ marks.Optimal) }
+    ensures spent { IfOk result (λ p. p.mark ≡ marks.Spent
+        → (p.value < p.bound) × (leaves_open p.certificate ≡ true) × (p.nodes ≡ budget)) }
     ensures wide { IfOk result (λ p. p.mark ≡ marks.Wide → (p.value < p.bound)
-        × ((2000 < column_count (space inst.entry.now)) ⊎ (2000 < row_count (space inst.entry.now)))) }
-    ensures enough { MayHaveTree (space inst.entry.now) → enough_in (space inst.entry.now) ≤ budget → IfOk result (λ p. p.mark ≡ marks.Optimal) }
+        × ((2000 < column_count (space inst.entry.now))
+        ⊎ (2000 < row_count (space inst.entry.now)))) }
+    ensures enough { MayHaveTree (space inst.entry.now) → enough_in (space inst.entry.now) ≤ budget
+        → IfOk result (λ p. p.mark ≡ marks.Optimal) }
 {
     let kept = kept(alloc, inst, carry, given)?;
     let low = kept.worth;

@@ -19,7 +19,7 @@ use Rattle.tetri_split.specs.Restricted.{restricted}
 use Rattle.tetri_plan.specs.declared.planning.Plan.{Plan}
 use Rattle.tetri_reserve.specs.Answers.{EachAnswer, IsAnswer, IsAnswered, booked, carried, carried_on, grants_of, is_booked}
 use Rattle.tetri_reserve.specs.Book.{IsBook, IsShallow, kept_on}
-use Rattle.tetri_reserve.specs.Meaning.{IsTrue}
+use Rattle.tetri_reserve.specs.Meaning.{IsTrueAnswer}
 use Rattle.tetri_reserve.specs.Wanted.{wanted, with_bid}
 use Rattle.tetri_reserve.specs.declared.answer.Answer.{Answer}
 use Rattle.tetri_reserve.specs.declared.answer.AnswerKind.{AnswerKind}
@@ -148,10 +148,10 @@ module _ (s : Space) (budget i : ℕ) (answers : List Answer) (w : Space) (carry
         subst (λ bs. EachAnswer (IsAnswer s budget) [] bs (answers ++ a ∷ [])) (sym next.front)
         (one_more_answer (IsAnswer s budget) [] (take i s.bids) answers b a is.answered is_answer)
 
-    all_true : EachAnswer (IsTrue s budget) [] (take (i + 1) s.bids) (answers ++ a ∷ [])
+    all_true : EachAnswer (IsTrueAnswer s budget) [] (take (i + 1) s.bids) (answers ++ a ∷ [])
     all_true =
-        subst (λ bs. EachAnswer (IsTrue s budget) [] bs (answers ++ a ∷ [])) (sym next.front)
-        (one_more_answer (IsTrue s budget) [] (take i s.bids) answers b a is.meaning (is_true s budget answers b a is_answer))
+        subst (λ bs. EachAnswer (IsTrueAnswer s budget) [] bs (answers ++ a ∷ [])) (sym next.front)
+        (one_more_answer (IsTrueAnswer s budget) [] (take i s.bids) answers b a is.meaning (is_true s budget answers b a is_answer))
 
     carried_is : held ≡ carried (answers ++ a ∷ [])
     carried_is = held_is ∙ ap (λ (g : List Grant). carried_on g a) is.carry_is ∙ sym (fold_push carried_on [] answers a)

@@ -14,7 +14,7 @@ use Rattle.tetri_split.proofs.SplitLaws.{bid_worth-kept, lawful-kept}
 use Rattle.tetri_plan.specs.declared.planning.Plan.{Plan}
 use Rattle.tetri_reserve.specs.Answers.{EachAnswer, IsAnswer, IsAnswered, IsShort, Says, grants_of}
 use Rattle.tetri_reserve.specs.Laws.{AnswersAreTrue}
-use Rattle.tetri_reserve.specs.Meaning.{IsTrue}
+use Rattle.tetri_reserve.specs.Meaning.{IsTrueAnswer}
 use Rattle.tetri_reserve.specs.Wanted.{AreServed, wanted, wanted_bid}
 use Rattle.tetri_reserve.specs.declared.answer.Answer.{Answer}
 use Rattle.tetri_reserve.specs.declared.answer.AnswerKind.{AnswerKind}
@@ -68,7 +68,7 @@ module _ (s : Space) (jobs : List ℕ) (levels budget : ℕ) (carry : List Grant
   undecided kind None h e = let deep = h.1 in absurd cc
   undecided kind (Some p) h e = let n = says p kind Undecided e h.2 in h.1.short (omega (arith, n.0, n.1))
 
-pub is_true : (s : Space) (budget : ℕ) (earlier : List Answer) (b : Bid) (a : Answer) → IsAnswer s budget earlier b a → IsTrue s budget earlier b a
+pub is_true : (s : Space) (budget : ℕ) (earlier : List Answer) (b : Bid) (a : Answer) → IsAnswer s budget earlier b a → IsTrueAnswer s budget earlier b a
 is_true s budget earlier b a h = record {
   lawful = lawful s _ _ budget _ a.kind a.plan h.answered;
   admitted = admitted s _ _ budget _ a.kind a.plan h.answered;
@@ -77,4 +77,4 @@ is_true s budget earlier b a h = record {
 }
 
 pub answers_are_true : AnswersAreTrue
-answers_are_true s budget answers h = each_answer (IsAnswer s budget) (IsTrue s budget) (is_true s budget) [] s.bids answers h
+answers_are_true s budget answers h = each_answer (IsAnswer s budget) (IsTrueAnswer s budget) (is_true s budget) [] s.bids answers h

@@ -31,6 +31,7 @@ pub record IsChosenPlan (s : Space) (carry : List Grant) (budget : ℕ) (p : Pla
   pub low : p.low ≡ total_in s (kept s carry [])
   pub spent : p.mark ≡ Spent → (p.value < p.bound) × (leaves_open p.certificate ≡ true) × (p.nodes ≡ budget)
   pub wide : p.mark ≡ Wide → (p.value < p.bound) × ((2000 < column_count s) ⊎ (2000 < row_count s))
+  pub unheard : p.heard.items ≡ []
 
 pub plan_is_of : (s : Space) (carry : List Grant) (budget : ℕ) (p : Plan) → IsSound s → IsChosenPlan s carry budget p → IsPlanOf s carry budget p
 plan_is_of s carry budget p sound is = record {
@@ -39,6 +40,7 @@ plan_is_of s carry budget p sound is = record {
   low = is.low ∙ carried_worth s sound carry;
   earned = subst (λ n. IsEarnedFor s n budget p.certificate) (carried_worth s sound carry) is.chosen.earned;
   short = λ lt. by_mark lt is.chosen.certified.mark;
+  unheard = is.unheard;
 }
   where
     short_by : (p.mark ≡ Spent) ⊎ (p.mark ≡ Wide) → IsShort s budget p

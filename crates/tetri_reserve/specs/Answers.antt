@@ -53,13 +53,14 @@ abbrev pub IsShort : Space → ℕ → Plan → Type 0
 IsShort s budget p = ((p.mark ≡ Spent) × (leaves_open p.certificate ≡ true) × (p.nodes ≡ budget)) ⊎ ((p.mark ≡ Wide) × ((2000 < column_count s) ⊎ (2000 < row_count s)))
 
 -- The plan is good and the chosen one for the wanted jobs, with this carry, nothing given and this budget; its tree is that of a search
--- which knew the worth of the carry; and where its value is below its bound it says why.
+-- which knew the worth of the carry; where its value is below its bound it says why; and nobody was heard.
 pub record IsPlanOf (s : Space) (carry : List Grant) (budget : ℕ) (p : Plan) : Type 0 where
   pub good : IsGood s (total_in s carry) (planned_of p)
   pub chosen : IsChosen s carry [] budget (planned_of p)
   pub low : p.low ≡ total_in s carry
   pub earned : IsEarnedFor s (total_in s carry) budget p.certificate
   pub short : p.value < p.bound → IsShort s budget p
+  pub unheard : p.heard.items ≡ []
 
 -- What is answered about wanted jobs, the last of which has an expression of this depth: `Deep` and no plan exactly where the depth is
 -- 64, since the barrier would make it 65; else a plan, and what it says.

@@ -8,7 +8,7 @@ use Rattle.tetri_space.specs.Space.{Bid, Space}
 use Rattle.tetri_space.specs.Trimmed.{IsThriftyForAll}
 use Rattle.tetri_split.specs.Restricted.{restricted}
 use Rattle.tetri_reserve.specs.Answers.{EachAnswer, IsAnswer, booked, carried, is_booked}
-use Rattle.tetri_reserve.specs.Meaning.{IsTrue}
+use Rattle.tetri_reserve.specs.Meaning.{IsTrueAnswer}
 use Rattle.tetri_reserve.specs.Wanted.{wanted, with_bid}
 use Rattle.tetri_reserve.specs.declared.answer.Answer.{Answer}
 
@@ -28,7 +28,7 @@ pub record IsBook (s : Space) (budget i : ℕ) (answers : List Answer) (w : Spac
   pub wanted_is : w ≡ wanted s jobs
   pub carry_is : carry ≡ carried answers
   pub answered : EachAnswer (IsAnswer s budget) [] (take i s.bids) answers
-  pub meaning : EachAnswer (IsTrue s budget) [] (take i s.bids) answers
+  pub meaning : EachAnswer (IsTrueAnswer s budget) [] (take i s.bids) answers
   pub later : Each (λ n. Each (λ (b : Bid). n < b.job) (drop i s.bids)) jobs
   pub shallow : All IsShallow (restricted (has jobs) s).bids
   pub lawful : IsLawful (wanted s jobs) carry

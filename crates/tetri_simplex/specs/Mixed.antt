@@ -1,7 +1,9 @@
 -- Rows of whole numbers over one denominator, where these are short, and rows of fractions.
-use Rattle.std.specs.Prelude.{◌≡◌, ℕ, ◌+◌, List, [], map, length, get_or, set, Ok, All}
+use Rattle.std.specs.Prelude.{◌≡◌, ℕ, ◌+◌, List, [], map, length, get_or, set, Option, Ok, All, IfSome, Vec}
+use Rattle.std.specs.Global.{Global}
 use lib.IntN.{ℤ}
 use Rattle.tetri_algebra.specs.Rational.{ℚ}
+use Rattle.tetri_num.specs.declared.fractions.Frac.{Frac}
 use Rattle.tetri_rows.specs.Rows.{meaning}
 use Rattle.tetri_rows.specs.Small.{IsShort, IsDenominator}
 use Rattle.tetri_rows.specs.Terms.{AreTerms}
@@ -37,6 +39,10 @@ AreMixedRows n rows = All (IsMixedRow n) rows
 abbrev pub AreTermsOfRow : MixedRow → Terms → Type 0
 AreTermsOfRow (Whole den numbers) t = AreTerms t.places.items t.numbers.items numbers.items
 AreTermsOfRow (Fractions numbers) t = Unit {0}
+
+-- these are the row's numbers as fractions, where they were made
+abbrev pub AreFractionsOfRow : MixedRow → Option (Vec Frac Global) → Type 0
+AreFractionsOfRow row known = IfSome known (λ v. values v.items ≡ mixed_row row)
 
 -- row k has the solved row put in for its variable at place j, and the others are as they were
 pub record IsReplacedAt (n k j : ℕ) (solved : List ℚ) (old new : List MixedRow) : Type 0 where

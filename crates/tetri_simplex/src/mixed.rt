@@ -12,7 +12,7 @@ ghost use Rattle.tetri_simplex.specs.Below.{below_of};
 ghost use Rattle.tetri_simplex.specs.Faults.{IsFault};
 ghost use Rattle.tetri_simplex.specs.Fractions.{values};
 ghost use Rattle.tetri_simplex.specs.Holders.{bit, IsHolder};
-ghost use Rattle.tetri_simplex.specs.Mixed.{mixed_row, mixed_rows, AreWholeNumbers, IsMixedRow, AreMixedRows, AreTermsOfRow, IsReplacedAt};
+ghost use Rattle.tetri_simplex.specs.Mixed.{mixed_row, mixed_rows, AreWholeNumbers, IsMixedRow, AreMixedRows, AreTermsOfRow, AreFractionsOfRow, IsReplacedAt};
 ghost use Rattle.tetri_simplex.specs.Pivots.{solved_row, replaced_row, next_row, pivoted_rows};
 ghost use Rattle.tetri_simplex.specs.Steps.{each};
 ghost use Rattle.tetri_simplex.specs.Tables.{coefficients_of, is_negative, is_positive};
@@ -297,25 +297,34 @@ fn put_whole(
     }
 }
 
-// Puts a solved row in for the variable at place j of a row of fractions.
+// Puts a solved row in for the variable at place j of a row of fractions. `known` keeps the solved row's
+// fractions, once they were made.
 fn replaced_fractions(
     alloc: Global,
     columns: u32,
     numbers: Vec<Frac>,
     solved: &MixedRow,
+    known: &mut Option<Vec<Frac>>,
     i: u32,
     j: u32,
 ) -> Result<MixedRow, PivotFault>
     requires row { length numbers.items ≡ columns + 1 }
     requires solved { IsMixedRow columns solved.now }
+    requires known { AreFractionsOfRow solved.now known.old }
     requires place { j < columns }
     ensures formed { let next = replaced_row columns i j (mixed_row solved.now) (values numbers.items) in
         MatchResult result (λ r. next ≡ Ok (mixed_row r)) (λ e. IsFault e next) }
     ensures sound { IfOk result (λ r. IsMixedRow columns r) }
+    ensures known { AreFractionsOfRow solved.now known.new }
 {
     let mut new = numbers;
-    let solved = fractions_of(alloc, columns, solved)?;
-    match replace_row(columns, &mut new, &solved, i, j) {
+    let fractions = match known.take() {
+        Some(fractions) => fractions,
+        None => fractions_of(alloc, columns, solved)?,
+    };
+    let replaced = replace_row(columns, &mut new, &fractions, i, j);
+    *known = Some(fractions);
+    match replaced {
         Ok(()) => Ok(brought_back(alloc, columns, new)?),
         Err(place) => Err(PivotFault::Past(place)),
     }
@@ -328,16 +337,19 @@ fn replaced_mixed(
     row: MixedRow,
     solved: &MixedRow,
     terms: &Terms,
+    known: &mut Option<Vec<Frac>>,
     i: u32,
     j: u32,
 ) -> Result<MixedRow, PivotFault>
     requires row { IsMixedRow columns row }
     requires solved { IsMixedRow columns solved.now }
     requires terms { AreTermsOfRow solved.now terms.now }
+    requires known { AreFractionsOfRow solved.now known.old }
     requires place { j < columns }
     ensures formed { let next = replaced_row columns i j (mixed_row solved.now) (mixed_row row) in
         MatchResult result (λ r. next ≡ Ok (mixed_row r)) (λ e. IsFault e next) }
     ensures sound { IfOk result (λ r. IsMixedRow columns r) }
+    ensures known { AreFractionsOfRow solved.now known.new }
 {
     match row {
         MixedRow::Whole { den, mut numbers } => {
@@ -345,12 +357,12 @@ fn replaced_mixed(
                 Some(new) => Ok(MixedRow::Whole { den: new, numbers }),
                 None => {
                     let old = fractions(alloc, den, &numbers)?;
-                    replaced_fractions(alloc, columns, old, solved, i, j)
+                    replaced_fractions(alloc, columns, old, solved, known, i, j)
                 }
             }
         }
         MixedRow::Fractions(numbers) => {
-            replaced_fractions(alloc, columns, numbers, solved, i, j)
+            replaced_fractions(alloc, columns, numbers, solved, known, i, j)
         }
     }
 }
@@ -364,6 +376,7 @@ fn replace_at(
     below: &mut [bool],
     solved: &MixedRow,
     terms: &Terms,
+    known: &mut Option<Vec<Frac>>,
     k: usize,
     j: u32,
 ) -> Result<(), PivotFault>
@@ -373,14 +386,16 @@ fn replace_at(
     requires below { below.old ≡ below_of (mixed_rows rows.old) }
     requires solved { IsMixedRow columns solved.now }
     requires terms { AreTermsOfRow solved.now terms.now }
+    requires known { AreFractionsOfRow solved.now known.old }
     requires place { j < columns }
     ensures formed { let next = replaced_row columns k j (mixed_row solved.now) (get_or (mixed_rows rows.old) k []) in
         MatchResult result (λ _. IsReplacedAt columns k j (mixed_row solved.now) rows.old rows.new) (λ e. IsFault e next) }
     ensures sound { IfOk result (λ _. AreMixedRows columns rows.new) }
     ensures below { IfOk result (λ _. below.new ≡ below_of (mixed_rows rows.new)) }
+    ensures known { AreFractionsOfRow solved.now known.new }
 {
     let old = mem::replace(&mut rows[k], MixedRow::Fractions(Vec::new(alloc)));
-    match replaced_mixed(alloc, columns, old, solved, terms, k as u32, j) {
+    match replaced_mixed(alloc, columns, old, solved, terms, known, k as u32, j) {
         Ok(new) => {
             below[k] = is_negative_at(columns, &new, 0);
             rows[k] = new;
@@ -392,7 +407,7 @@ fn replace_at(
 
 // Puts the solved row in for the variable at place j in each row but that at place i. A row without
 // the variable stays untouched, and its bit in `own` is cleared; where `own` has no bit, the row is not
-// even looked at.
+// even looked at. The solved row's fractions are made at most once.
 fn replace_mixed(
     alloc: Global,
     columns: u32,
@@ -420,6 +435,7 @@ fn replace_mixed(
     ensures holder { IsHolder own.new (mixed_rows rows.old) j }
     ensures untouched { IfOk result (λ _. (q : ℕ) (r : MixedRow) → bit own.new q ≡ 0 → get_or rows.new q r ≡ get_or rows.old q r) }
 {
+    let mut known = None;
     let mut from = 0;
     for _ in 0..rows.len() {
         let k = next_set(own, from, rows.len());
@@ -429,7 +445,7 @@ fn replace_mixed(
         if is_zero_at(columns, &rows[k], j as usize + 1) {
             clear_bit(own, k);
         } else if k != i as usize {
-            match replace_at(alloc, columns, rows, below, solved, terms, k, j) {
+            match replace_at(alloc, columns, rows, below, solved, terms, &mut known, k, j) {
                 Ok(()) => {}
                 Err(fault) => return Err(fault),
             }

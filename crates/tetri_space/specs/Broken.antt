@@ -24,11 +24,15 @@ NamesSameLeaf g h = (g.job ≡ h.job) × (g.leaf ≡ h.leaf)
 
 -- the grant holds this one of the nodes in a slot of the leaf
 abbrev pub ClashesAt : Space → Leaf → List ℕ → Grant → ℕ → Type 0
-ClashesAt s l nodes g n = Contains nodes n × Contains g.nodes n × IsSomeAnd (leaf_in s.bids g.job g.leaf) (HasCommonSlot l)
+ClashesAt s l nodes g n = Contains nodes n × Contains g.nodes n
+    × IsSomeAnd (leaf_in s.bids g.job g.leaf) (HasCommonSlot l)
 
--- of the nodes, `n` is the least at which a grant clashes, and the grant at place `i` is the first that clashes there
-pub record IsFirstClash (s : Space) (l : Leaf) (nodes : List ℕ) (grants : List Grant) (i n : ℕ) : Type 0 where
-  pub node : IsLeast (λ m. (p : ℕ) × IsSomeAnd (slice_get grants p) (λ g. ClashesAt s l nodes g m)) n
+-- of the nodes, `n` is the least at which a grant clashes, and the grant at place `i` is the first
+-- that clashes there
+pub record IsFirstClash (s : Space) (l : Leaf) (nodes : List ℕ) (grants : List Grant)
+    (i n : ℕ) : Type 0 where
+  pub node : IsLeast (λ m. (p : ℕ)
+      × IsSomeAnd (slice_get grants p) (λ g. ClashesAt s l nodes g m)) n
   pub place : IsLeast (λ p. IsSomeAnd (slice_get grants p) (λ g. ClashesAt s l nodes g n)) i
 
 -- a grant `g` that comes after these earlier ones
@@ -44,8 +48,10 @@ module _ (s : Space) (earlier : List Grant) (g : Grant) where
   Breaks (Doubled i) = IsLeast (λ p. IsSomeAnd (slice_get earlier p) (NamesSameLeaf g)) i
   Breaks BadNodes = 1 ≤ length g.nodes → IsStrictlyIncreasing g.nodes → ⊥
   Breaks TooMany = OfLeaf (λ l. l.k < length g.nodes)
-  Breaks (Outside n) = OfLeaf (λ l. IsLeast (λ m. Contains g.nodes m × (Contains (set_of s l) m → ⊥)) n)
-  Breaks (NotFree n) = OfLeaf (λ l. IsLeast (λ m. Contains g.nodes m × (IsFreeThroughout s l m → ⊥)) n)
+  Breaks (Outside n) = OfLeaf (λ l. IsLeast (λ m. Contains g.nodes m
+      × (Contains (set_of s l) m → ⊥)) n)
+  Breaks (NotFree n) = OfLeaf (λ l. IsLeast (λ m. Contains g.nodes m
+      × (IsFreeThroughout s l m → ⊥)) n)
   Breaks (Clash i n) = OfLeaf (λ l. IsFirstClash s l g.nodes earlier i n)
 
 -- where a rule stands among the rules

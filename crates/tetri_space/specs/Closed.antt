@@ -28,8 +28,8 @@ abbrev pub is_odd_at : List ℕ → ℕ → Bool
 is_odd_at [] t = false
 is_odd_at (x ∷ xs) t = nat_le x t && not (is_odd_at xs t)
 
--- The slots from `now` on in which the node closes or opens, each written as a number `base` higher: it is closed in a
--- slot where an odd number of them are not past it.
+-- The slots from `now` on in which the node closes or opens, each written as a number `base`
+-- higher: it is closed in a slot where an odd number of them are not past it.
 pub record AreTurns (cs : List Closure) (n now base : ℕ) (turns : List ℕ) : Type 0 where
   pub rising : IsStrictlyIncreasing turns
   pub not_before : All (λ x. base + now ≤ x) turns

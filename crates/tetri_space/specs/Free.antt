@@ -22,7 +22,8 @@ IsFreeThroughout s l n = (slot : ℕ) → Covers l slot → IsFree s n slot
 
 -- the node is there and not drained, and nothing runs on it in this slot or later
 abbrev pub is_idle : Space → ℕ → ℕ → Bool
-is_idle s n t = nat_lt n s.nodes && not (slice_index_or s.drained n true) && nat_le (slice_index_or s.busy_until n 0) t
+is_idle s n t = nat_lt n s.nodes && not (slice_index_or s.drained n true)
+    && nat_le (slice_index_or s.busy_until n 0) t
 
 -- the test of `IsFree`
 abbrev pub is_free : Space → ℕ → ℕ → Bool

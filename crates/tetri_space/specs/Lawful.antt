@@ -7,7 +7,8 @@ use Rattle.tetri_strl.specs.declared.grants.Grant.{Grant}
 use Rattle.tetri_space.specs.Space.{Space, set_of, leaf_in, IsLive, Covers}
 use Rattle.tetri_space.specs.Free.{IsFreeThroughout}
 
--- at least one and at most `k` nodes of the leaf's set, ascending, each free in every slot of the leaf
+-- at least one and at most `k` nodes of the leaf's set, ascending, each free in every slot of the
+-- leaf
 pub record HasRightNodes (s : Space) (l : Leaf) (nodes : List ℕ) : Type 0 where
   pub some : 1 ≤ length nodes
   pub ascending : IsStrictlyIncreasing nodes
@@ -32,7 +33,8 @@ NoCommonSlot l m = (slot : ℕ) → Covers l slot → Covers m slot → ⊥
 pub record AreApart (s : Space) (g h : Grant) : Type 0 where
   pub other_leaf : g.job ≡ h.job → g.leaf ≡ h.leaf → ⊥
   pub other_slots : (n : ℕ) → Contains g.nodes n → Contains h.nodes n →
-      ForSome (leaf_in s.bids g.job g.leaf) (λ l. ForSome (leaf_in s.bids h.job h.leaf) (NoCommonSlot l))
+      ForSome (leaf_in s.bids g.job g.leaf)
+      (λ l. ForSome (leaf_in s.bids h.job h.leaf) (NoCommonSlot l))
 
 -- each grant is lawful by itself, and each two are apart
 pub record IsLawful (s : Space) (a : List Grant) : Type 0 where

@@ -1,4 +1,5 @@
--- Groups of nodes that the live leaves and the closures cannot tell apart, and how many of their nodes are free.
+-- Groups of nodes that the live leaves and the closures cannot tell apart, and how many of their
+-- nodes are free.
 use Rattle.std.specs.Prelude.{◌≡◌, ℕ, ◌+◌, ◌<◌, Bool, ◌&&◌, not, nat_lt, max, List, [], ◌∷◌, ◌++◌, map, length, slice_index_or, Contains, Option, Some, None}
 use Rattle.std.specs.List.{list_any, list_all, filter, flat_map, range_with_len}
 use Rattle.tetri_strl.specs.Prune.{pruned}
@@ -36,13 +37,17 @@ asked s bs = map (set_at s) (sets_in bs)
 abbrev pub alike : List (List ℕ) → ℕ → ℕ → Bool
 alike sets m n = list_all (λ s. same (has s m) (has s n)) sets
 
--- The node is in some of the asked sets, and no lesser node is in exactly its sets, the marked ones among them.
+-- The node is in some of the asked sets, and no lesser node is in exactly its sets, the marked ones
+-- among them.
 abbrev pub leads : List (List ℕ) → List (List ℕ) → List ℕ → ℕ → Bool
-leads asks marks nodes n = list_any (λ s. has s n) asks && not (list_any (λ m. nat_lt m n && alike (asks ++ marks) m n) nodes)
+leads asks marks nodes n = list_any (λ s. has s n) asks
+    && not (list_any (λ m. nat_lt m n && alike (asks ++ marks) m n) nodes)
 
--- the largest groups of nodes that are in exactly the same asked and marked sets, by least node; nodes in no asked set are in none
+-- the largest groups of nodes that are in exactly the same asked and marked sets, by least node;
+-- nodes in no asked set are in none
 abbrev pub groups : List (List ℕ) → List (List ℕ) → List ℕ → List (List ℕ)
-groups asks marks nodes = map (λ n. filter (alike (asks ++ marks) n) nodes) (filter (leads asks marks nodes) nodes)
+groups asks marks nodes = map (λ n. filter (alike (asks ++ marks) n) nodes)
+    (filter (leads asks marks nodes) nodes)
 
 abbrev pub nodes_of : Space → List ℕ
 nodes_of s = range_with_len 0 s.nodes
@@ -59,7 +64,8 @@ closed_at s t = filter (λ n. is_closed s n t) (nodes_of s)
 abbrev pub closed_sets : Space → List (List ℕ)
 closed_sets s = map (closed_at s) (turns s)
 
--- The partitions of the nodes: by the sets of the live leaves, and by the slots from now on in which they are closed.
+-- The partitions of the nodes: by the sets of the live leaves, and by the slots from now on in
+-- which they are closed.
 abbrev pub partitions : Space → List (List ℕ)
 partitions s = groups (asked s (live_bids s)) (closed_sets s) (nodes_of s)
 
@@ -69,7 +75,8 @@ part_at parts p = slice_index_or parts p []
 
 -- the numbers of the partitions whose nodes are all in this set, ascending
 abbrev pub parts_in : Space → List (List ℕ) → ℕ → List ℕ
-parts_in s parts k = filter (λ p. list_all (has (set_at s k)) (part_at parts p)) (range_with_len 0 (length parts))
+parts_in s parts k = filter (λ p. list_all (has (set_at s k)) (part_at parts p))
+    (range_with_len 0 (length parts))
 
 -- a node of the partition of this number is closed in this slot; from now on then all of them are
 abbrev pub is_closed_part : Space → List (List ℕ) → ℕ → ℕ → Bool
@@ -79,8 +86,8 @@ is_closed_part s parts p t = list_any (λ n. is_closed s n t) (part_at parts p)
 abbrev pub available : Space → List (List ℕ) → ℕ → ℕ → ℕ
 available s parts p t = count (λ n. is_free s n t) (part_at parts p)
 
--- What was found of an instance: what is left of its bids in the window, the nodes of each partition, and the
--- partitions in each set that a live leaf names.
+-- What was found of an instance: what is left of its bids in the window, the nodes of each
+-- partition, and the partitions in each set that a live leaf names.
 pub record Parts : Type 0 where
   pub bids : List Bid
   pub groups : List (List ℕ)

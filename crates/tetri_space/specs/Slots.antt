@@ -14,7 +14,8 @@ slots_of now l = 2 ^ min 64 (l.start - now + l.dur) - 2 ^ (l.start - now)
 abbrev pub meets : ℕ → ℕ → Bool
 meets a b = not (bit_and a b == 0)
 
--- By node, a mask has the slots in which it is held: the node is held in some slot of the window that the leaf uses.
+-- By node, a mask has the slots in which it is held: the node is held in some slot of the window
+-- that the leaf uses.
 abbrev pub is_marked : List ℕ → ℕ → Leaf → ℕ → Bool
 is_marked masks now l n = meets (get_or masks n 0) (slots_of now l)
 

@@ -16,7 +16,8 @@ pub record IsSoundBid (s : Space) (b : Bid) : Type 0 where
   pub well_made : IsWellMade b.expr
   pub known_sets : All (HasKnownSet s) (leaves b.expr)
 
--- the limits of an instance: slots, nodes, closures of these nodes, and jobs that ascend and ask for what is there
+-- the limits of an instance: slots, nodes, closures of these nodes, and jobs that ascend and ask
+-- for what is there
 pub record IsSound (s : Space) : Type 0 where
   pub early : s.now ≤ 10000
   pub some_slots : 1 ≤ s.window

@@ -12,7 +12,8 @@ pub record Bid : Type 0 where
   pub job : ℕ
   pub expr : Tree
 
--- Slots `now` to `now + window - 1`; `busy_until` and `drained` by node; closures as they were given; the bids by job.
+-- Slots `now` to `now + window - 1`; `busy_until` and `drained` by node; closures as they were
+-- given; the bids by job.
 pub record Space : Type 0 where
   pub now : ℕ
   pub window : ℕ

@@ -25,8 +25,9 @@ place_of c = c.node * 2 ^ 32 + c.from
 abbrev pub is_past : ℕ → ℕ → Closure → Bool
 is_past n t c = nat_lt c.node n || (c.node == n && nat_lt c.to t)
 
--- The slots from `now` on in which the first spans, as far as they are of this node, begin, and those behind their
--- ends, each `base` higher.
+-- The slots from `now` on in which the first spans, as far as they are of this node, begin, and
+-- those behind their ends, each `base` higher.
 abbrev pub ends_in : ℕ → ℕ → ℕ → List Closure → List ℕ
 ends_in n now base [] = []
-ends_in n now base (c ∷ cs) = if c.node == n then (base + max now c.from) ∷ (base + (c.to + 1)) ∷ ends_in n now base cs else []
+ends_in n now base (c ∷ cs) = if c.node == n
+    then (base + max now c.from) ∷ (base + (c.to + 1)) ∷ ends_in n now base cs else []

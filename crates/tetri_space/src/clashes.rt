@@ -55,8 +55,8 @@ fn overlap(leaf: &Leaf, other: &Leaf) -> bool
     leaf.start < other.start + other.dur && other.start < leaf.start + leaf.dur
 }
 
-// The least of these nodes that the grant holds in a slot of the leaf. The grant's leaf is looked up
-// only where they have a node in common.
+// The least of these nodes that the grant holds in a slot of the leaf. The grant's leaf is looked
+// up only where they have a node in common.
 fn clash_with(inst: &Instance, leaf: &Leaf, nodes: &[u32], grant: &Grant) -> Option<u32>
     requires sound { IsSound (space inst.now) }
     requires good { IsGoodLeaf leaf.now }
@@ -109,7 +109,8 @@ pub fn first_clash(
     requires ascending { IsStrictlyIncreasing nodes.now }
     requires earlier_ascending { All (λ g. IsStrictlyIncreasing g.nodes) earlier.now }
     ensures { MatchOption result
-        (All (λ g. (m : ℕ) → ClashesAt (space inst.entry.now) leaf.now nodes.now g m → ⊥) earlier.now)
+        (All (λ g. (m : ℕ) → ClashesAt (space inst.entry.now) leaf.now nodes.now g m
+        → ⊥) earlier.now)
         (λ f. IsFirstClash (space inst.entry.now) leaf.now nodes.now earlier.now f.0 f.1) }
 {
     let mut found = None;

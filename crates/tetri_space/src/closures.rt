@@ -8,8 +8,8 @@ use crate::spans::{first_reaching, meets, push_ends, spans_of};
 use std::alloc::{AllocError, Global};
 use std::marker::Model;
 
-/// Closures, in the order in which they were given. A look-up goes by an index that is made once: for
-/// each node the spans of slots in which it is closed, found by binary search.
+/// Closures, in the order in which they were given. A look-up goes by an index that is made once:
+/// for each node the spans of slots in which it is closed, found by binary search.
 #[derive(Drop)]
 pub struct Closures {
     given: Vec<Closure>,
@@ -71,8 +71,8 @@ impl Closures {
     }
 
     /// Puts the slots from `now` on in which the node closes or opens last in a list, each `base`
-    /// higher. They ascend, and the node is closed in a slot where an odd number of them are not past
-    /// it. Linear in its spans after a binary search.
+    /// higher. They ascend, and the node is closed in a slot where an odd number of them are not
+    /// past it. Linear in its spans after a binary search.
     pub fn push_turns(
         &self,
         node: u32,
@@ -83,7 +83,8 @@ impl Closures {
         requires few { base < 2 ^ 31 }
         requires early { now < 2 ^ 31 }
         requires within { All (λ c. c.to < 2 ^ 31) self.now }
-        ensures { OnOk result ((ts : List ℕ) × (turns.new.items ≡ turns.old.items ++ ts) × AreTurns self.now node now base ts) }
+        ensures { OnOk result ((ts : List ℕ) × (turns.new.items ≡ turns.old.items ++ ts)
+            × AreTurns self.now node now base ts) }
     {
         let spans = self.spans.as_slice();
         let place = first_reaching(spans, node, now);

@@ -1,5 +1,5 @@
-// How the partitions are found: the nodes are grouped by the sets that they are in, and by when they
-// are closed.
+// How the partitions are found: the nodes are grouped by the sets that they are in, and by when
+// they are closed.
 ghost use Rattle.std.specs.Prelude.{◌≡◌, ◌<◌, ◌≤◌, ◌++◌, ◌&&◌, ◌||◌, ◌∷◌, ℕ, [], true, false, length, map, replicate, slice_index_or, All, Contains, IfOk, OnOk, if◌then◌else◌};
 ghost use Rattle.std.specs.List.{filter, range_with_len};
 ghost use Rattle.std.specs.List.Sorted.{IsStrictlyIncreasing};
@@ -38,7 +38,8 @@ fn mark_sets(e: &Expr, used: &mut Vec<bool>)
     requires { EachLeaf (λ l. l.set < length used.old.items) (tree e.now) }
     ensures count { length used.new.items ≡ length used.old.items }
     ensures marks { (k : ℕ) → slice_index_or used.new.items k false
-        ≡ (slice_index_or used.old.items k false || has (map (λ l. l.set) (leaves (tree e.now))) k) }
+        ≡ (slice_index_or used.old.items k false
+        || has (map (λ l. l.set) (leaves (tree e.now))) k) }
 {
     match e {
         Expr::One(leaf) => {
@@ -57,7 +58,8 @@ fn mark_sets(e: &Expr, used: &mut Vec<bool>)
 pub fn used_sets(alloc: Global, offers: &[Offer], count: u32) -> Result<Vec<bool>, AllocError>
     requires { All (λ k. k < count) (sets_in (map bid offers.now)) }
     ensures count { IfOk result (λ u. length u.items ≡ count) }
-    ensures marks { IfOk result (λ u. (k : ℕ) → slice_index_or u.items k false ≡ has (sets_in (map bid offers.now)) k) }
+    ensures marks { IfOk result (λ u. (k : ℕ)
+        → slice_index_or u.items k false ≡ has (sets_in (map bid offers.now)) k) }
 {
     let mut used = vec![in alloc; false; count as usize]?;
     for offer in offers {
@@ -105,7 +107,8 @@ pub fn signatures_of(
         → All (λ n. n < inst.now.nodes) (set_at (space inst.now) k) }
     ensures count { IfOk result (λ v. length v.items ≡ inst.entry.now.nodes) }
     ensures sets { IfOk result (λ v. (n : ℕ) → n < inst.entry.now.nodes → list_at v.items n
-        ≡ filter (λ k. slice_index_or used.now k false && has (set_at (space inst.entry.now) k) n) (range_with_len 0 (length used.now))) }
+        ≡ filter (λ k. slice_index_or used.now k false
+        && has (set_at (space inst.entry.now) k) n) (range_with_len 0 (length used.now))) }
 {
     let mut signatures = empty_lists(alloc, inst.nodes as usize)?;
     for set in 0..inst.sets.len() {
@@ -121,7 +124,8 @@ pub fn signatures_of(
 fn sign(signature: &mut Vec<u32>, inst: &Instance, base: u32, node: u32) -> Result<(), AllocError>
     requires sound { IsSound (space inst.now) }
     requires few { base ≤ 4096 }
-    ensures { OnOk result (IsSigned (space inst.entry.now) base node signature.old.items signature.new.items) }
+    ensures { OnOk result
+        (IsSigned (space inst.entry.now) base node signature.old.items signature.new.items) }
 {
     if signature.is_empty() {
         return Ok(());
@@ -137,7 +141,8 @@ fn sign_each(signatures: &mut Vec<Vec<u32>>, inst: &Instance, base: u32) -> Resu
     requires count { length signatures.old.items ≡ inst.now.nodes }
     ensures count { OnOk result (length signatures.new.items ≡ inst.entry.now.nodes) }
     ensures signed { OnOk result ((n : ℕ) → n < inst.entry.now.nodes
-        → IsSigned (space inst.entry.now) base n (list_at signatures.old.items n) (list_at signatures.new.items n)) }
+        → IsSigned (space inst.entry.now) base n (list_at signatures.old.items n)
+        (list_at signatures.new.items n)) }
 {
     for node in 0..inst.nodes {
         sign(&mut signatures[node as usize], inst, base, node)?;
@@ -157,7 +162,8 @@ pub fn group_nodes(alloc: Global, signatures: &[Vec<u32>]) -> Result<Grouped, Al
     requires { length signatures.now ≤ 4096 }
     ensures signatures { IfOk result (λ g. map (λ v. v.items) g.signatures.keys
         ≡ map (list_at signatures.now) (firsts (list_at signatures.now) (length signatures.now))) }
-    ensures groups { IfOk result (λ g. g.groups.items ≡ grouped (list_at signatures.now) (length signatures.now)) }
+    ensures groups { IfOk result (λ g. g.groups.items
+        ≡ grouped (list_at signatures.now) (length signatures.now)) }
 {
     let mut found = IndexSet::new(alloc);
     let mut groups: Vec<NodeList> = Vec::new(alloc);
@@ -181,8 +187,8 @@ pub fn group_nodes(alloc: Global, signatures: &[Vec<u32>]) -> Result<Grouped, Al
     })
 }
 
-// Groups the nodes by the sets that the live leaves name, and by when they are closed: the partitions,
-// and their signatures.
+// Groups the nodes by the sets that the live leaves name, and by when they are closed: the
+// partitions, and their signatures.
 pub fn group_alike(alloc: Global, inst: &Instance, live: &[Offer]) -> Result<Grouped, AllocError>
     requires sound { IsSound (space inst.now) }
     requires live { map bid live.now ≡ live_bids (space inst.now) }
@@ -208,7 +214,8 @@ pub fn parts_by_set(
     ensures count { IfOk result (λ v. length v.items ≡ sets) }
     ensures ascending { IfOk result (λ v. All (λ w. IsStrictlyIncreasing w.items) v.items) }
     ensures parts { IfOk result (λ v. (k : ℕ) → k < sets → list_at v.items k
-        ≡ filter (λ p. has (list_at signatures.now p) k) (range_with_len 0 (length signatures.now))) }
+        ≡ filter (λ p. has (list_at signatures.now p) k)
+        (range_with_len 0 (length signatures.now))) }
 {
     let mut inside = empty_lists(alloc, sets as usize)?;
     for part in 0..signatures.len() {

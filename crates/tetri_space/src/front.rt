@@ -15,8 +15,8 @@ use tetri_strl::Grant;
 
 const MOST_NODES: usize = 4096;
 
-// Whether a grant is lawful by itself, and none of its nodes is held in a slot of its leaf. Then they
-// are from now on.
+// Whether a grant is lawful by itself, and none of its nodes is held in a slot of its leaf. Then
+// they are from now on.
 fn takes(inst: &Instance, grant: &Grant, masks: &mut [u64]) -> bool
     requires sound { IsSound (space inst.now) }
     requires as_many { length masks.old ≡ 4096 }
@@ -37,8 +37,8 @@ fn takes(inst: &Instance, grant: &Grant, masks: &mut [u64]) -> bool
     true
 }
 
-/// How many of the grants, from the first on, ascend by job and leaf and are lawful together, as far
-/// as a walk over them tells.
+/// How many of the grants, from the first on, ascend by job and leaf and are lawful together, as
+/// far as a walk over them tells.
 pub fn lawful_front(inst: &Instance, grants: &[Grant]) -> usize
     requires { IsSound (space inst.now) }
     ensures bound { result ≤ length grants.now }

@@ -18,8 +18,8 @@ pub fn tops_bound_every_lawful_total(inst: &Instance)
         → total_in (space inst.entry.now) a ≤ tops_in (space inst.entry.now) }
 {}
 
-/// Grants that are put in order, as `order_grants` does, stay lawful and thrifty where they were, and
-/// are worth as much.
+/// Grants that are put in order, as `order_grants` does, stay lawful and thrifty where they were,
+/// and are worth as much.
 pub fn ordered_grants_are_worth_as_much(inst: &Instance)
     ensures lawful { (a : List Grant) → IsLawful (space inst.entry.now) a
         → IsLawful (space inst.entry.now) (in_order comes_first a) }
@@ -29,8 +29,8 @@ pub fn ordered_grants_are_worth_as_much(inst: &Instance)
         ≡ total_in (space inst.entry.now) a }
 {}
 
-/// What of grants earns something, which `trim_all` keeps, is lawful where they were, wastes nothing,
-/// and is worth as much.
+/// What of grants earns something, which `trim_all` keeps, is lawful where they were, wastes
+/// nothing, and is worth as much.
 pub fn trimmed_grants_are_worth_as_much(inst: &Instance)
     requires { IsSound (space inst.now) }
     ensures lawful { (a : List Grant) → IsLawful (space inst.entry.now) a

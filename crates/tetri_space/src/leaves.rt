@@ -12,7 +12,8 @@ pub fn expr_of(inst: &Instance, job: u32) -> Option<&Expr>
     requires { IsSound (space inst.now) }
     ensures { MatchOption result
         (find (λ b. b.job == job) (space inst.entry.now).bids ≡ None)
-        (λ e. find (λ b. b.job == job) (space inst.entry.now).bids ≡ Some (record { job = job; expr = tree e.now })) }
+        (λ e. find (λ b. b.job == job) (space inst.entry.now).bids
+        ≡ Some (record { job = job; expr = tree e.now })) }
 {
     match inst.jobs.binary_search_by_key(&job, |offer| offer.job) {
         Ok(at) => Some(&inst.jobs[at].expr),

@@ -17,8 +17,8 @@ pub fn slots_of(now: u32, leaf: &Leaf) -> u64
     ((1u128 << end) - (1u128 << first)) as u64
 }
 
-/// Whether one of the nodes is held in one of these slots, where each node has a mask of the slots in
-/// which it is held.
+/// Whether one of the nodes is held in one of these slots, where each node has a mask of the slots
+/// in which it is held.
 pub fn holds_some(masks: &[u64], slots: u64, nodes: &[u32]) -> bool
     requires { All (λ n. n < length masks.now) nodes.now }
     ensures { result ≡ list_any (λ n. meets (get_or masks.now n 0) slots) nodes.now }

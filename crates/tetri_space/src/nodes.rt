@@ -27,7 +27,8 @@ pub fn first_outside(inst: &Instance, leaf: &Leaf, nodes: &[u32]) -> Option<u32>
     requires ascending { IsStrictlyIncreasing nodes.now }
     ensures { MatchOption result
         (All (Contains (set_of (space inst.entry.now) leaf.now)) nodes.now)
-        (IsLeast (λ m. Contains nodes.now m × (Contains (set_of (space inst.entry.now) leaf.now) m → ⊥))) }
+        (IsLeast (λ m. Contains nodes.now m
+        × (Contains (set_of (space inst.entry.now) leaf.now) m → ⊥))) }
 {
     for node in nodes {
         if !inst.sets.holds(leaf.set, *node) {
@@ -44,7 +45,8 @@ pub fn first_not_free(inst: &Instance, leaf: &Leaf, nodes: &[u32]) -> Option<u32
     requires ascending { IsStrictlyIncreasing nodes.now }
     ensures { MatchOption result
         (All (IsFreeThroughout (space inst.entry.now) leaf.now) nodes.now)
-        (IsLeast (λ m. Contains nodes.now m × (IsFreeThroughout (space inst.entry.now) leaf.now m → ⊥))) }
+        (IsLeast (λ m. Contains nodes.now m
+        × (IsFreeThroughout (space inst.entry.now) leaf.now m → ⊥))) }
 {
     for node in nodes {
         if !free_throughout(inst, leaf, *node) {

@@ -13,7 +13,8 @@ use std::alloc::{AllocError, Global};
 use tetri_strl::{Leaf, NodeList};
 
 /// The partitions of the nodes of an instance. Linear in its expressions, in the sizes of the sets
-/// that live leaves name, each taken once, and in the closures of their nodes. Its only error is want of memory.
+/// that live leaves name, each taken once, and in the closures of their nodes. Its only error is
+/// want of memory.
 pub fn find_partitions(alloc: Global, inst: &Instance) -> Result<Partitions, AllocError>
     requires { IsSound (space inst.now) }
     ensures { IfOk result (λ p. ArePartitionsOf (space inst.entry.now) (parts_of p)) }
@@ -74,20 +75,24 @@ impl Partitions {
         requires partitions { ArePartitionsOf (space inst.now) (parts_of self.now) }
         requires there { part < length (parts_of self.now).groups }
         requires not_past { (space inst.now).now ≤ slot }
-        ensures { result ≡ is_closed_part (space inst.entry.now) (partitions (space inst.entry.now)) part slot }
+        ensures { result
+            ≡ is_closed_part (space inst.entry.now) (partitions (space inst.entry.now)) part slot }
     {
         let node = self.nodes_of(part).as_slice()[0];
         inst.closures.is_closed(node, slot)
     }
 
-    /// Whether the nodes of a partition are closed in some slot of a leaf, which does not start before
-    /// now. A binary search, which takes no memory.
+    /// Whether the nodes of a partition are closed in some slot of a leaf, which does not start
+    /// before now. A binary search, which takes no memory.
     pub fn closed_within(&self, inst: &Instance, part: u32, leaf: &Leaf) -> bool
         requires sound { IsSound (space inst.now) }
         requires partitions { ArePartitionsOf (space inst.now) (parts_of self.now) }
         requires there { part < length (parts_of self.now).groups }
         requires not_past { (space inst.now).now ≤ leaf.now.start }
-        ensures { result ≡ list_any (is_closed_part (space inst.entry.now) (partitions (space inst.entry.now)) part) (slots leaf.now) }
+        ensures { result
+            ≡ list_any
+            (is_closed_part (space inst.entry.now) (partitions (space inst.entry.now)) part)
+            (slots leaf.now) }
     {
         let node = self.nodes_of(part).as_slice()[0];
         inst.closures.is_closed_within(node, leaf.start, leaf.dur)
@@ -99,7 +104,8 @@ pub fn available(inst: &Instance, parts: &Partitions, part: u32, slot: u32) -> u
     requires sound { IsSound (space inst.now) }
     requires partitions { ArePartitionsOf (space inst.now) (parts_of parts.now) }
     requires there { part < length (parts_of parts.now).groups }
-    ensures { result ≡ available (space inst.entry.now) (partitions (space inst.entry.now)) part slot }
+    ensures { result
+        ≡ available (space inst.entry.now) (partitions (space inst.entry.now)) part slot }
 {
     let mut count = 0;
     for node in parts.nodes_of(part).as_slice() {

@@ -48,7 +48,8 @@ pub struct Unlawful {
 // The leaf that the grant names, where it starts in the window.
 fn live_leaf(inst: &Instance, grant: &Grant) -> Result<Leaf, Rule>
     requires { IsSound (space inst.now) }
-    ensures leaf { IfOk result (λ l. leaf_in (space inst.entry.now).bids grant.now.job grant.now.leaf ≡ Some l) }
+    ensures leaf { IfOk result
+        (λ l. leaf_in (space inst.entry.now).bids grant.now.job grant.now.leaf ≡ Some l) }
     ensures live { IfOk result (IsLive (space inst.entry.now)) }
     ensures first { IfErr result (λ r. (earlier : List Grant)
         → IsFirstRule (space inst.entry.now) earlier grant.now r) }
@@ -71,7 +72,8 @@ pub fn check_grant(inst: &Instance, earlier: &[Grant], grant: &Grant) -> Result<
     requires sound { IsSound (space inst.now) }
     requires ascending { All (λ g. IsStrictlyIncreasing g.nodes) earlier.now }
     ensures lawful { OnOk result (IsLawfulGrant (space inst.entry.now) grant.now) }
-    ensures apart { OnOk result (All (λ g. AreApart (space inst.entry.now) g grant.now) earlier.now) }
+    ensures apart { OnOk result
+        (All (λ g. AreApart (space inst.entry.now) g grant.now) earlier.now) }
     ensures first { IfErr result (IsFirstRule (space inst.entry.now) earlier.now grant.now) }
 {
     let leaf = live_leaf(inst, grant)?;
@@ -98,15 +100,16 @@ pub fn check_grant(inst: &Instance, earlier: &[Grant], grant: &Grant) -> Result<
 }
 
 /// Whether the allotment is lawful, and if not, the first grant that breaks a rule with the first
-/// rule that it breaks. Takes no memory. A job is found by binary search, its leaf by a walk over its
-/// expression, and a node in a set and its closures by binary search. Lawful grants that ascend by job
-/// and leaf are gone through once, with a mask of slots for each node. From the first on that is not
-/// so, each grant is held against every earlier one by a merge of their nodes, which ends at the first
-/// that both hold, and only then is the earlier leaf looked up.
+/// rule that it breaks. Takes no memory. A job is found by binary search, its leaf by a walk over
+/// its expression, and a node in a set and its closures by binary search. Lawful grants that ascend
+/// by job and leaf are gone through once, with a mask of slots for each node. From the first on
+/// that is not so, each grant is held against every earlier one by a merge of their nodes, which
+/// ends at the first that both hold, and only then is the earlier leaf looked up.
 pub fn lawful(inst: &Instance, a: &Allotment) -> Result<(), Unlawful>
     requires { IsSound (space inst.now) }
     ensures ok { IsOk result ↔ IsLawful (space inst.entry.now) a.now }
-    ensures exact { (u : Unlawful) → (result ≡ Err u) ↔ IsFirstBroken (space inst.entry.now) a.now u }
+    ensures exact { (u : Unlawful)
+        → (result ≡ Err u) ↔ IsFirstBroken (space inst.entry.now) a.now u }
 {
     let grants = a.as_slice();
     for place in lawful_front(inst, grants)..grants.len() {

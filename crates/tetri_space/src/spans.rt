@@ -17,7 +17,8 @@ fn place(closure: &Closure) -> u64
 
 // The closures that close some slot, ascending by node and first slot.
 fn sorted(alloc: Global, given: &[Closure]) -> Result<Vec<Closure>, AllocError>
-    ensures same { IfOk result (λ v. (n t : ℕ) → is_closed_by v.items n t ≡ is_closed_by given.now n t) }
+    ensures same { IfOk result (λ v. (n t : ℕ)
+        → is_closed_by v.items n t ≡ is_closed_by given.now n t) }
     ensures some_slots { IfOk result (λ v. All (λ c. c.from ≤ c.to) v.items) }
     ensures fit { IfOk result (λ v. All (λ c. c.from < 2 ^ 32) v.items) }
     ensures ascending { IfOk result (λ v. IsNonDecreasingBy place_of v.items) }
@@ -29,7 +30,8 @@ fn sorted(alloc: Global, given: &[Closure]) -> Result<Vec<Closure>, AllocError>
 
 // The closures that close some slot.
 fn closing(alloc: Global, given: &[Closure]) -> Result<Vec<Closure>, AllocError>
-    ensures same { IfOk result (λ v. (n t : ℕ) → is_closed_by v.items n t ≡ is_closed_by given.now n t) }
+    ensures same { IfOk result (λ v. (n t : ℕ)
+        → is_closed_by v.items n t ≡ is_closed_by given.now n t) }
     ensures some_slots { IfOk result (λ v. All (λ c. c.from ≤ c.to) v.items) }
     ensures fit { IfOk result (λ v. All (λ c. c.from < 2 ^ 32) v.items) }
 {
@@ -44,7 +46,8 @@ fn closing(alloc: Global, given: &[Closure]) -> Result<Vec<Closure>, AllocError>
 
 // Whether a closure overlaps or touches a span of its node that does not begin after it.
 fn touches(span: &Closure, closure: &Closure) -> bool
-    ensures { IsTrue result ↔ ((span.now.node ≡ closure.now.node) × (closure.now.from ≤ span.now.to + 1)) }
+    ensures { IsTrue result
+        ↔ ((span.now.node ≡ closure.now.node) × (closure.now.from ≤ span.now.to + 1)) }
 {
     span.node == closure.node && (closure.from <= span.to || closure.from - span.to == 1)
 }

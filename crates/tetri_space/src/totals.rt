@@ -9,8 +9,8 @@ use crate::Instance;
 use crate::runs::{ascends_by_job, run_len};
 use tetri_strl::{Allotment, Grant, top_in, worth_among};
 
-/// What the allotment is worth to all jobs together. Takes no memory. Where the grants ascend by job
-/// it goes once through jobs and grants, and weighs each leaf against the grants of its own job
+/// What the allotment is worth to all jobs together. Takes no memory. Where the grants ascend by
+/// job it goes once through jobs and grants, and weighs each leaf against the grants of its own job
 /// alone. Where they do not, it weighs each leaf against every grant, so that its cost grows with
 /// the product of their numbers.
 pub fn total(inst: &Instance, a: &Allotment) -> u64

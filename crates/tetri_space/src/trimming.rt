@@ -10,9 +10,9 @@ use crate::runs::{ascends_by_job, run_len};
 use std::alloc::{AllocError, Global};
 use tetri_strl::{Allotment, Grant, trim_into};
 
-/// What `trim` keeps of each job's grants, job by job. It is as lawful, wastes nothing, and is worth
-/// as much. Where the grants ascend by job it goes once through jobs and grants. Its only error is
-/// want of memory.
+/// What `trim` keeps of each job's grants, job by job. It is as lawful, wastes nothing, and is
+/// worth as much. Where the grants ascend by job it goes once through jobs and grants. Its only
+/// error is want of memory.
 pub fn trim_all(alloc: Global, inst: &Instance, a: &Allotment) -> Result<Allotment, AllocError>
     requires { IsSound (space inst.now) }
     ensures { IfOk result (λ made. made ≡ all_trimmed (space inst.entry.now) a.now) }

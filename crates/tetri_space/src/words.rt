@@ -36,7 +36,8 @@ impl Rule {
 }
 
 impl Unlawful {
-    /// Adds the grant's place and the rule in words, with what shows that it is broken. Its only error is want of memory.
+    /// Adds the grant's place and the rule in words, with what shows that it is broken. Its only
+    /// error is want of memory.
     #[tactic(auto, unfolding(crate::specs::Words::unlawful_words))]
     pub fn print_onto(self, out: &mut String) -> Result<(), AllocError>
         ensures { OnOk result (string_bytes out.new ≡ string_bytes out.old ++ unlawful_words self) }

@@ -58,4 +58,5 @@ worth_kept value (Some t) = worth_by value t
 
 -- the job's leaves that start outside the range are granted nothing
 abbrev pub GrantsOnlyIn : ℕ → ℕ → List Grant → ℕ → Tree → Type 0
-GrantsOnlyIn from to a job t = EachLeaf (λ l. starts_in from to l ≡ false → granted a job l.num ≡ 0) t
+GrantsOnlyIn from to a job t = EachLeaf (λ l. starts_in from to l ≡ false
+    → granted a job l.num ≡ 0) t

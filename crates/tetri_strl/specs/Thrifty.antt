@@ -28,7 +28,8 @@ module _ (value : Leaf → ℕ) (held : List ℕ) where
     pub IsThrifty : Tree → Type 0
     IsThrifty (one l) = value l ≡ 0 → IsBare (l.num ∷ [])
     IsThrifty (join op ts) =
-        (joined op (worths_by value ts) ≡ 0 → IsBare (numbers_of ts)) × MeetsOne op ts × AreThrifty ts
+        (joined op (worths_by value ts) ≡ 0 → IsBare (numbers_of ts)) × MeetsOne op ts
+        × AreThrifty ts
     IsThrifty (scale t s) = (worth_by value (scale t s) ≡ 0 → IsBare (numbers t)) × IsThrifty t
     IsThrifty (barrier t v) = (worth_by value (barrier t v) ≡ 0 → IsBare (numbers t)) × IsThrifty t
 
@@ -50,4 +51,5 @@ IsThriftyFor a job t = IsThrifty (leaf_worth a job) (held_leaves a job) t
 
 -- all leaves of the job that have a grant start in one slot
 abbrev pub HasOneHeldStart : List Grant → ℕ → Tree → Type 0
-HasOneHeldStart a job t = (s : ℕ) × EachLeaf (λ l. Contains (held_leaves a job) l.num → l.start ≡ s) t
+HasOneHeldStart a job t = (s : ℕ)
+    × EachLeaf (λ l. Contains (held_leaves a job) l.num → l.start ≡ s) t

@@ -8,14 +8,16 @@ use Rattle.tetri_strl.specs.Worth.{greatest_of, least_of, added_of, leaf_worth, 
 
 module _ (value : Leaf → ℕ) where
   abbrev mutual
-    -- the numbers of the leaves below a part that is worth 0, and of those below each part of a `max`
-    -- but its first part of greatest worth
+    -- the numbers of the leaves below a part that is worth 0, and of those below each part of a
+    -- `max` but its first part of greatest worth
     pub idle : Tree → List ℕ
     idle (one l) = if value l == 0 then l.num ∷ [] else []
     idle (join greatest ts) = if greatest_of (worths_by value ts) == 0 then numbers_of ts
         else idle_but_first (greatest_of (worths_by value ts)) ts
-    idle (join least ts) = if least_of (worths_by value ts) == 0 then numbers_of ts else idle_each ts
-    idle (join added ts) = if added_of (worths_by value ts) == 0 then numbers_of ts else idle_each ts
+    idle (join least ts) = if least_of (worths_by value ts) == 0 then numbers_of ts
+        else idle_each ts
+    idle (join added ts) = if added_of (worths_by value ts) == 0 then numbers_of ts
+        else idle_each ts
     idle (scale t s) = if worth_by value (scale t s) == 0 then numbers t else idle t
     idle (barrier t v) = if worth_by value (barrier t v) == 0 then numbers t else idle t
 
@@ -28,7 +30,8 @@ module _ (value : Leaf → ℕ) where
     pub idle_but_first : ℕ → Trees → List ℕ
     idle_but_first best none = []
     idle_but_first best (more t ts) =
-        if worth_by value t == best then idle t ++ numbers_of ts else numbers t ++ idle_but_first best ts
+        if worth_by value t == best then idle t ++ numbers_of ts
+        else numbers t ++ idle_but_first best ts
 
 -- the grant is the job's, and its leaf is none of these
 abbrev pub earns : ℕ → List ℕ → Grant → Bool

@@ -10,14 +10,17 @@ ghost use Rattle.tetri_strl.specs.declared.grants.Grant.{Grant};
 use crate::expr::Expr;
 
 /// What is worth something has a grant. So where a `max` is worth something, its first part of
-/// greatest worth has one, and what `waste` finds below another part lies beside a part that has grants.
+/// greatest worth has one, and what `waste` finds below another part lies beside a part that has
+/// grants.
 pub fn worth_comes_of_grants(e: &Expr)
     requires { IsSound (tree e.now) }
-    ensures { (a : List Grant) (job : ℕ) → (worth_of a job (tree e.now) ≡ 0 → ⊥) → HasGrant a job (tree e.now) }
+    ensures { (a : List Grant) (job : ℕ) → (worth_of a job (tree e.now) ≡ 0 → ⊥)
+        → HasGrant a job (tree e.now) }
 {}
 
 /// A thrifty allotment starts all that it gives to a job in one slot.
 pub fn thrifty_grants_start_together(e: &Expr)
     requires { IsAligned (tree e.now) }
-    ensures { (a : List Grant) (job : ℕ) → IsThriftyFor a job (tree e.now) → HasOneHeldStart a job (tree e.now) }
+    ensures { (a : List Grant) (job : ℕ) → IsThriftyFor a job (tree e.now)
+        → HasOneHeldStart a job (tree e.now) }
 {}

@@ -11,14 +11,16 @@ use crate::expr::Expr;
 use std::alloc::{AllocError, Global};
 
 /// What is left of the expression without the leaves that start outside the slots from `from` to
-/// `to - 1`: a `max` or a sum keeps its other parts, a `min` is lost with one of its parts, a factor or
+/// `to - 1`: a `max` or a sum keeps its other parts, a `min` is lost with one of its parts, a
+/// factor or
 /// a barrier with its part. None where all is lost. An allotment that grants nothing to the leaves
 /// taken away is worth the same. Its only error is want of memory.
 pub fn prune(alloc: Global, e: &Expr, from: u32, to: u32) -> Result<Option<Expr>, AllocError>
     requires { IsSound (tree e.now) }
     ensures expression { IfOk result (λ made. option_map tree made ≡ pruned from to (tree e.now)) }
     ensures worth { (a : List Grant) (job : ℕ) → GrantsOnlyIn from to a job (tree e.now)
-        → worth_kept (leaf_worth a job) (pruned from to (tree e.now)) ≡ worth_of a job (tree e.now) }
+        → worth_kept (leaf_worth a job) (pruned from to (tree e.now))
+        ≡ worth_of a job (tree e.now) }
 {
     keep(alloc, e, from, to)
 }
@@ -58,7 +60,8 @@ fn keep(alloc: Global, e: &Expr, from: u32, to: u32) -> Result<Option<Expr>, All
 
 #[cycle(keep)]
 fn keep_parts(alloc: Global, parts: &[Expr], from: u32, to: u32) -> Result<Vec<Expr>, AllocError>
-    ensures { IfOk result (λ made. map tree made.items ≡ kept (pruned_of from to (trees parts.now))) }
+    ensures { IfOk result (λ made. map tree made.items
+        ≡ kept (pruned_of from to (trees parts.now))) }
 {
     let mut left = Vec::new(alloc);
     for part in parts {

@@ -14,14 +14,15 @@ use crate::worths::worth_among;
 use std::alloc::{AllocError, Global};
 
 /// The job's grants in order, without those that earn nothing: those below a part that is worth 0,
-/// and those below each part of a `max` but its first part of greatest worth. Its only error is want
-/// of memory.
+/// and those below each part of a `max` but its first part of greatest worth. Its only error is
+/// want of memory.
 pub fn trim(alloc: Global, e: &Expr, job: u32, a: &Allotment) -> Result<Allotment, AllocError>
     requires { IsWellMade (tree e.now) }
     ensures list { IfOk result (λ made. made ≡ trimmed a.now job (tree e.now)) }
     ensures part { IfOk result (λ made. IsPartOf made (filter (λ g. g.job == job) a.now)) }
     ensures thrifty { IfOk result (λ made. IsThriftyFor made job (tree e.now)) }
-    ensures worth { IfOk result (λ made. worth_of made job (tree e.now) ≡ worth_of a.now job (tree e.now)) }
+    ensures worth { IfOk result (λ made. worth_of made job (tree e.now)
+        ≡ worth_of a.now job (tree e.now)) }
 {
     let mut made = Allotment::new(alloc);
     trim_into(alloc, e, job, a.as_slice(), &mut made)?;
@@ -48,8 +49,8 @@ pub fn trim_into(
     Ok(())
 }
 
-/// The numbers of the leaves whose grants earn nothing, as `trim` says it. Its only error is want of
-/// memory.
+/// The numbers of the leaves whose grants earn nothing, as `trim` says it. Its only error is want
+/// of memory.
 pub fn idle_leaves(
     alloc: Global,
     e: &Expr,
@@ -79,7 +80,8 @@ fn has_number(numbers: &[u32], number: u32) -> bool
 #[cycle(add_idle)]
 fn add_idle(e: &Expr, job: u32, grants: &[Grant], out: &mut Vec<u32>) -> Result<(), AllocError>
     requires { IsSound (tree e.now) }
-    ensures { OnOk result (out.new.items ≡ out.old.items ++ idle (leaf_worth grants.now job) (tree e.now)) }
+    ensures { OnOk result (out.new.items
+        ≡ out.old.items ++ idle (leaf_worth grants.now job) (tree e.now)) }
 {
     let best = worth_among(e, job, grants);
     if best == 0 {
@@ -109,7 +111,8 @@ fn add_idle_but_first(
 ) -> Result<(), AllocError>
     requires { AreSound (trees parts.now) }
     ensures { OnOk result
-        (out.new.items ≡ out.old.items ++ idle_but_first (leaf_worth grants.now job) best (trees parts.now)) }
+        (out.new.items
+        ≡ out.old.items ++ idle_but_first (leaf_worth grants.now job) best (trees parts.now)) }
 {
     let mut found = false;
     for part in parts {

@@ -12,9 +12,9 @@ use crate::grants::{Allotment, Grant};
 use crate::worths::worth_among;
 
 /// The place, counted from 0, of the job's first grant that earns nothing: that stands below a part
-/// worth 0, or below a part of a `max` other than its first part of greatest worth. None exactly where
-/// the allotment is thrifty for the job. Takes no memory: each grant of the job
-/// is asked for by itself, against the worths of the parts above its leaf.
+/// worth 0, or below a part of a `max` other than its first part of greatest worth. None exactly
+/// where the allotment is thrifty for the job. Takes no memory: each grant of the job is asked for
+/// by itself, against the worths of the parts above its leaf.
 pub fn waste(e: &Expr, job: u32, a: &Allotment) -> Option<u64>
     requires { IsSound (tree e.now) }
     ensures place { result ≡ first_waste a.now job (tree e.now) }
@@ -82,7 +82,8 @@ fn is_idle(e: &Expr, job: u32, grants: &[Grant], leaf: u32) -> bool
 fn is_idle_but_first(parts: &[Expr], best: u64, job: u32, grants: &[Grant], leaf: u32) -> bool
     requires { AreSound (trees parts.now) }
     ensures { result
-        ≡ list_any (λ n. n == leaf) (idle_but_first (leaf_worth grants.now job) best (trees parts.now)) }
+        ≡ list_any (λ n. n == leaf)
+        (idle_but_first (leaf_worth grants.now job) best (trees parts.now)) }
 {
     let mut found = false;
     for part in parts {

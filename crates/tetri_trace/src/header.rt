@@ -22,10 +22,7 @@ fn cluster_of(alloc: Global, nodes: Vec<NodeText>) -> Result<Cluster, Stop>
     ensures differ { IfOk result (λ c. differ (names_of c) ≡ true) }
 {
     match Cluster::build(alloc, nodes) {
-        Ok(cluster) => {
-            let _ = cluster.count();
-            Ok(cluster)
-        }
+        Ok(cluster) => Ok(cluster),
         Err(ClusterFault::TooManyNodes(_)) => unreachable!(),
         Err(ClusterFault::NameTaken(_)) => Err(Stop::Because(TraceWhy::NameTaken)),
         Err(ClusterFault::NoMemory) => Err(Stop::NoMemory),

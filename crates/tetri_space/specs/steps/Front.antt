@@ -7,7 +7,8 @@ use Rattle.tetri_space.specs.Lawful.{IsLawfulGrant}
 use Rattle.tetri_space.specs.Slots.{is_marked, marked, slots_of}
 use Rattle.tetri_space.specs.Space.{Space, leaf_in}
 
--- The grant is lawful by itself, none of its nodes was held in a slot of its leaf, and now they are.
+-- The grant is lawful by itself, none of its nodes was held in a slot of its leaf, and now they
+-- are.
 pub record IsTaken (s : Space) (before : List ℕ) (g : Grant) (after : List ℕ) : Type 0 where
   pub leaf : Leaf
   pub found : leaf_in s.bids g.job g.leaf ≡ Some leaf

@@ -5,7 +5,7 @@ use Rattle.tetri_space.specs.Space.{space}
 use Rattle.tetri_space.specs.Total.{total_in}
 use Rattle.tetri_space.specs.Trimmed.{IsThriftyForAll}
 use Rattle.tetri_plan.specs.Searched.{IsSearched}
-use Rattle.tetri_plan.proofs.KeptLemmas.{kept_is_fair}
+use Rattle.tetri_plan.proofs.KeptLemmas.{kept_is_fair, unfound_worth}
 use Rattle.tetri_plan.proofs.PlanLemmas.{plan_is_right}
 use Rattle.tetri_plan.proofs.planning.choose.Goals as goal
 
@@ -34,6 +34,7 @@ returns c =
       chosen = holds.chosen;
       low = low_is;
       at_least = omega (arith, low_is, is.at_least);
+      no_whole = λ none. low_is ∙ unfound_worth s c.requires.sound c.args.carry.now c.args.given.now c.args.budget _ holds.chosen holds.good.honest.attained none;
       heard = search rules;
       ordered = holds.ordered;
       printable = is.printable;

@@ -3,7 +3,7 @@ use Rattle.std.proofs.lemmas.List.{length-map, take_all}
 use Rattle.tetri_space.specs.Space.{Bid, bid, space}
 use Rattle.tetri_reserve.specs.Answers.{EachAnswer, IsAnswer}
 use Rattle.tetri_reserve.specs.Book.{IsBook}
-use Rattle.tetri_reserve.specs.Meaning.{IsTrue}
+use Rattle.tetri_reserve.specs.Meaning.{IsTrueAnswer}
 use Rattle.tetri_reserve.specs.declared.answer.Answer.{Answer}
 use Rattle.tetri_reserve.proofs.admitting.admit.Goals as goal
 
@@ -39,4 +39,4 @@ returns-clause-meaning c =
     let s = space c.args.inst.now in
     let i = c.loop-place.place in
     let past : length s.bids ≤ i = omega (arith, c.loop-place-test.false, length-map c.args.inst.now.jobs.items bid) in
-    subst (λ (bs : List Bid). EachAnswer (IsTrue s c.args.budget) [] bs c.loop-place.answers.items) (take_all i s.bids past) c.loop-place.invariant.meaning
+    subst (λ (bs : List Bid). EachAnswer (IsTrueAnswer s c.args.budget) [] bs c.loop-place.answers.items) (take_all i s.bids past) c.loop-place.invariant.meaning

@@ -2,7 +2,7 @@ use Rattle.std.proofs.Common.{◌≡◌, ◌+◌, ◌<◌, ◌≤◌, ℕ, List,
 use Rattle.std.proofs.lemmas.Bool.{false≢true}
 use Rattle.tetri_simplex.specs.declared.mixed.MixedRow.{MixedRow}
 use Rattle.tetri_simplex.specs.Pivots.{next_row}
-use Rattle.tetri_simplex.specs.Mixed.{mixed_row, mixed_rows, AreMixedRows}
+use Rattle.tetri_simplex.specs.Mixed.{mixed_row, mixed_rows, AreFractionsOfRow, AreMixedRows}
 use Rattle.tetri_simplex.specs.Below.{below_of}
 use Rattle.tetri_simplex.specs.Holders.{bit, IsHolder}
 use Rattle.tetri_simplex.proofs.HolderRows.{cleared_untouched, has_bit, later_replaced, later_same, later_there, narrowed, pass, passed, read_zero, replaced_untouched, same_there, still_there, there_zero}
@@ -51,6 +51,7 @@ loop-preserved c =
           record {
             formed = ap (λ (us : List MixedRow). rest_of (next_row n i j s) i s (mixed_rows us) (k + 1)) w.rows-is ∙ pass n i j c.args.solved.now rows k c.loop.invariant.sound c.requires.solved z ∙ before;
             sound = subst (λ (us : List MixedRow). AreMixedRows n us) (sym w.rows-is) c.loop.invariant.sound;
+            known = subst (AreFractionsOfRow c.args.solved.now) (sym w.known-is) c.loop.invariant.known;
             below = w.below-is ∙ c.loop.invariant.below ∙ ap (λ (us : List MixedRow). below_of (mixed_rows us)) (sym w.rows-is);
             holder = narrowed c.loop.own c.if-is_zero_at.own (mixed_rows first) j k (there_zero rows first k j (there k (omega arith)) z) (λ q d b. w.clear_bit.ensures q d (subst (λ (ws : List ℕ). bit ws q ≡ 0) w.own-is b)) c.loop.invariant.holder;
             untouched = cleared_untouched rows first after c.loop.own c.if-is_zero_at.own c.loop.from k c.next_set-k.ensures.least w.rows-is
@@ -63,6 +64,7 @@ loop-preserved c =
       | else-is_zero_at+then-k-i+in-Ok w ↦ record {
         formed = mixed_next n i j s rows after k h w.if-k-i.true w.in-Ok.ensures.formed.row (w.rows-is ∙ w.in-Ok.ensures.formed.rows) w.in-Ok.ensures.formed.formed ∙ before;
         sound = subst (λ (us : List MixedRow). AreMixedRows n us) (sym w.rows-is) w.in-Ok.ensures.sound;
+        known = subst (AreFractionsOfRow c.args.solved.now) (sym w.known-is) w.in-Ok.ensures.known;
         below = w.below-is ∙ w.in-Ok.ensures.below ∙ ap (λ (us : List MixedRow). below_of (mixed_rows us)) (sym w.rows-is);
         holder = subst (λ (ws : List ℕ). IsHolder ws (mixed_rows first) j) (sym w.own-is) c.loop.invariant.holder;
         untouched = replaced_untouched rows first after c.loop.own c.if-is_zero_at.own k w.in-Ok.ensures.formed.row (w.rows-is ∙ w.in-Ok.ensures.formed.rows) w.own-is (has_bit c.loop.own rows first k j (get_or rows k c.index-rows-k.result) h (own_read rows k c.index-rows-k.result h) (there k (omega arith)) c.loop.invariant.holder (λ z. false≢true (sym w.if-is_zero_at.false ∙ c.is_zero_at.ensures.1 z))) c.loop.invariant.untouched;
@@ -74,6 +76,7 @@ loop-preserved c =
       | else-is_zero_at+else-k-i w ↦ record {
         formed = ap (λ (us : List MixedRow). rest_of (next_row n i j s) i s (mixed_rows us) (k + 1)) w.rows-is ∙ mixed_own n i j s rows k h w.if-k-i.false ∙ before;
         sound = subst (λ (us : List MixedRow). AreMixedRows n us) (sym w.rows-is) c.loop.invariant.sound;
+        known = subst (AreFractionsOfRow c.args.solved.now) (sym w.known-is) c.loop.invariant.known;
         below = w.below-is ∙ c.loop.invariant.below ∙ ap (λ (us : List MixedRow). below_of (mixed_rows us)) (sym w.rows-is);
         holder = subst (λ (ws : List ℕ). IsHolder ws (mixed_rows first) j) (sym w.own-is) c.loop.invariant.holder;
         untouched = λ q r b. ap (λ (us : List MixedRow). get_or us q r) w.rows-is ∙ c.loop.invariant.untouched q r (subst (λ (ws : List ℕ). bit ws q ≡ 0) w.own-is b);

@@ -15,4 +15,4 @@ returns-clause-plan c =
     let asked : Space = record old { bids = map bid c.push.new.self.items } in
     subst (λ (s : Space). IsPlanOf s carry c.args.budget plan) is
     (plan_is_of asked carry c.args.budget plan (subst IsSound (sym is) c.requires.sound)
-    (record { good = e.good; chosen = e.chosen; low = e.low; spent = e.spent; wide = e.wide }))
+    (record { good = e.good; chosen = e.chosen; low = e.low; spent = e.spent; wide = e.wide; unheard = e.heard }))
