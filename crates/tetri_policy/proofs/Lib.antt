@@ -1,0 +1,4 @@
+pub mod LeftLemmas
+pub mod PolicyLemmas
+pub mod StartLemmas
+pub mod StepLemmas

@@ -1,0 +1,57 @@
+-- A job that starts beside marks starts as the definitions say.
+use Rattle.std.proofs.Common.{◌≡◌, ℕ, ◌≤◌, List, [], ◌∷◌, ◌++◌, Bool, length, cond, refl, sym, ap, ◌∙◌, subst, arith, nat_le}
+use Rattle.std.proofs.lemmas.Bool.Decides.{nat_tests}
+use Rattle.std.proofs.lemmas.List.{append-nil}
+use Rattle.tetri_strl.specs.declared.grants.Grant.{Grant}
+use Rattle.tetri_strl.specs.Aligned.{EachLeaf}
+use Rattle.tetri_strl.specs.Tree.{Tree}
+use Rattle.tetri_strl.specs.WellMade as made
+use Rattle.tetri_space.specs.Slots.{is_marked}
+use Rattle.tetri_space.specs.Sound.{HasKnownSet}
+use Rattle.tetri_space.specs.Space.{Bid, Space}
+use Rattle.tetri_advice.specs.Fit.{Placement, fit_beside, fit_worth, grants_of, is_held}
+use Rattle.tetri_advice.proofs.AdviceLaws.{fit-same}
+use Rattle.tetri_greedy.specs.Held.{AreHoldable, TellsOf, all_marked}
+use Rattle.tetri_greedy.proofs.GreedyLaws.{good_leaves, holdable, tells_all}
+use Rattle.tetri_policy.specs.Start.{first_start, if_worth, or_else, start_at, worthy_fit}
+use Rattle.tetri_policy.specs.Started.{Starts}
+
+-- nothing more is held
+pub tells_same : (s : Space) (held : List Placement) (masks : List ℕ) → TellsOf s held masks → TellsOf s (held ++ []) masks
+tells_same s held masks = subst (λ h. TellsOf s h masks) (sym (append-nil held))
+
+-- a job that starts with nothing
+pub starts_none : (s : Space) (job : ℕ) (held ps : List Placement) (masks : List ℕ) → [] ≡ ps → TellsOf s held masks → Starts s job held ps masks []
+starts_none s job held ps masks none tells =
+    subst (λ qs. Starts s job held qs masks []) none (record { grants_are = refl; tells = tells_same s held masks tells })
+
+worth_something : (w : ℕ) (ps : List Placement) → (w ≡ 0 → ⊥) → if_worth w ps ≡ ps
+worth_something w ps some = let e : nat_le 1 w ≡ true = grind (arith, nat_tests, some) in ap (λ (b : Bool). cond b ps []) e
+
+worth_nothing : (w : ℕ) (ps : List Placement) → w ≡ 0 → if_worth w ps ≡ []
+worth_nothing w ps none = ap (λ n. if_worth n ps) none
+
+module _ (s : Space) (few : s.window ≤ 64) (job : ℕ) (t : Tree) (good : made.IsSound t) (known : EachLeaf (HasKnownSet s) t) (masks : List ℕ) where
+  -- beside marks
+  abbrev pub marked_fit : List Placement
+  marked_fit = fit_beside s job (is_marked masks s.now) [] t
+
+  pub fit_holdable : AreHoldable s.now s.nodes marked_fit
+  fit_holdable = holdable s job (is_marked masks s.now) few [] t good known
+
+  module _ (held : List Placement) (tells : TellsOf s held masks) where
+    worthy_same : if_worth (fit_worth job t marked_fit) marked_fit ≡ worthy_fit s job (is_held held) t
+    worthy_same =
+        ap (λ ps. if_worth (fit_worth job t ps) ps)
+        (fit-same s job (is_marked masks s.now) (is_held held) tells.tells t (good_leaves t good) [])
+
+    pub starts_nothing : fit_worth job t marked_fit ≡ 0 → Starts s job held (worthy_fit s job (is_held held) t) masks []
+    starts_nothing none =
+        starts_none s job held (worthy_fit s job (is_held held) t) masks (sym (worth_nothing (fit_worth job t marked_fit) marked_fit none) ∙ worthy_same) tells
+
+    pub starts_something : (fit_worth job t marked_fit ≡ 0 → ⊥) → length masks ≡ s.nodes →
+        Starts s job held (worthy_fit s job (is_held held) t) (all_marked s.now masks marked_fit) (grants_of job marked_fit)
+    starts_something some as_many =
+        subst (λ ps. Starts s job held ps (all_marked s.now masks marked_fit) (grants_of job marked_fit))
+        (sym (worth_something (fit_worth job t marked_fit) marked_fit some) ∙ worthy_same)
+        (record { grants_are = refl; tells = tells_all s few held marked_fit masks as_many tells fit_holdable })
