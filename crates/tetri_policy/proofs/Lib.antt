@@ -2,3 +2,4 @@ pub mod LeftLemmas
 pub mod PolicyLemmas
 pub mod StartLemmas
 pub mod StepLemmas
+pub mod TurnLemmas

@@ -1,5 +1,6 @@
 -- A job that starts beside marks starts as the definitions say.
-use Rattle.std.proofs.Common.{◌≡◌, ℕ, ◌≤◌, List, [], ◌∷◌, ◌++◌, Bool, length, cond, refl, sym, ap, ◌∙◌, subst, arith, nat_le}
+use Rattle.std.proofs.Common.{◌≡◌, ℕ, ◌+◌, ◌-◌, ◌<◌, ◌≤◌, List, [], ◌∷◌, ◌++◌, Bool, true, length, cond, suc, refl, sym, ap, ◌∙◌, subst, arith, nat_le}
+use Rattle.std.specs.List.{range_with_len}
 use Rattle.std.proofs.lemmas.Bool.Decides.{nat_tests}
 use Rattle.std.proofs.lemmas.List.{append-nil}
 use Rattle.tetri_strl.specs.declared.grants.Grant.{Grant}
@@ -13,7 +14,7 @@ use Rattle.tetri_advice.specs.Fit.{Placement, fit_beside, fit_worth, grants_of, 
 use Rattle.tetri_advice.proofs.AdviceLaws.{fit-same}
 use Rattle.tetri_greedy.specs.Held.{AreHoldable, TellsOf, all_marked}
 use Rattle.tetri_greedy.proofs.GreedyLaws.{good_leaves, holdable, tells_all}
-use Rattle.tetri_policy.specs.Start.{first_start, if_worth, or_else, start_at, worthy_fit}
+use Rattle.tetri_policy.specs.Start.{first_start, if_worth, or_else, reserved, start_at, worthy_fit}
 use Rattle.tetri_policy.specs.Started.{Starts}
 
 -- nothing more is held
@@ -55,3 +56,46 @@ module _ (s : Space) (few : s.window ≤ 64) (job : ℕ) (t : Tree) (good : made
         subst (λ ps. Starts s job held ps (all_marked s.now masks marked_fit) (grants_of job marked_fit))
         (sym (worth_something (fit_worth job t marked_fit) marked_fit some) ∙ worthy_same)
         (record { grants_are = refl; tells = tells_all s few held marked_fit masks as_many tells fit_holdable })
+
+grants_none : (job : ℕ) (ps : List Placement) → length (grants_of job ps) ≡ 0 → ps ≡ []
+grants_none job [] e = refl
+grants_none job (p ∷ ps) e = absurd (omega (arith, e))
+
+-- a job got these grants, and the marks tell what is held with them
+module _ (s : Space) (job : ℕ) (held ps : List Placement) (masks : List ℕ) (gs : List Grant) (starts : Starts s job held ps masks gs) where
+  pub got_none : length gs ≡ 0 → ps ≡ []
+  got_none none = grants_none job ps (sym (ap (λ (a : List Grant). length a) starts.grants_are) ∙ none)
+
+  pub got_some : (length gs ≡ 0 → ⊥) → ps ≡ [] → ⊥
+  got_some some none = some (ap (λ (a : List Grant). length a) starts.grants_are ∙ ap (λ qs. length (grants_of job qs)) none)
+
+  -- where it got none, as much is held as before
+  pub tells_as_before : length gs ≡ 0 → TellsOf s held masks
+  tells_as_before none = subst (λ h. TellsOf s h masks) (append-nil held) (subst (λ qs. TellsOf s (held ++ qs) masks) (got_none none) starts.tells)
+
+or_else_some : (ps later : List Placement) → (ps ≡ [] → ⊥) → or_else ps later ≡ ps
+or_else_some [] later some = absurd (some refl)
+or_else_some (p ∷ ps) later some = refl
+
+-- the slots from one on
+abbrev pub from_slot : Space → List Placement → Bid → ℕ → ℕ → List Placement
+from_slot s held b slot end = first_start s held b (range_with_len slot (end - slot))
+
+module _ (s : Space) (held : List Placement) (b : Bid) (slot end : ℕ) where
+  split_slot : slot < end → from_slot s held b slot end ≡ or_else (start_at s held b slot) (from_slot s held b (slot + 1) end)
+  split_slot lt =
+      let count : end - slot ≡ suc (end - (slot + 1)) = omega (arith, lt) in
+      ap (λ n. first_start s held b (range_with_len slot n)) count
+
+  -- where the job cannot start in the slot, the later ones are looked at
+  pub slot_passed : slot < end → start_at s held b slot ≡ [] → from_slot s held b slot end ≡ from_slot s held b (slot + 1) end
+  slot_passed lt none = split_slot lt ∙ ap (λ ps. or_else ps (from_slot s held b (slot + 1) end)) none
+
+  pub slot_found : slot < end → (start_at s held b slot ≡ [] → ⊥) → from_slot s held b slot end ≡ start_at s held b slot
+  slot_found lt some = split_slot lt ∙ or_else_some (start_at s held b slot) (from_slot s held b (slot + 1) end) some
+
+  pub slots_over : end ≤ slot → from_slot s held b slot end ≡ []
+  slots_over le = let count : end - slot ≡ 0 = omega (arith, le) in ap (λ n. first_start s held b (range_with_len slot n)) count
+
+pub window_slots : (s : Space) (held : List Placement) (b : Bid) → reserved s held b ≡ from_slot s held b s.now (s.now + s.window)
+window_slots s held b = let count : s.window ≡ s.now + s.window - s.now = omega arith in ap (λ n. first_start s held b (range_with_len s.now n)) count

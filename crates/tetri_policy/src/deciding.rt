@@ -21,11 +21,11 @@ fn first_come(alloc: Global, inst: &Instance) -> Result<Vec<Grant>, AllocError>
     let mut held = HeldSlots::of(alloc, inst)?;
     let mut grants = Vec::new(alloc);
     for offer in &inst.jobs {
-        let mut made = start_at(alloc, inst, offer, inst.now, &mut held)?;
-        if made.is_empty() {
+        let mut started = start_at(alloc, inst, offer, inst.now, &mut held)?;
+        if started.is_empty() {
             return Ok(grants);
         }
-        grants.append(&mut made)?;
+        grants.append(&mut started)?;
     }
     Ok(grants)
 }
