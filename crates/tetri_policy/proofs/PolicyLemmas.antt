@@ -44,10 +44,10 @@ module _ (s : Space) (sound : IsSound s) (sets : All IsStrictlyIncreasing s.sets
     left_fit slot None e = no_fit
     left_fit slot (Some t) e =
         let plain = EachLeaf-from (IsPlain s) t
-            (λ l at. record {
-              good = left_leaf s sound b pending slot (slot + 1) t e l at;
-              ascending = left_ascends s sound b pending slot (slot + 1) t e sets l at;
-            }) in
+        (λ l at. record {
+          good = left_leaf s sound b pending slot (slot + 1) t e l at;
+          ascending = left_ascends s sound b pending slot (slot + 1) t e sets l at;
+        }) in
         let fits = are_fit s b.job (is_held held) Differ t plain (left_differ s sound b pending slot (slot + 1) t e) [] in
         worthy (fit_worth b.job t (fit_beside s b.job (is_held held) [] t)) (fit_beside s b.job (is_held held) [] t)
         (record {

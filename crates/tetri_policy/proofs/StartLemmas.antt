@@ -1,15 +1,19 @@
 -- A job that starts beside marks starts as the definitions say.
-use Rattle.std.proofs.Common.{◌≡◌, ℕ, ◌+◌, ◌-◌, ◌<◌, ◌≤◌, List, [], ◌∷◌, ◌++◌, Bool, true, length, cond, suc, refl, sym, ap, ◌∙◌, subst, arith, nat_le}
+use Rattle.std.proofs.Common.{◌≡◌, ℕ, ◌+◌, ◌-◌, ◌<◌, ◌≤◌, ◌==◌, List, [], ◌∷◌, ◌++◌, Bool, true, false, All, Contains, drop, get_or, length, map, cond, suc, refl, sym, ap, ◌∙◌, subst, arith, nat_le}
 use Rattle.std.specs.List.{range_with_len}
 use Rattle.std.proofs.lemmas.Bool.Decides.{nat_tests}
-use Rattle.std.proofs.lemmas.List.{append-nil}
+use Rattle.std.proofs.lemmas.Bool.{true≢false}
+use Rattle.std.proofs.lemmas.List.{append-nil, drop-map, drop_more, get_or-map, length-map}
+use Rattle.std.proofs.lemmas.List.Elements.{All-contains_itself, All-drop}
 use Rattle.tetri_strl.specs.declared.grants.Grant.{Grant}
 use Rattle.tetri_strl.specs.Aligned.{EachLeaf}
 use Rattle.tetri_strl.specs.Tree.{Tree}
 use Rattle.tetri_strl.specs.WellMade as made
 use Rattle.tetri_space.specs.Slots.{is_marked}
 use Rattle.tetri_space.specs.Sound.{HasKnownSet}
-use Rattle.tetri_space.specs.Space.{Bid, Space}
+use Rattle.tetri_strl.proofs.ExprLaws.{eq_from_test}
+use Rattle.tetri_space.specs.Space.{Bid, Space, bid}
+use Rattle.tetri_space.specs.declared.instance.Offer.{Offer}
 use Rattle.tetri_advice.specs.Fit.{Placement, fit_beside, fit_worth, grants_of, is_held}
 use Rattle.tetri_advice.proofs.AdviceLaws.{fit-same}
 use Rattle.tetri_greedy.specs.Held.{AreHoldable, TellsOf, all_marked}
@@ -99,3 +103,24 @@ module _ (s : Space) (held : List Placement) (b : Bid) (slot end : ℕ) where
 
 pub window_slots : (s : Space) (held : List Placement) (b : Bid) → reserved s held b ≡ from_slot s held b s.now (s.now + s.window)
 window_slots s held b = let count : s.window ≡ s.now + s.window - s.now = omega arith in ap (λ n. first_start s held b (range_with_len s.now n)) count
+
+-- ---- whether a list is empty, by its length
+pub none_from : {X : Type 0} (xs : List X) (n : ℕ) → n ≡ length xs → true ≡ (n == 0) → length xs ≡ 0
+none_from xs n long t = sym long ∙ eq_from_test n 0 (sym t)
+
+pub some_from : {X : Type 0} (xs : List X) (n : ℕ) → n ≡ length xs → false ≡ (n == 0) → length xs ≡ 0 → ⊥
+some_from xs n long t none = true≢false (sym (t ∙ ap (λ m. m == 0) (long ∙ none)))
+
+-- ---- the offer at a place
+module _ (os : List Offer) (i : ℕ) (o : Offer) (lt : i < length os) (is : o ≡ get_or os i o) where
+  pub offers_from : map bid (drop i os) ≡ bid o ∷ map bid (drop (i + 1) os)
+  offers_from = ap (map bid) (drop_more os i o lt) ∙ ap (λ x. bid x ∷ map bid (drop (i + 1) os)) (sym is)
+
+  pub offer_pending : Contains (map bid os) (bid o)
+  offer_pending = (i, omega (arith, lt, length-map os bid), get_or-map bid os i o (bid o) lt ∙ ap bid (sym is))
+
+-- the offers behind a place are pending
+pub behind_pending : (all rest : List Offer) (n : ℕ) → rest ≡ drop n all → All (Contains (map bid all)) (map bid rest)
+behind_pending all rest n is =
+    subst (λ (xs : List Offer). All (Contains (map bid all)) (map bid xs)) (sym is)
+    (subst (All (Contains (map bid all))) (drop-map bid n all) (All-drop (Contains (map bid all)) n (map bid all) (All-contains_itself (map bid all))))

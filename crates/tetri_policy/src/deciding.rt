@@ -1,5 +1,5 @@
 // The grants of a policy.
-ghost use Rattle.std.specs.Prelude.{◌≡◌, ◌++◌, ◌≤◌, All, Contains, IfOk, List, OnOk, [], drop, length, map};
+ghost use Rattle.std.specs.Prelude.{◌≡◌, ◌+◌, ◌++◌, ◌<◌, All, Contains, IfOk, List, OnOk, [], drop, length, map};
 ghost use Rattle.tetri_advice.specs.Fit.{Placement};
 ghost use Rattle.tetri_greedy.specs.Held.{TellsOf};
 ghost use Rattle.tetri_policy.specs.Policies.{backfilled, each_start, first_come, policy_grants};
@@ -62,13 +62,8 @@ fn backfilled(alloc: Global, inst: &Instance) -> Result<Vec<Grant>, AllocError>
         let mut made = start_at(alloc, inst, offer, inst.now, &mut held)?;
         if made.is_empty() {
             reserve(alloc, inst, offer, &mut held)?;
-            start_each(
-                alloc,
-                inst,
-                later(&inst.jobs, place),
-                &mut held,
-                &mut grants,
-            )?;
+            let rest = later(inst.jobs.as_slice(), place);
+            start_each(alloc, inst, rest, &mut held, &mut grants)?;
             return Ok(grants);
         }
         grants.append(&mut made)?;

@@ -3,9 +3,11 @@
 
 mod deciding;
 mod laws;
+mod observing;
 mod policy;
 mod starting;
 
 pub use deciding::policy_grants;
 pub use laws::policies_are_lawful;
+pub use observing::observe_policy;
 pub use policy::Policy;

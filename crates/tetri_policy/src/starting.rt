@@ -1,5 +1,5 @@
 // What a job starts with in a slot.
-ghost use Rattle.std.specs.Prelude.{◌≡◌, ◌+◌, ◌<◌, ◌^◌, Contains, IfOk, List, OnOk, Some, length};
+ghost use Rattle.std.specs.Prelude.{◌≡◌, ◌++◌, ◌<◌, Contains, IfOk, List, OnOk, length};
 ghost use Rattle.tetri_advice.specs.Fit.{Placement, is_held};
 ghost use Rattle.tetri_greedy.specs.Held.{TellsOf};
 ghost use Rattle.tetri_policy.specs.Start.{reserved, start_at, worthy_fit};
