@@ -2,7 +2,7 @@
 ghost use Rattle.std.specs.Prelude.{◌≡◌, ◌+◌, ◌++◌, ◌<◌, All, Contains, IfOk, List, OnOk, [], drop, length, map};
 ghost use Rattle.tetri_advice.specs.Fit.{Placement};
 ghost use Rattle.tetri_greedy.specs.Held.{TellsOf};
-ghost use Rattle.tetri_policy.specs.Policies.{backfilled, each_start, first_come, policy_grants};
+ghost use Rattle.tetri_policy.specs.Policies.{backfilled, each_start, first_come, policy_grants, starts_by};
 ghost use Rattle.tetri_space.specs.Sound.{IsSound};
 ghost use Rattle.tetri_space.specs.Space.{bid, space};
 
@@ -79,6 +79,17 @@ fn later(offers: &[Offer], place: usize) -> &[Offer]
     &offers[place + 1..]
 }
 
+// The starts of a policy.
+fn starts_by(alloc: Global, inst: &Instance, policy: Policy) -> Result<Vec<Grant>, AllocError>
+    requires { IsSound (space inst.now) }
+    ensures { IfOk result (λ gs. gs.items ≡ starts_by policy (space inst.entry.now)) }
+{
+    match policy {
+        Policy::FirstCome => first_come(alloc, inst),
+        Policy::Backfill => backfilled(alloc, inst),
+    }
+}
+
 /// The grants of a policy. Its only error is want of memory.
 pub fn policy_grants(
     alloc: Global,
@@ -88,9 +99,7 @@ pub fn policy_grants(
     requires { IsSound (space inst.now) }
     ensures { IfOk result (λ a. a ≡ policy_grants policy (space inst.entry.now)) }
 {
-    let grants = match policy {
-        Policy::FirstCome => first_come(alloc, inst)?,
-        Policy::Backfill => backfilled(alloc, inst)?,
-    };
-    trim_all(alloc, inst, &Allotment::of(grants))
+    let starts = starts_by(alloc, inst, policy)?;
+    let grants = trim_all(alloc, inst, &Allotment::of(starts))?;
+    Ok(grants)
 }

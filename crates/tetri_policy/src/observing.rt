@@ -108,7 +108,7 @@ fn decide(
 }
 
 // Launches what was decided, and shows the cycle. Its only error is want of memory.
-fn launch<O: Observer>(
+fn launch_and_show<O: Observer>(
     alloc: Global,
     trace: &Trace,
     state: &mut State,
@@ -154,7 +154,7 @@ fn run_slot<O: Observer>(
     ensures reached { OnOk result (IsReached (scenario trace.entry.now) between state.new) }
 {
     let decided = decide(alloc, trace, state, policy)?;
-    launch(alloc, trace, state, decided, observer)?;
+    launch_and_show(alloc, trace, state, decided, observer)?;
     Ok(())
 }
 

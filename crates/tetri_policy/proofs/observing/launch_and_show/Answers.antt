@@ -3,7 +3,7 @@ use Rattle.tetri_cert.specs.declared.certificate.Certificate.TheVariants.{Tops}
 use Rattle.tetri_report.specs.Block.{headed}
 use Rattle.tetri_trace.specs.Scenario.{scenario}
 use Rattle.tetri_policy.proofs.RunLemmas.{cycle, found, shown, state_next}
-use Rattle.tetri_policy.proofs.observing.launch.Goals as goal
+use Rattle.tetri_policy.proofs.observing.launch_and_show.Goals as goal
 
 pub prepare_launch-requires : goal.prepare_launch-requires
 prepare_launch-requires g c =
