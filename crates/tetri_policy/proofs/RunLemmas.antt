@@ -86,7 +86,10 @@ module _ (p : Policy) (t : Scenario) where
 
     module _ (slots : ℕ) (s : Snapshot) (first middle : O) (ran : RanCycles saw p t slots s first middle) where
       pub slot_is : s.now ≡ slots
-      slot_is = ap (λ (q : Snapshot). q.now) ran.state ∙ now_behind (opening_state t) ran.cycles ∙ ran.as_many
+      slot_is =
+          let now : s.now ≡ (behind t (opening_state t) ran.cycles).now = ap (λ (q : Snapshot). q.now) ran.state in
+          let many : (behind t (opening_state t) ran.cycles).now ≡ 0 + length ran.cycles = now_behind (opening_state t) ran.cycles in
+          omega (arith, now, many, ran.as_many)
 
       pub one_more : (now : Snapshot) (last : O) → RanCycle saw p t s now middle last → RanCycles saw p t (slots + 1) now first last
       one_more now last step =
@@ -94,7 +97,7 @@ module _ (p : Policy) (t : Scenario) where
           record {
             cycles = ran.cycles ++ b ∷ [];
             run = cycles_last (opening_state t) ran.cycles b ran.run (subst (λ (q : Snapshot). IsPolicyCycle p t q b) ran.state step.is);
-            as_many = length-append ran.cycles (b ∷ []) ∙ ap (λ n. n + 1) ran.as_many;
+            as_many = let more : length (ran.cycles ++ b ∷ []) ≡ length ran.cycles + 1 = length-append ran.cycles (b ∷ []) in omega (arith, more, ran.as_many);
             state = step.state ∙ ap (λ (q : Snapshot). next t q b) ran.state ∙ sym (behind_last t (opening_state t) ran.cycles b);
             observed = observed_last t saw (opening_state t) ran.cycles b first middle last ran.observed (subst (λ (q : Snapshot). saw t q b middle last) ran.state step.observed);
           }
