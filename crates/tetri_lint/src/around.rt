@@ -75,7 +75,11 @@ fn last_before(text: &[u8], number: u64) -> Option<&[u8]> {
 }
 
 /// A line of a text with what stands before it.
-pub(crate) fn around(alloc: Global, text: &[u8], number: u64) -> Result<Around<'_>, AllocError> {
+pub(crate) fn around_line(
+    alloc: Global,
+    text: &[u8],
+    number: u64,
+) -> Result<Around<'_>, AllocError> {
     let line = line_at(text, number);
     let header = first_before(text, number);
     let place = if header.is_none() {

@@ -2,7 +2,7 @@
 use crate::around::{near_nodes, near_tags};
 use crate::near::nearest_of;
 use crate::scan::piece;
-use crate::shown::{excerpt, front, is_word_byte, word_at};
+use crate::shown::{excerpt_at, front, is_word_byte, word_at};
 use crate::told::Told;
 use std::alloc::{AllocError, Global};
 use tetri_cluster::{Cluster, Sets};
@@ -243,6 +243,6 @@ pub(crate) fn tell_fault(
     if !word.is_empty() && fault != Fault::Uneven && fault != Fault::Mixed {
         told.found = Some(word);
     }
-    told.excerpt = Some(excerpt(alloc, phrase.text, at)?);
+    told.excerpt = Some(excerpt_at(alloc, phrase.text, at)?);
     Ok(at)
 }

@@ -3,7 +3,7 @@
 #![tactic(auto)]
 
 mod around;
-mod explain;
+mod explaining;
 mod expressions;
 mod fault;
 mod fields;
@@ -11,7 +11,7 @@ mod finding;
 mod header_notes;
 mod jobs;
 mod keys;
-mod lint;
+mod linting;
 mod near;
 mod print;
 mod rules;
@@ -23,7 +23,7 @@ mod words;
 
 pub use fault::LintFault;
 pub use finding::{Finding, Kind, Level, Linted, Refusal, level_of};
-pub use lint::{explain, lint};
+pub use linting::{explain, lint};
 pub use print::{add_finding, add_refusal};
 pub use rules::{durs_past_deadline, is_more_than_set, rounds_to_zero};
 pub use shown::Excerpt;

@@ -244,8 +244,7 @@ pub(crate) fn keys_of(alloc: Global, line: &[u8], top: Place) -> Result<Vec<Key>
     for (at, byte) in line.iter().enumerate() {
         scanner.step(at, *byte)?;
     }
-    let Scanner { keys, .. } = scanner;
-    Ok(keys)
+    Ok(scanner.keys)
 }
 
 /// The last key of this name in a place.

@@ -44,7 +44,7 @@ pub(crate) fn front(alloc: Global, bytes: &[u8]) -> Result<String, AllocError> {
 }
 
 /// The text around a place.
-pub(crate) fn excerpt(alloc: Global, text: &[u8], at: usize) -> Result<Excerpt, AllocError> {
+pub(crate) fn excerpt_at(alloc: Global, text: &[u8], at: usize) -> Result<Excerpt, AllocError> {
     let from = at.saturating_sub(BEFORE_MOST).min(text.len());
     let to = at.saturating_add(BEHIND_MOST).min(text.len());
     let piece = text.get(from..to).unwrap_or(&[]);

@@ -1,11 +1,11 @@
 // What is told of a refusal.
-use crate::around::{Around, around, cluster_of, header_of, near_nodes, object_of, text_at};
+use crate::around::{Around, around_line, cluster_of, header_of, near_nodes, object_of, text_at};
 use crate::expressions::{Phrase, has_fault, tell_fault};
 use crate::fields::{key_of, wanted_of};
 use crate::keys::Place;
 use crate::near::{Nearest, nearest_of};
 use crate::scan::{Key, last_key, piece};
-use crate::shown::{excerpt, front, shown};
+use crate::shown::{excerpt_at, front, shown};
 use crate::told::Told;
 use serde_json::Value;
 use std::alloc::{AllocError, Global};
@@ -36,7 +36,7 @@ fn tell_json(alloc: Global, line: &[u8], told: &mut Told) -> Result<(), AllocErr
         let at = error.column().saturating_sub(1);
         told.column = column_of(at);
         told.found = Some(format!(in alloc; "{error}")?);
-        told.excerpt = Some(excerpt(alloc, line, at)?);
+        told.excerpt = Some(excerpt_at(alloc, line, at)?);
     }
     Ok(())
 }
@@ -264,7 +264,9 @@ fn tell_taken_job(
 ) -> Result<(), AllocError> {
     let name = name_of(alloc, around)?;
     let mut nearest = Nearest::new(alloc, name.as_str());
-    if let Some(line) = jobs_before(alloc, text, number, &mut nearest, name.as_str())? {
+    let brought = jobs_before(alloc, text, number, &mut nearest, name.as_str())?;
+    drop(nearest);
+    if let Some(line) = brought {
         told.expected = format!(in alloc; "a name that line {line} has not brought")?;
     }
     tell_name(around, name, told);
@@ -466,7 +468,7 @@ pub(crate) fn told_of(
     if matches!(why, TraceWhy::LineTooLong | TraceWhy::TraceTooLong) {
         return Ok(told);
     }
-    let around = around(alloc, text, number)?;
+    let around = around_line(alloc, text, number)?;
     match why {
         TraceWhy::NotJson => tell_json(alloc, around.line, &mut told)?,
         TraceWhy::NotObject => {

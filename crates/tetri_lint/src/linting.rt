@@ -4,7 +4,7 @@ ghost use Rattle.tetri_algebra.specs.Counts.{Rose};
 ghost use Rattle.tetri_lint.specs.Lint.{cause, refused};
 ghost use Rattle.tetri_trace.specs.Lines.{scenario_in};
 
-use crate::explain::told_of;
+use crate::explaining::told_of;
 use crate::fault::LintFault;
 use crate::finding::{Linted, Refusal};
 use crate::jobs::findings_in;
