@@ -1,5 +1,6 @@
 // `tetri_ctl export TRACE --cycle N`
 use crate::named::{Shelf, open_trace, trace_word};
+use crate::refusals::end_of;
 use crate::said::{REFUSED, USAGE, complain, end, too_large};
 use clap::{Arg, ArgMatches, Command, value_parser};
 use std::alloc::{AllocError, Global};
@@ -85,7 +86,7 @@ pub fn run(rt: &HostRuntime, words: &ArgMatches<'_>) -> u8 {
     }
     match seat_and_export(rt, &mut shelf, name, cycle) {
         Ok(Ok(exported)) => written(rt, name, &exported),
-        Ok(Err(fault)) => end(rt, &status_of(fault), name, ""),
+        Ok(Err(fault)) => end_of(rt, &mut shelf, &status_of(fault), name, ""),
         Err(AllocError) => end(rt, &Status::NoMemory, name, ""),
     }
 }

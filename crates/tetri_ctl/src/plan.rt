@@ -1,6 +1,6 @@
 // `tetri_ctl plan TRACE`
 use crate::named::{Shelf, open_trace, trace_word};
-use crate::said::end;
+use crate::refusals::end_of;
 use clap::{Arg, ArgMatches, Command};
 use std::alloc::{AllocError, Global};
 use tetri_advice::{Advisor, Panel};
@@ -75,5 +75,5 @@ pub fn run(rt: &HostRuntime, words: &ArgMatches<'_>) -> u8 {
         Ok(status) => status,
         Err(AllocError) => Status::NoMemory,
     };
-    end(rt, &status, trace, "")
+    end_of(rt, &mut shelf, &status, trace, "")
 }

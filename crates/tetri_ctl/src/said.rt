@@ -22,8 +22,8 @@ pub const BAD_INPUT: u8 = 5;
 /// There is no memory.
 pub const NO_MEMORY: u8 = 6;
 
-// A name as it is shown.
-fn shown(name: &str) -> &str {
+/// A name as it is shown.
+pub fn shown(name: &str) -> &str {
     if name == "-" { "standard input" } else { name }
 }
 

@@ -3,6 +3,7 @@
 #![tactic(auto)]
 
 mod policies;
+mod lint;
 
 use std::{env, fs, io};
 use tetri_tables::Tally;
@@ -12,6 +13,7 @@ fn judge(rt: &HostRuntime, name: &str, text: &str) -> io::Result<Option<Tally>> 
     let kind = name.split(['-', '.']).next().unwrap_or("");
     match kind {
         "policies" => Ok(Some(policies::judge(rt.alloc(), text)?)),
+        "lint" => Ok(Some(lint::judge(rt.alloc(), text)?)),
         _ => Ok(None),
     }
 }
