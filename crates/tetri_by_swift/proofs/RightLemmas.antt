@@ -1,5 +1,5 @@
 -- What holds of the plan that a search gives.
-use Rattle.std.proofs.Common.{◌≡◌, ◌⊎◌, ℕ, ◌<◌, ◌≤◌, ◌==◌, ◌∙◌, refl, sym, ap, subst, arith, inl, inr, List, [], ◌∷◌, length, Bool, true, false, AllPairs, Option, Some, None, Result, Ok}
+use Rattle.std.proofs.Common.{◌≡◌, ◌⊎◌, ℕ, ◌*◌, ◌<◌, ◌≤◌, ◌==◌, ◌∙◌, refl, sym, ap, subst, arith, inl, inr, List, [], ◌∷◌, length, Bool, true, false, AllPairs, Option, Some, None, Result, Ok}
 use Rattle.std.specs.Prelude.{IfSome, MatchOption, nat_lt, ◌≤ℤ◌}
 use Rattle.std.proofs.lemmas.Bool.{ltb-true, ltb-false}
 use Rattle.std.specs.Global.{Vec}
@@ -190,3 +190,16 @@ never_spent m c (inr never) e left = never (open_has_tree c left)
 pub settled_tree : (m : PlanMark) (c : Certificate) → (m ≡ Optimal) ⊎ (HasTree c → ⊥) → HasTree c → m ≡ Optimal
 settled_tree m c (inl optimal) has = optimal
 settled_tree m c (inr never) has = absurd (never has)
+
+-- what is good for what is known is good for less
+pub good_at : (s : Space) (low less : ℕ) (p : Planned) → less ≤ low → IsGood s low p → IsGood s less p
+good_at s low less p le good = record {
+  honest = record {
+    lawful = good.honest.lawful;
+    thrifty = good.honest.thrifty;
+    attained = good.honest.attained;
+    at_least = omega (arith, le, good.honest.at_least);
+    optimal = good.honest.optimal;
+  };
+  bounded = good.bounded;
+}

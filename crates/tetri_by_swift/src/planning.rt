@@ -134,7 +134,7 @@ fn search_from<E: Engine>(
 // Whether a plan with no node but one that is left open may get better by a search.
 fn may_get_better(p: &Plan) -> bool
     ensures tree { result ≡ true → HasTree p.now.certificate }
-    ensures not { result ≡ false
+    ensures settled { result ≡ false
         → (p.now.mark ≡ marks.Optimal) ⊎ (HasTree p.now.certificate → ⊥) }
 {
     match &p.certificate {
@@ -185,13 +185,14 @@ pub fn choose_by<E: Engine>(
         → IfOk result (λ p. p.mark ≡ marks.Optimal) }
 {
     let known = choose(alloc, inst, carry, given, 0)?;
-    if !may_get_better(&known) {
-        return Ok(known);
+    if may_get_better(&known) {
+        let low = known.low;
+        let best = Candidate {
+            grants: known.grants,
+            worth: known.value,
+        };
+        let plan = search_from(alloc, inst, best, low, budget, engine)?;
+        return Ok(plan);
     }
-    let low = known.low;
-    let best = Candidate {
-        grants: known.grants,
-        worth: known.value,
-    };
-    search_from(alloc, inst, best, low, budget, engine)
+    Ok(known)
 }
