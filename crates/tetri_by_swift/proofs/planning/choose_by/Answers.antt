@@ -17,7 +17,7 @@ pub returns-then-may_get_better : goal.returns-then-may_get_better
 returns-then-may_get_better g c =
     let s = space c.args.inst.now in
     let known = c.in_ok-known.ensures in
-    let plan = c.in_ok-plan-then-may_get_better.ensures in
+    let plan = c.in_ok-plan.ensures in
     let right = plan.right in
     record {
       good = good_at s c.in_ok-known.known.value (total_in s c.args.carry.now) _ known.good.honest.at_least right.good;
@@ -50,7 +50,7 @@ returns g c =
       printable = known.printable;
       tree = known.tree;
       no_rest = known.no_rest;
-      spent = λ e. absurd (never_spent p.mark p.certificate settled e (known.spent e).1.0);
+      spent = λ e. absurd (never_spent p.mark p.certificate settled e (known.spent e).1);
       wide = known.wide;
       enough = λ may le. settled_tree p.mark p.certificate settled (known.tree.1 may);
     }
