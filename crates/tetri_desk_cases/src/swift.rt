@@ -12,7 +12,7 @@ use made::made_trace;
 use std::alloc::{AllocError, Global};
 use tetri_advice::{Advisor, Panel};
 use tetri_by_swift::BySwift;
-use tetri_compile::{Compiled, compile, size};
+use tetri_compile::{compile, size};
 use tetri_greedy::{ByDeadline, ByWorth};
 use tetri_io::{MemShelf, MemSink};
 use tetri_run::{ByChooser, Status, run_check, run_chosen};
@@ -20,7 +20,7 @@ use tetri_search::{Found, search};
 use tetri_space::{Instance, find_partitions};
 use tetri_state::State;
 use tetri_swift::{Anew, search_by, swift_search};
-use tetri_tables::{Given, Tally, answer, halves, sections_of};
+use tetri_tables::{Given, Tally, answer, halves, sections_of, text_in};
 use tetri_trace::Trace;
 use wild::Wild;
 
@@ -80,9 +80,11 @@ fn searched(
     if beside {
         let exact = search(alloc, &c, 0, budget)?;
         note(&mut out, "exactly", &swift, &exact)?;
-        let anew = search_by(alloc, &c, 0, budget, &mut Anew)?;
+        let mut nothing = Anew;
+        let anew = search_by(alloc, &c, 0, budget, &mut nothing)?;
         note(&mut out, "anew", &swift, &anew)?;
-        let wild = search_by(alloc, &c, 0, budget, &mut Wild::new())?;
+        let mut engine = Wild::new();
+        let wild = search_by(alloc, &c, 0, budget, &mut engine)?;
         note(&mut out, "by a wild engine", &swift, &wild)?;
     }
     Ok(out)
@@ -95,23 +97,21 @@ fn searched_in(
     bytes: usize,
     beside: bool,
 ) -> Result<String, AllocError> {
-    let Ok(trace) = answer(alloc, content.as_bytes())? else {
-        return String::from_str(alloc, "the trace is not read");
-    };
-    match first_instance(alloc, &trace)? {
-        Some(inst) => searched(alloc, &inst, budget, bytes, beside),
-        None => String::from_str(alloc, "no cycle"),
+    match answer(alloc, content.as_bytes())? {
+        Ok(trace) => match first_instance(alloc, &trace)? {
+            Some(inst) => searched(alloc, &inst, budget, bytes, beside),
+            None => String::from_str(alloc, "no cycle"),
+        },
+        Err(_) => String::from_str(alloc, "the trace is not read"),
     }
 }
 
-// The word of a report's last line that counts optimal plans.
-fn optimal_in(report: &[u8]) -> &[u8] {
-    for word in report.split(|b| *b == b' ' || *b == b'\n').rev() {
-        if word.starts_with(b"optimal=") {
-            return word;
-        }
+// How many plans a report counts as optimal.
+fn optimal_in(report: &str) -> &str {
+    match report.rsplit_once("optimal=") {
+        Some((_, count)) => count.trim_end_matches('\n'),
+        None => "none",
     }
-    b"no summary"
 }
 
 // The plans of a trace, and whether their report is accepted.
@@ -136,8 +136,9 @@ fn run_in(alloc: Global, content: &str, bytes: usize) -> Result<String, AllocErr
     if run_check(alloc, "trace", "report", &mut shelf, &mut told) != Status::Done {
         return String::from_str(alloc, "refused");
     }
-    let optimal = std::str::from_utf8(optimal_in(sink.written())).unwrap_or("");
-    format!(in alloc; "accepted, {optimal}")
+    let report = text_in(alloc, sink.written())?;
+    let optimal = optimal_in(report.as_str());
+    format!(in alloc; "accepted, optimal={optimal}")
 }
 
 // The numbers of a row.

@@ -2,6 +2,7 @@
 use std::alloc::{AllocError, Global};
 
 // A row of numbers without a pattern.
+#[derive(Drop)]
 struct Draw {
     state: u64,
 }
@@ -15,7 +16,7 @@ impl Draw {
         if most == 0 {
             return 0;
         }
-        (self.state >> 33) as u32 % most
+        u32::try_from(self.state >> 33).unwrap_or(0) % most
     }
 }
 

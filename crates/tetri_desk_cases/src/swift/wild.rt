@@ -24,6 +24,14 @@ fn weights_of(alloc: Global, row: u32, by: i128) -> Result<Vec<Weight>, AllocErr
     Ok(weights)
 }
 
+fn zeros(alloc: Global, count: usize) -> Result<Vec<Frac>, AllocError> {
+    let mut point = Vec::new(alloc);
+    for _ in 0..count {
+        point.push(Frac::new(0, 1))?;
+    }
+    Ok(point)
+}
+
 impl Engine for Wild {
     fn propose(
         &mut self,
@@ -59,7 +67,7 @@ impl Engine for Wild {
                 weights: Vec::new(alloc),
                 column: 0,
                 at: 0,
-                point: vec![in alloc; Frac::new(0, 1); p.costs.len()]?,
+                point: zeros(alloc, p.costs.len())?,
             })),
             _ => Ok(None),
         }
