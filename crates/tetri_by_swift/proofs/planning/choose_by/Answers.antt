@@ -1,4 +1,4 @@
-use Rattle.std.proofs.Common.{◌∙◌, arith, sym}
+use Rattle.std.proofs.Common.{◌≤◌, ◌∙◌, arith, sym}
 use Rattle.tetri_plan.specs.Plans.{planned_of}
 use Rattle.tetri_space.specs.Space.{space}
 use Rattle.tetri_space.specs.Total.{total_in}
@@ -19,11 +19,12 @@ returns-then-may_get_better g c =
     let known = c.in_ok-known.ensures in
     let plan = c.in_ok-plan.ensures in
     let right = plan.right in
+    let more : c.in_ok-known.known.value ≤ c.in_ok-plan.plan.value = right.good.honest.at_least in
     record {
       good = good_at s c.in_ok-known.known.value (total_in s c.args.carry.now) _ known.good.honest.at_least right.good;
       certified = right.certified;
       low = plan.low ∙ known.low;
-      at_least = omega (arith, plan.low, known.at_least, right.good.honest.at_least);
+      at_least = omega (arith, plan.low, known.at_least, more);
       heard = plan.heard;
       ordered = right.ordered;
       printable = right.printable;
