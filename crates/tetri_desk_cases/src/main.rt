@@ -4,6 +4,7 @@
 
 mod policies;
 mod lint;
+mod swift;
 
 use std::{env, fs, io};
 use tetri_tables::Tally;
@@ -14,6 +15,7 @@ fn judge(rt: &HostRuntime, name: &str, text: &str) -> io::Result<Option<Tally>> 
     match kind {
         "policies" => Ok(Some(policies::judge(rt.alloc(), text)?)),
         "lint" => Ok(Some(lint::judge(rt.alloc(), text)?)),
+        "swift" => Ok(Some(swift::judge(rt.alloc(), text)?)),
         _ => Ok(None),
     }
 }
