@@ -30,7 +30,7 @@ impl Random {
                 break;
             }
             word = word.saturating_mul(2);
-            whole += 1;
+            whole = whole.saturating_add(1);
         }
         whole
             .saturating_mul(1024)
