@@ -673,9 +673,18 @@ pub fn search(m: &mut Market, o: &Options, known: u64) -> Found {
         }
         let gap = (bound as i128 - value as i128).max(UNIT as i128 / 2) * theta;
         let factor = gap * 16 * (1i128 << 22) / norm; // theta of 1024, 2^32 fixed
+        let mut moved = false;
         for i in 0..cells {
             let x = m.prices[i] as i128 + (factor * dir[i] as i128 >> 32);
-            m.prices[i] = x.max(0).min(1 << 60) as u64;
+            let x = x.max(0).min(1 << 60) as u64;
+            moved |= x != m.prices[i];
+            m.prices[i] = x;
+        }
+        if !moved {
+            for i in 0..cells {
+                let x = m.prices[i] as i64 + dir[i].signum();
+                m.prices[i] = x.max(0) as u64;
+            }
         }
     }
     m.prices.clone_from(&best_prices);
