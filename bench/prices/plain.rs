@@ -62,6 +62,7 @@ pub struct Market {
     pub sums: Vec<u64>,
     pub usage: Vec<i64>,  // differences, by part and slot, one more
     pub heads: Vec<Head>, // scratch of place
+    pub salt: u64,        // above 0: one leaf in sixteen is passed over
 }
 #[derive(Clone, Copy, Debug, Default)]
 pub struct Head {
@@ -104,6 +105,12 @@ impl Pcg {
         let x = (((old >> 18) ^ old) >> 27) as u32;
         x.rotate_right((old >> 59) as u32)
     }
+    // The binary logarithm of one over a number by chance between 0 and 1, in parts of 1024, about.
+    pub fn logarithm(&mut self) -> u64 {
+        let word = self.word().max(1);
+        let zeros = word.leading_zeros();
+        (zeros as u64 + 1) * 1024 - ((word << zeros) >> 21 & 1023) as u64
+    }
     pub fn below(&mut self, n: usize) -> usize {
         if n == 0 {
             0
@@ -137,6 +144,9 @@ fn start_of(kind: Kind) -> Tally {
 }
 
 impl Market {
+    pub fn gain_of(&self, j: usize) -> u64 {
+        self.gains[self.starts[j + 1] - 1]
+    }
     pub fn jobs(&self) -> usize {
         self.starts.len() - 1
     }
@@ -422,7 +432,9 @@ impl Market {
                     } else {
                         n.worth.saturating_mul(1024)
                     };
-                    if most <= least && (under == Kind::Max || under == Kind::Sum) {
+                    let passed = self.salt > 0
+                        && (i as u64 ^ self.salt).wrapping_mul(0x9E3779B97F4A7C15) >> 60 == 0;
+                    if passed || most <= least && (under == Kind::Max || under == Kind::Sum) {
                         worth = 0;
                         cost = 0;
                     } else {
@@ -661,9 +673,18 @@ pub fn search(m: &mut Market, o: &Options, known: u64) -> Found {
         }
         let gap = (bound as i128 - value as i128).max(UNIT as i128 / 2) * theta;
         let factor = gap * 16 * (1i128 << 22) / norm; // theta of 1024, 2^32 fixed
+        let mut moved = false;
         for i in 0..cells {
             let x = m.prices[i] as i128 + (factor * dir[i] as i128 >> 32);
-            m.prices[i] = x.max(0).min(1 << 60) as u64;
+            let x = x.max(0).min(1 << 60) as u64;
+            moved |= x != m.prices[i];
+            m.prices[i] = x;
+        }
+        if !moved {
+            for i in 0..cells {
+                let x = m.prices[i] as i64 + dir[i].signum();
+                m.prices[i] = x.max(0) as u64;
+            }
         }
     }
     m.prices.clone_from(&best_prices);
@@ -671,9 +692,10 @@ pub fn search(m: &mut Market, o: &Options, known: u64) -> Found {
     let value = best_plan.total.max(known * UNIT);
     let mut rounds = 0;
     if best_bound / UNIT as u128 > value as u128 / UNIT as u128 && o.rounds > 0 {
+        let gap = (best_bound - value as u128) / (best_bound / 1024).max(1);
         rounds = repair(
             m,
-            o.rounds,
+            o.rounds * (gap as usize / 8).clamp(1, 4),
             &mut best_plan,
             (best_bound / UNIT as u128 * UNIT as u128) as u64,
             &tops,
@@ -763,7 +785,7 @@ fn repair(m: &mut Market, rounds: usize, best: &mut Plan, limit: u64, tops: &[u6
         }
         out.clear();
         out.push(j);
-        let most = 2 + rng.below(8);
+        let most = 4 + rng.below(16);
         let from = rng.below(useful.len());
         for d in 0..useful.len() {
             let i = useful[(from + d) % useful.len()];
@@ -784,8 +806,14 @@ fn repair(m: &mut Market, rounds: usize, best: &mut Plan, limit: u64, tops: &[u6
                 touched[o + t as usize] = false;
             }
         }
-        for _ in 0..4 {
-            let i = useful[rng.below(useful.len())];
+        for _ in 0..12 {
+            let mut i = useful[rng.below(useful.len())];
+            for _ in 0..2 {
+                let k = useful[rng.below(useful.len())];
+                if plan.worths[i] > 0 || plan.worths[k] == 0 && m.gain_of(i) < m.gain_of(k) {
+                    i = k;
+                }
+            }
             if plan.worths[i] == 0 && !out.contains(&i) {
                 out.push(i);
             }
@@ -803,37 +831,39 @@ fn repair(m: &mut Market, rounds: usize, best: &mut Plan, limit: u64, tops: &[u6
         plan.total -= before;
         let order: Vec<u32> = {
             let mut v: Vec<usize> = out.clone();
-            match rng.below(4) {
+            let by = std::cmp::Reverse::<u64>;
+            match rng.below(8) {
                 0 => {
                     for x in (1..v.len()).rev() {
                         let y = rng.below(x + 1);
                         v.swap(x, y);
                     }
                 }
-                1 => {
-                    v[1..].sort_by_key(|&i| std::cmp::Reverse(tops[i]));
-                }
-                2 => {
-                    v.sort_by_key(|&i| std::cmp::Reverse(tops[i] / m.sizes[i]));
-                }
-                _ => {
+                1 => v[1..].sort_by_key(|&i| by(tops[i])),
+                2 => v.sort_by_key(|&i| by(tops[i] / m.sizes[i])),
+                3 => {
                     let r = rng.below(v.len());
                     v.swap(0, r);
-                    v[1..].sort_by_key(|&i| std::cmp::Reverse(tops[i] / m.sizes[i]));
+                    v[1..].sort_by_key(|&i| by(tops[i] / m.sizes[i]));
                 }
+                4 => v.sort_by_key(|&i| by(m.gain_of(i) / m.sizes[i])),
+                5 => v.sort_by_key(|&i| by(m.gain_of(i))),
+                6 => v[1..].sort_by_key(|&i| by(m.gain_of(i) / m.sizes[i])),
+                _ => v[1..].sort_by_key(|&i| by(m.sizes[i])),
             }
             v.into_iter().map(|x| x as u32).collect()
         };
         let priced = rng.below(4) > 0;
+        m.salt = (rng.word() as u64) << 8 | 1;
         m.fill(&order, priced, &mut left, &mut plan);
         if priced {
             m.fill(&order, false, &mut left, &mut plan);
         }
-        let slack = if round * 10 < rounds * 9 && rng.below(4) == 0 {
-            total / 4096 * ((rounds - round) as u64) / rounds as u64
-        } else {
-            0
-        };
+        m.salt = 0;
+        let remaining = (rounds - round) as u64;
+        let slack = total / 6000 * remaining / rounds as u64 * remaining / rounds as u64
+            * rng.logarithm()
+            / 1024;
         if plan.total + slack >= total {
             if plan.total > best.total {
                 *best = plan.clone();
@@ -1012,6 +1042,7 @@ fn main() {
             sums: vec![],
             usage: vec![],
             heads: vec![],
+            salt: 0,
         };
         let mut classes = std::collections::HashMap::new();
         let mut ids = Vec::new();

@@ -5,6 +5,7 @@
 mod policies;
 mod lint;
 mod swift;
+mod prices;
 
 use std::{env, fs, io};
 use tetri_tables::Tally;
@@ -16,6 +17,7 @@ fn judge(rt: &HostRuntime, name: &str, text: &str) -> io::Result<Option<Tally>> 
         "policies" => Ok(Some(policies::judge(rt.alloc(), text)?)),
         "lint" => Ok(Some(lint::judge(rt.alloc(), text)?)),
         "swift" => Ok(Some(swift::judge(rt.alloc(), text)?)),
+        "prices" => Ok(Some(prices::judge(rt.alloc(), text)?)),
         _ => Ok(None),
     }
 }

@@ -120,11 +120,25 @@ impl Ascent {
         length
     }
 
-    // Changes the prices by a factor of the direction, in parts of 2^32.
-    fn change(&mut self, factor: u128) {
+    // Changes the prices by a factor of the direction, in parts of 2^32; answers whether one is another.
+    fn change(&mut self, factor: u128) -> bool {
+        let mut is_other = false;
         for (place, price) in self.prices.iter_mut().enumerate() {
             if place < self.direction.len() {
-                *price = stepped(*price, self.direction[place], factor, self.highest);
+                let next = stepped(*price, self.direction[place], factor, self.highest);
+                is_other = is_other || next != *price;
+                *price = next;
+            }
+        }
+        is_other
+    }
+
+    // Changes each price by one part in its direction: where many jobs compete for few nodes, a step may be less than that.
+    fn nudge(&mut self) {
+        for (place, price) in self.prices.iter_mut().enumerate() {
+            if place < self.direction.len() {
+                let sign = self.direction[place].max(-1).min(1);
+                *price = stepped(*price, sign, PARTS, self.highest);
             }
         }
     }
@@ -152,7 +166,9 @@ impl Ascent {
         let gap = bound.saturating_sub(value).max(2048);
         let share = gap.saturating_mul(u128::from(self.step)) / u128::from(WHOLE_STEP);
         let whole = share.saturating_mul(16).saturating_mul(PARTS);
-        self.change(whole / length.max(1));
+        if !self.change(whole / length.max(1)) {
+            self.nudge();
+        }
         Ok(true)
     }
 }

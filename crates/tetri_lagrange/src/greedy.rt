@@ -129,6 +129,7 @@ pub fn make_plan(
         places: &turn.places,
         gains: &turn.gains,
         priced: true,
+        salt: 0,
     };
     fill(&stand, &desk.ranks, &mut desk.left, &mut desk.heads, plan)?;
     let stand = Stand {

@@ -47,6 +47,14 @@ pub struct Stand<'a> {
     pub gains: &'a [u64],
     /// Whether jobs pay the prices.
     pub priced: bool,
+    /// Where this is not 0, one leaf in sixteen is passed over, another one for another number.
+    pub salt: u64,
+}
+
+// Whether a leaf at this place is passed over. Christiaens and Vanden Berghe 2020.
+#[inline]
+fn is_passed(salt: u64, place: usize) -> bool {
+    salt > 0 && (place as u64 ^ salt).wrapping_mul(11_400_714_819_323_198_485) >> 60 == 0
 }
 
 // How many nodes of a partition are left through a span, up to `most`.
@@ -171,7 +179,7 @@ fn place_leaf(
     uses: &mut Vec<Use>,
 ) -> Result<Offer, AllocError> {
     let bar = bar_of(node, heads);
-    if is_free(node) && most_key(stand, place, node) <= bar {
+    if is_free(node) && most_key(stand, place, node) <= bar || is_passed(stand.salt, place) {
         return Ok(NO_OFFER);
     }
     let mark = uses.len();

@@ -160,7 +160,7 @@ impl Yard {
 
     // Adds some jobs that use what is wished for.
     fn add_near(&mut self, market: &Market, plan: &Plan, first: usize) -> Result<(), AllocError> {
-        let most = self.random.below(8).saturating_add(3);
+        let most = self.random.below(16).saturating_add(4);
         let count = self.useful.len();
         let mut place = self.random.below(count);
         mark(market, &self.wish, true, &mut self.touched);
@@ -187,10 +187,24 @@ impl Yard {
         Ok(())
     }
 
+    // A job that has nothing, and gains more than others that were met, if one is soon found.
+    fn idle_job(&mut self, stand: &Stand, plan: &Plan) -> usize {
+        let mut job = self.some_job();
+        for _ in 0..2 {
+            let other = self.some_job();
+            let better = plan.share(other).worth == 0
+                && gain_of(stand, job) < gain_of(stand, other);
+            if plan.share(job).worth > 0 || better {
+                job = other;
+            }
+        }
+        job
+    }
+
     // Adds some jobs that have nothing.
-    fn add_idle(&mut self, plan: &Plan) -> Result<(), AllocError> {
-        for _ in 0..4 {
-            let job = self.some_job();
+    fn add_idle(&mut self, stand: &Stand, plan: &Plan) -> Result<(), AllocError> {
+        for _ in 0..12 {
+            let job = self.idle_job(stand, plan);
             if plan.share(job).worth == 0 && !self.is_out(job) {
                 self.add_out(plan, job)?;
             }
@@ -206,46 +220,43 @@ impl Yard {
         }
     }
 
-    // A key for one of the jobs that were taken out, in one of four orders.
-    fn key(
-        &mut self,
-        market: &Market,
-        tops: &[u64],
-        order: usize,
-        place: usize,
-        job: usize,
-    ) -> u64 {
+    // A key for one of the jobs that were taken out, in one of eight orders: a lesser one comes first.
+    fn key(&mut self, stand: &Stand, tops: &[u64], order: usize, place: usize, job: usize) -> u64 {
         let top = at(tops, job);
-        let size = match market.jobs.get(job) {
+        let gain = gain_of(stand, job);
+        let size = match stand.market.jobs.get(job) {
             Some(job) => job.size.max(1),
             None => 1,
         };
-        match order {
-            0 => self.random.below(1024) as u64,
-            1 => if place == 0 {
-                0
-            } else {
-                u64::MAX.saturating_sub(top)
-            },
-            2 => u64::MAX.saturating_sub(top / size),
-            _ => if self.random.below(4) == 0 {
-                0
-            } else {
-                u64::MAX.saturating_sub(top / size)
-            },
+        let is_first = match order {
+            1 | 6 | 7 => place == 0,
+            3 => self.random.below(4) == 0,
+            _ => false,
+        };
+        if is_first {
+            return 0;
         }
+        let rank = match order {
+            0 => self.random.below(1024) as u64,
+            1 => top,
+            2 | 3 => top / size,
+            4 | 6 => gain / size,
+            5 => gain,
+            _ => size,
+        };
+        u64::MAX.saturating_sub(rank)
     }
 
     // Puts the jobs that were taken out in another order.
-    fn rank(&mut self, market: &Market, tops: &[u64]) -> Result<(), AllocError> {
-        let order = self.random.below(4);
+    fn rank(&mut self, stand: &Stand, tops: &[u64]) -> Result<(), AllocError> {
+        let order = self.random.below(8);
         self.desk.ranks.clear();
         for place in 0..self.out.len() {
             let job = match self.out.get(place) {
                 Some(out) => out.job,
                 None => 0,
             };
-            let key = self.key(market, tops, order, place, job);
+            let key = self.key(stand, tops, order, place, job);
             self.desk.ranks.push(Rank { key, job })?;
         }
         self.desk.ranks.sort_unstable();
@@ -255,12 +266,16 @@ impl Yard {
     // Puts in again what was taken out.
     fn recreate(&mut self, stand: &Stand, plan: &mut Plan) -> Result<(), AllocError> {
         let desk = &mut self.desk;
+        let stand = Stand {
+            salt: self.random.salt(),
+            ..*stand
+        };
         if self.random.below(4) > 0 {
-            fill(stand, &desk.ranks, &mut desk.left, &mut desk.heads, plan)?;
+            fill(&stand, &desk.ranks, &mut desk.left, &mut desk.heads, plan)?;
         }
         let stand = Stand {
             priced: false,
-            ..*stand
+            ..stand
         };
         fill(&stand, &desk.ranks, &mut desk.left, &mut desk.heads, plan)
     }
@@ -277,7 +292,7 @@ impl Yard {
         }
     }
 
-    // Takes out and puts in again once; what loses more than the slack is undone.
+    // Takes out and puts in again once. What loses more than some multiple by chance of the slack is undone.
     fn change(
         &mut self,
         stand: &Stand,
@@ -293,13 +308,13 @@ impl Yard {
         self.out.clear();
         self.add_out(plan, first)?;
         self.add_near(stand.market, plan, first)?;
-        self.add_idle(plan)?;
+        self.add_idle(stand, plan)?;
         let total = plan.total;
         let uses = plan.uses.len();
         self.ruin(stand.market, plan);
-        self.rank(stand.market, tops)?;
+        self.rank(stand, tops)?;
         self.recreate(stand, plan)?;
-        let allowed = if self.random.below(4) == 0 { slack } else { 0 };
+        let allowed = slack.saturating_mul(self.random.logarithm()) / 1024;
         if plan.total.saturating_add(allowed) < total {
             self.undo(stand.market, plan, uses);
         }
@@ -307,12 +322,19 @@ impl Yard {
     }
 }
 
-// By how much a round may lose: less and less, and nothing in the last tenth.
+// By how much a round may lose, about: less and less.
 fn slack_of(total: u64, round: u64, rounds: u64) -> u64 {
-    if round.saturating_mul(10) >= rounds.saturating_mul(9) {
-        return 0;
+    let left = rounds.saturating_sub(round);
+    let slack = (total / 6000).saturating_mul(left) / rounds.max(1);
+    slack.saturating_mul(left) / rounds.max(1)
+}
+
+// What a job gains.
+fn gain_of(stand: &Stand, job: usize) -> u64 {
+    match stand.market.jobs.get(job) {
+        Some(job) => at(stand.gains, job.first),
+        None => 0,
     }
-    (total / 4096).saturating_mul(rounds.saturating_sub(round)) / rounds.max(1)
 }
 
 // A plan may hold so many uses that were given up before it is copied.
@@ -339,6 +361,7 @@ pub fn repair(
         places: &turn.places,
         gains: &turn.gains,
         priced: true,
+        salt: 0,
     };
     for round in 0..rounds {
         if best.total >= limit {

@@ -171,6 +171,7 @@ fn seek(
     if !is_met(ascent.bound, best.total.max(known)) {
         turn.run(market, &ascent.best)?;
         let rounds = times(REPAIR_WORK, market.nodes.len() as u64, 100, 10_000);
+        let rounds = rounds.saturating_mul(by_gap(ascent.bound, best.total.max(known)));
         let limit = u64::try_from(ascent.bound / u128::from(UNIT)).unwrap_or(u64::MAX);
         repair(
             alloc,
@@ -183,6 +184,14 @@ fn seek(
         )?;
     }
     Ok(ascent.best)
+}
+
+// How many times as many rounds of repair there are, by the gap between bound and value: once below 1.6 parts in 100, and four times at
+// most.
+fn by_gap(bound: u128, value: u64) -> u64 {
+    let gap = bound.saturating_sub(u128::from(value));
+    let share = u64::try_from(gap / (bound / 1024).max(1)).unwrap_or(u64::MAX);
+    (share / 8).max(1).min(4)
 }
 
 /// Seeks prices whose bound is low and a plan whose worth is high, by subgradient ascent (Held,

@@ -42,10 +42,11 @@ pub record IsPricedBy (s : Space) (g : Option Given) (p : Printed) (c : PricedCy
   pub priced : c.priced ≡ lesser_bound s p.bound g
   pub prices : c.prices.items ≡ told_prices s g
 
--- This is what some prices, or none, make of a cycle with this instance; where the printed bound holds, no lawful allotment is worth more
--- than the lesser one.
-pub record IsPriced (s : Space) (p : Printed) (c : PricedCycle) : Type 0 where
+-- This is what some prices, or none, make of a cycle with this instance, and these were given; where the printed bound holds, no lawful
+-- allotment is worth more than the lesser one.
+pub record IsPriced (answers : Option Given → Type 0) (s : Space) (p : Printed) (c : PricedCycle) : Type 0 where
   pub given : Option Given
+  pub gave : answers given
   pub may : IfSome given (MayBeGiven s)
   pub is : IsPricedBy s given p c
   pub bounds : BoundsEveryLawful s p.bound → BoundsEveryLawful s c.priced

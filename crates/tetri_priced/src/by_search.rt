@@ -11,6 +11,10 @@ use tetri_space::{Instance, Partitions};
 pub struct BySearch;
 
 impl Pricer for BySearch {
+    ghost use Rattle.std.specs.Prelude.{IsSome};
+
+    ghost gives = { λ _ _ _ _ prices _. IsSome prices };
+
     fn quote(
         &mut self,
         alloc: Global,

@@ -1,8 +1,9 @@
 // What prices make of the bound of a cycle.
 ghost use Rattle.std.specs.Prelude.{◌≡◌, IfOk, IfSome, min, option_map};
 ghost use Rattle.tetri_claims.specs.Good.{BoundsEveryLawful};
-ghost use Rattle.tetri_priced.specs.Cycle.{IsPriced, IsPricedBy, given};
+ghost use Rattle.tetri_priced.specs.Cycle.{IsPricedBy, given};
 ghost use Rattle.tetri_priced.specs.Quotes.{IsQuoteOf};
+ghost use Rattle.tetri_priced.specs.Run.{IsPricedAs};
 ghost use Rattle.tetri_prices.specs.Capacities.{AreCapacitiesOf};
 ghost use Rattle.tetri_prices.specs.Priced.{listed, priced_bound};
 ghost use Rattle.tetri_prices.specs.Prices.{rows_of};
@@ -119,8 +120,8 @@ pub fn priced_by(
     }
 }
 
-/// What a pricer makes of a cycle of this instance with this number, value and printed bound: where that bound holds,
-/// no lawful allotment is worth more than the lesser one. The only error is want of memory.
+/// What the answer of a pricer makes of a cycle of this instance with this number, value and printed bound: where that
+/// bound holds, no lawful allotment is worth more than the lesser one. The only error is want of memory.
 pub fn price_cycle<P: Pricer>(
     alloc: Global,
     inst: &Instance,
@@ -128,7 +129,7 @@ pub fn price_cycle<P: Pricer>(
     pricer: &mut P,
 ) -> Result<PricedCycle, AllocError>
     requires { IsSound (space inst.now) }
-    ensures { IfOk result (IsPriced (space inst.entry.now) printed) }
+    ensures { IfOk result (λ c. IsPricedAs P.gives pricer.old (space inst.entry.now) printed c pricer.new) }
 {
     let parts = find_partitions(alloc, inst)?;
     let capacities = capacities_of(alloc, inst, &parts)?;

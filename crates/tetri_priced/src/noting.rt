@@ -26,6 +26,7 @@ impl<P: Pricer + Drop> Noting<P> {
     /// Nothing is noted yet.
     pub fn new(alloc: Global, wanted: Wanted, pricer: P) -> Self
         ensures wanted { result.wanted ≡ wanted }
+        ensures pricer { result.pricer ≡ pricer }
         ensures nothing { result.cycles.items ≡ [] }
     {
         Noting {
@@ -45,8 +46,8 @@ impl<P: Pricer + Drop> Noting<P> {
     // Notes a cycle of this instance, where it is asked for.
     fn note(&mut self, alloc: Global, inst: &Instance, printed: Printed) -> Result<(), AllocError>
         requires { IsSound (space inst.now) }
-        ensures { OnOk result (IsNoted (space inst.entry.now) printed
-            self.old.wanted self.new.wanted self.old.cycles.items self.new.cycles.items) }
+        ensures { OnOk result (IsNoted P.gives (space inst.entry.now) printed self.old.wanted self.new.wanted
+            self.old.pricer self.new.pricer self.old.cycles.items self.new.cycles.items) }
     {
         if !self.wanted.has(printed.number) {
             return Ok(());
@@ -61,8 +62,8 @@ impl<P: Pricer + Drop> Observer for Noting<P> {
     ghost use Rattle.tetri_priced.specs.Run.{IsNoted, printed};
     ghost use Rattle.tetri_state.specs.Planning.{instance_at};
 
-    ghost saw = { λ t s b old new. IsNoted (instance_at t s) (printed b)
-        old.wanted new.wanted old.cycles.items new.cycles.items };
+    ghost saw = { λ t s b old new. IsNoted P.gives (instance_at t s) (printed b)
+        old.wanted new.wanted old.pricer new.pricer old.cycles.items new.cycles.items };
 
     fn see(
         &mut self,

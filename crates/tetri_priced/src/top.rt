@@ -83,7 +83,7 @@ pub fn price_report<P: Pricer + Drop, S: Shelf, K: Sink>(
     sink: &mut K,
 ) -> Status
     ensures told { (content lines : List ℕ) → S.told shelf.old trace.now ≡ Some content → S.told shelf.old report.now ≡ Some lines
-        → IsPricedPromised wanted result (scenario_in content) lines (K.written sink.old) (K.written sink.new) }
+        → IsPricedPromised P.gives pricer wanted result (scenario_in content) lines (K.written sink.old) (K.written sink.new) }
     ensures usage { result ≢ Status.Usage }
     ensures bad_trace { TellsBadTrace (S.told shelf.old) (S.faults shelf.old) (S.faults shelf.new) trace.now report.now result }
     ensures silent { result ≢ Status.Done → result ≢ Status.WriteFault → K.written sink.new ≡ K.written sink.old }

@@ -4,4 +4,6 @@ use Rattle.tetri_priced.proofs.cycle.price_cycle.Goals as goal
 
 pub returns : goal.returns
 returns g c =
-    priced_from (space c.args.inst.now) c.args.printed c.in_ok-quote.quote c.priced_by.result c.in_ok-quote.ensures c.priced_by.ensures.told c.priced_by.ensures.bounds
+    let i = space c.args.inst.now in
+    priced_from i c.args.printed (λ q. g.P.Pricer.gives c.args.pricer.now i c.args.printed.value c.args.printed.bound q c.quote.new.self) c.in_ok-quote.quote c.priced_by.result
+    c.in_ok-quote.ensures.gave c.in_ok-quote.ensures.limits c.priced_by.ensures.told c.priced_by.ensures.bounds
