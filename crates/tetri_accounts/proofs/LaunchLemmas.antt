@@ -1,5 +1,5 @@
 -- Which jobs of an instance are launched.
-use Rattle.std.proofs.Common.{◌≡◌, ℕ, ◌==◌, ◌&&◌, ◌||◌, Bool, true, false, cond, List, [], ◌∷◌, ◌++◌, map, filter, refl, sym, ap, ◌∙◌, append_assoc}
+use Rattle.std.proofs.Common.{◌≡◌, ℕ, ◌==◌, ◌&&◌, ◌||◌, Bool, true, false, cond, List, [], ◌∷◌, ◌++◌, map, filter, refl, sym, ap, ◌∙◌}
 use Rattle.std.proofs.lemmas.Bool.{false≢true, or_right}
 use Rattle.tetri_base.specs.Lists.{has, Each}
 use Rattle.tetri_base.proofs.ListLaws.{Each-map, eq_from_test, test_from_eq}
@@ -55,20 +55,18 @@ module _ (q : ℕ → Bool) where
       (Each-map (IsThere bs) (λ b. has (jobs_of (passing bs)) b.job ≡ q b.job)
       (λ x there. has_passing bs x.job ∙ ap (λ c. q x.job && c) there ∙ and_true (q x.job)) bs (each_there bs))
 
--- one more element, of which something is told where it passes a test
-module _ {X Y : Type 0} (p : X → Bool) (f : X → Y) (told : List Y) (x : X) (rest all : List X) (next : all ≡ x ∷ rest) where
-  pub next_told : p x ≡ true → (told ++ f x ∷ []) ++ map f (filter p rest) ≡ told ++ map f (filter p all)
-  next_told passes =
-      append_assoc told (f x ∷ []) (map f (filter p rest))
-      ∙ ap (λ xs. told ++ map f xs) (sym (ap (filter p) next ∙ ap (λ t. cond t (x ∷ filter p rest) (filter p rest)) passes))
-
-  pub next_passed : p x ≡ false → told ++ map f (filter p rest) ≡ told ++ map f (filter p all)
-  next_passed fails = ap (λ xs. told ++ map f xs) (sym (ap (filter p) next ∙ ap (λ t. cond t (x ∷ filter p rest) (filter p rest)) fails))
-
 -- what passes of a first element and of the others
 pub filter_first : {X : Type 0} (p : X → Bool) (x : X) (xs : List X) → filter p (x ∷ []) ++ filter p xs ≡ filter p (x ∷ xs)
 filter_first p x xs = by_test (p x)
   where
     by_test : (b : Bool) → cond b (x ∷ []) [] ++ filter p xs ≡ cond b (x ∷ filter p xs) (filter p xs)
+    by_test true = refl
+    by_test false = refl
+
+-- the same of what is told of it
+pub told_first : {X Y : Type 0} (p : X → Bool) (f : X → Y) (x : X) (xs : List X) → map f (filter p (x ∷ [])) ++ map f (filter p xs) ≡ map f (filter p (x ∷ xs))
+told_first p f x xs = by_test (p x)
+  where
+    by_test : (b : Bool) → map f (cond b (x ∷ []) []) ++ map f (filter p xs) ≡ map f (cond b (x ∷ filter p xs) (filter p xs))
     by_test true = refl
     by_test false = refl

@@ -36,8 +36,8 @@ goes_on Running = true
 goes_on _ = false
 
 -- a launch that ran up to this slot, and what became of it
-abbrev pub closed : ℕ → Outcome → Row → Row
-closed now outcome r = record { job = r.job; outcome = outcome; start = r.start; end = Some now; worth = r.worth; pieces = r.pieces }
+abbrev pub closed_as : ℕ → Outcome → Row → Row
+closed_as now outcome r = record { job = r.job; outcome = outcome; start = r.start; end = Some now; worth = r.worth; pieces = r.pieces }
 
 -- the launches that run on
 abbrev pub staying : Occurrences → ℕ → List Row → List Row
@@ -45,7 +45,7 @@ staying o now rows = filter (λ r. goes_on (outcome_of o now r)) rows
 
 -- those that do not, up to this slot
 abbrev pub leaving : Occurrences → ℕ → List Row → List Row
-leaving o now rows = map (λ r. closed now (outcome_of o now r) r) (filter (λ r. not (goes_on (outcome_of o now r))) rows)
+leaving o now rows = map (λ r. closed_as now (outcome_of o now r) r) (filter (λ r. not (goes_on (outcome_of o now r))) rows)
 
 -- the launch of a job in this slot, by the grants of its cycle and the pieces that these become
 abbrev pub row_of : List Grant → List Piece → ℕ → Bid → Row

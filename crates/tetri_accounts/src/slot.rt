@@ -1,11 +1,13 @@
 // What one cycle adds to a ledger.
 ghost use Rattle.std.specs.Prelude.{◌≡◌, ◌++◌, ◌∷◌, ◌==◌, [], ℕ, if◌then◌else◌, IfOk, OnOk, drop, filter, map};
+ghost use Rattle.std.specs.List.{list_all, list_any};
 ghost use Rattle.std.specs.List.Sorted.{IsNonDecreasing};
 ghost use Rattle.tetri_base.specs.Lists.{has};
-ghost use Rattle.tetri_accounts.specs.Rows.{closed, departing, ended_as, gone_at, goes_on, leaving, outcome_by, row_of, staying};
+ghost use Rattle.tetri_accounts.specs.Rows.{closed_as, departing, ended_as, gone_at, goes_on, is_late, leaving, outcome_by, row_of, staying};
 ghost use Rattle.tetri_space.specs.Sound.{IsSound as IsSoundSpace};
 ghost use Rattle.tetri_space.specs.Space.{bid, space};
-ghost use Rattle.tetri_state.specs.Begin.{occurrences};
+ghost use Rattle.tetri_space.specs.Total.{bid_worth};
+ghost use Rattle.tetri_state.specs.Begin.{has_ended, occurrences};
 ghost use Rattle.tetri_strl.specs.Tree.{tree};
 ghost use Rattle.tetri_strl.specs.WellMade.{IsSound as IsSoundTree};
 
@@ -34,11 +36,25 @@ fn has_job(jobs: &[u32], job: u32) -> bool
     jobs.binary_search(&job).is_ok()
 }
 
+// Whether one of the pieces runs longer than it was expected to.
+fn some_late(pieces: &[Piece]) -> bool
+    ensures { result ≡ list_any is_late pieces.now }
+{
+    pieces.iter().any(|p| p.expected < p.real)
+}
+
+// Whether each of the pieces has ended.
+fn all_ended(pieces: &[Piece], now: u32) -> bool
+    ensures { result ≡ list_all (has_ended now) pieces.now }
+{
+    pieces.iter().all(|p| p.real <= now)
+}
+
 // How pieces end of which each has ended.
 fn ended_as(pieces: &[Piece]) -> Outcome
     ensures { result ≡ ended_as pieces.now }
 {
-    if pieces.iter().any(|p| p.expected < p.real) {
+    if some_late(pieces) {
         Outcome::Overran
     } else {
         Outcome::Ran
@@ -51,7 +67,7 @@ fn outcome_of(row: &Row, now: u32, failed: &[u32], cancelled: &[u32]) -> Outcome
     ensures { result ≡ outcome_by failed.now cancelled.now now row.now.job row.now.pieces }
 {
     let pieces = row.pieces.as_slice();
-    if pieces.iter().all(|p| p.real <= now) {
+    if all_ended(pieces, now) {
         ended_as(pieces)
     } else if has_job(failed, row.job) {
         Outcome::Failed
@@ -79,7 +95,7 @@ fn goes_on(outcome: Outcome) -> bool
 
 // The launch, which ran up to this slot.
 fn close(row: Row, now: u32, outcome: Outcome) -> Row
-    ensures { result ≡ closed now outcome row }
+    ensures { result ≡ closed_as now outcome row }
 {
     Row {
         job: row.job,
@@ -100,7 +116,7 @@ fn place_row(
     left: &mut Vec<Row>,
 ) -> Result<(), AllocError>
     ensures staying { OnOk result (staying.new.items ≡ staying.old.items ++ (if goes_on outcome then row ∷ [] else [])) }
-    ensures left { OnOk result (left.new.items ≡ left.old.items ++ (if goes_on outcome then [] else closed now outcome row ∷ [])) }
+    ensures left { OnOk result (left.new.items ≡ left.old.items ++ (if goes_on outcome then [] else closed_as now outcome row ∷ [])) }
 {
     if goes_on(outcome) {
         staying.push(row)?;
@@ -113,18 +129,18 @@ fn place_row(
 /// The launches that run on in a slot whose beginning is told so. Those that do not are added to the closed ones.
 pub(crate) fn part(
     alloc: Global,
-    open: Vec<Row>,
+    running: Vec<Row>,
     now: u32,
     happened: &Happened,
     left: &mut Vec<Row>,
 ) -> Result<Vec<Row>, AllocError>
-    ensures open { IfOk result (λ v. v.items ≡ staying (occurrences happened.entry.now) now open.items) }
-    ensures left { OnOk result (left.new.items ≡ left.old.items ++ leaving (occurrences happened.entry.now) now open.items) }
+    ensures running { IfOk result (λ v. v.items ≡ staying (occurrences happened.entry.now) now running.items) }
+    ensures left { OnOk result (left.new.items ≡ left.old.items ++ leaving (occurrences happened.entry.now) now running.items) }
 {
     let failed = ascending(alloc, &happened.failed)?;
     let cancelled = ascending(alloc, &happened.cancelled)?;
     let mut staying = Vec::new(alloc);
-    for row in open {
+    for row in running {
         let outcome = outcome_of(&row, now, &failed, &cancelled);
         place_row(row, now, outcome, &mut staying, left)?;
     }
@@ -222,6 +238,16 @@ fn own_grants(alloc: Global, grants: &[Grant], job: u32) -> Result<Vec<Grant>, A
     Ok(own)
 }
 
+// What grants are worth to the job of an offer.
+#[tactic(auto, using(crate::proofs::WorthLemmas::own_worth))]
+fn worth_to(alloc: Global, grants: &[Grant], offer: &Offer) -> Result<u64, AllocError>
+    requires { IsSoundTree (tree offer.now.expr) }
+    ensures { IfOk result (λ w. w ≡ bid_worth grants.now (bid offer.entry.now)) }
+{
+    let own = own_grants(alloc, grants, offer.job)?;
+    Ok(worth_among(&offer.expr, offer.job, own.as_slice()))
+}
+
 // The launch of a job in a slot, by the grants of its cycle and the pieces of the state behind it from this place on.
 fn launch_row(
     alloc: Global,
@@ -234,15 +260,38 @@ fn launch_row(
     requires { IsSoundTree (tree offer.now.expr) }
     ensures { IfOk result (λ r. r ≡ row_of grants.now (drop from state.entry.now.pieces) now (bid offer.entry.now)) }
 {
-    let own = own_grants(alloc, grants, offer.job)?;
+    let worth = worth_to(alloc, grants, offer)?;
+    let pieces = own_pieces(alloc, state, from, offer.job)?;
     Ok(Row {
         job: offer.job,
         outcome: Outcome::Running,
         start: Some(now),
         end: None,
-        worth: worth_among(&offer.expr, offer.job, &own),
-        pieces: own_pieces(alloc, state, from, offer.job)?,
+        worth,
+        pieces,
     })
+}
+
+// Adds the launch of the job of an offer, if it is one of these, which ascend.
+fn add_row(
+    alloc: Global,
+    state: &State,
+    from: usize,
+    now: u32,
+    grants: &[Grant],
+    launched: &[u32],
+    offer: &Offer,
+    running: &mut Vec<Row>,
+) -> Result<(), AllocError>
+    requires sound { IsSoundTree (tree offer.now.expr) }
+    requires rise { IsNonDecreasing launched.now }
+    ensures { OnOk result (running.new.items ≡ running.old.items ++ map (row_of grants.now (drop from state.entry.now.pieces) now)
+        (filter (λ b. has launched.now b.job) (bid offer.entry.now ∷ []))) }
+{
+    if has_job(launched, offer.job) {
+        running.push(launch_row(alloc, state, from, now, grants, offer)?)?;
+    }
+    Ok(())
 }
 
 /// Adds the launches of these jobs, which ascend, in the slot of the instance.
@@ -253,17 +302,17 @@ pub(crate) fn add_rows(
     inst: &Instance,
     grants: &[Grant],
     launched: &[u32],
-    open: &mut Vec<Row>,
+    running: &mut Vec<Row>,
 ) -> Result<(), AllocError>
     requires sound { IsSoundSpace (space inst.now) }
     requires rise { IsNonDecreasing launched.now }
-    ensures { OnOk result (open.new.items ≡ open.old.items ++ map (row_of grants.now (drop from state.entry.now.pieces) inst.entry.now.now)
+    ensures { OnOk result (running.new.items ≡ running.old.items ++ map (row_of grants.now (drop from state.entry.now.pieces) inst.entry.now.now)
         (filter (λ b. has launched.now b.job) (space inst.entry.now).bids)) }
 {
     for offer in &inst.jobs {
-        if has_job(launched, offer.job) {
-            open.push(launch_row(alloc, state, from, inst.now, grants, offer)?)?;
-        }
+        add_row(
+            alloc, state, from, inst.now, grants, launched, offer, running,
+        )?;
     }
     Ok(())
 }

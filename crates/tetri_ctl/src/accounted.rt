@@ -7,7 +7,7 @@ use crate::named::{Shelf, open_report, open_trace};
 use crate::said::end;
 use clap::{Arg, ArgMatches};
 use std::alloc::{AllocError, Global};
-use tetri_accounts::{Account, account};
+use tetri_accounts::{Account, account_report};
 use tetri_figures::Format;
 use tetri_io::{StdSink, send_all};
 use tetri_run::Status;
@@ -49,7 +49,7 @@ pub fn report_account(
     ensures { IfOk result (λ r. IsSound (scenario r.trace)) }
 {
     open_report(rt, shelf, report)?;
-    match account(rt.alloc(), trace, report, shelf) {
+    match account_report(rt.alloc(), trace, report, shelf) {
         Ok((trace, account)) => Ok(Run { trace, account }),
         Err(status) => Err(end(rt, &status, trace, report)),
     }

@@ -2,7 +2,7 @@
 // `jobs FORMAT`, `stats FORMAT BY` or `compare FORMAT`, which has the text, or the words of what refuses the report.
 use std::alloc::{AllocError, Global};
 use std::fmt::Write;
-use tetri_accounts::{Account, account};
+use tetri_accounts::{Account, account_report};
 use tetri_figures::{By, Compared, Format, compare_text, jobs_text, stats_text, tags_of};
 use tetri_io::{MemShelf, MemSink};
 use tetri_run::{Status, conclude};
@@ -88,7 +88,7 @@ fn told(alloc: Global, given: &Given, kind: &str) -> Result<Vec<u8>, AllocError>
     let format = format_of(words.next().unwrap_or(""));
     let by = by_of(words.next().unwrap_or(""));
     let mut shelf = shelf_of(alloc, given)?;
-    let (trace, first) = match account(alloc, "trace", "report", &mut shelf) {
+    let (trace, first) = match account_report(alloc, "trace", "report", &mut shelf) {
         Ok(both) => both,
         Err(status) => return said(alloc, &status),
     };
@@ -99,7 +99,7 @@ fn told(alloc: Global, given: &Given, kind: &str) -> Result<Vec<u8>, AllocError>
             stats_text(alloc, &trace, &first, by, &tags, format)
         }
         _ => {
-            let second = match account(alloc, "trace", "report", &mut shelf) {
+            let second = match account_report(alloc, "trace", "report", &mut shelf) {
                 Ok((_trace, second)) => second,
                 Err(status) => return said(alloc, &status),
             };

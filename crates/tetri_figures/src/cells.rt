@@ -17,8 +17,13 @@ pub(crate) fn number_cell(alloc: Global, number: u128) -> Result<String, AllocEr
 /// Thousandths as a number with three places.
 pub(crate) fn thousandths_cell(alloc: Global, number: u128) -> Result<String, AllocError> {
     let whole = number / 1000;
-    let part = number % 1000;
+    let part = u64::try_from(number % 1000).unwrap_or(0);
     format!(in alloc; "{whole}.{part:03}")
+}
+
+/// A quotient, rounded down, 0 where there is nothing to divide by.
+pub(crate) fn quotient(total: u128, count: u128) -> u128 {
+    if count == 0 { 0 } else { total / count }
 }
 
 /// A mean in thousandths, rounded down; nothing where there is nothing to be counted.
@@ -26,7 +31,7 @@ pub(crate) fn mean_cell(alloc: Global, total: u128, count: u128) -> Result<Strin
     if count == 0 {
         return text_cell(alloc, NOTHING);
     }
-    thousandths_cell(alloc, total.saturating_mul(1000) / count)
+    thousandths_cell(alloc, quotient(total.saturating_mul(1000), count))
 }
 
 /// A number as a cell, or what stands for none.

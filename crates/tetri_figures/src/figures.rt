@@ -1,5 +1,5 @@
 // Figures of rows of an account.
-use crate::cells::{NOTHING, mean_cell, number_cell, text_cell, thousandths_cell};
+use crate::cells::{NOTHING, mean_cell, number_cell, quotient, text_cell, thousandths_cell};
 use std::alloc::{AllocError, Global};
 use tetri_accounts::{Account, Outcome, Row, wait_of};
 use tetri_state::Piece;
@@ -241,9 +241,10 @@ fn add_fared(
     known: Known<'_>,
     cells: &mut Vec<String>,
 ) -> Result<(), AllocError> {
-    let slowdown = match counts.ended {
-        0 => text_cell(alloc, NOTHING)?,
-        ended => thousandths_cell(alloc, counts.slowdowns / u128::from(ended))?,
+    let slowdown = if counts.ended == 0 {
+        text_cell(alloc, NOTHING)?
+    } else {
+        thousandths_cell(alloc, quotient(counts.slowdowns, u128::from(counts.ended)))?
     };
     cells.push(slowdown)?;
     let nodes = match picked.nodes {

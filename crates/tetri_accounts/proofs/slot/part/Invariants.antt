@@ -6,7 +6,7 @@ use Rattle.tetri_accounts.proofs.slot.part.Given as goal
 
 abbrev pub invariant-loop-row : goal.invariant-loop-row
 invariant-loop-row l = record {
-  open : l.staying.items ++ staying (occurrences l.happened) l.now (into_iter_items l.row-iterator)
+  running : l.staying.items ++ staying (occurrences l.happened) l.now (into_iter_items l.row-iterator)
       ≡ staying (occurrences l.happened) l.now (into_iter_items l.initial.row-iterator);
   left : l.left.items ++ leaving (occurrences l.happened) l.now (into_iter_items l.row-iterator)
       ≡ l.initial.left.items ++ leaving (occurrences l.happened) l.now (into_iter_items l.initial.row-iterator);
