@@ -1,5 +1,5 @@
 -- The rows of launches, slot by slot.
-use Rattle.std.specs.Prelude.{ℕ, List, [], ◌∷◌, ◌++◌, ◌==◌, Bool, true, false, not, nat_le, nat_lt, if◌then◌else◌, map, filter, find, flat_map, Option, Some, None}
+use Rattle.std.specs.Prelude.{ℕ, List, [], ◌∷◌, ◌++◌, ◌==◌, Bool, true, false, not, nat_le, nat_lt, if◌then◌else◌, map, filter, find, flat_map, slice_index_or, Option, Some, None}
 use Rattle.std.specs.List.{list_all, list_any, range_with_len}
 use Rattle.tetri_base.specs.Lists.{has}
 use Rattle.tetri_space.specs.Space.{Bid}
@@ -81,3 +81,7 @@ idle_row rows gone job = if has_row rows job then [] else idle_by job (find (λ 
 -- the jobs of which none of these rows is
 abbrev pub idle_rows : ℕ → List Row → List Departure → List Row
 idle_rows jobs rows gone = flat_map (idle_row rows gone) (range_with_len 0 jobs)
+
+-- the same by what is known of each job: whether one of the rows is its own, and its first departure
+abbrev pub idle_at : List Bool → List (Option Departure) → ℕ → List Row
+idle_at have first job = if slice_index_or have job false then [] else idle_by job (slice_index_or first job None) ∷ []

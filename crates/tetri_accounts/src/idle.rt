@@ -1,10 +1,21 @@
 // The jobs without a launch.
-ghost use Rattle.std.specs.Prelude.{◌≡◌, ◌≢◌, ◌++◌, ◌<◌, ◌==◌, [], ℕ, Option, None, false, find, get_or, length, IfOk, OnOk};
-ghost use Rattle.tetri_accounts.specs.Rows.{has_row, idle_by, idle_row, idle_rows};
+ghost use Rattle.std.specs.Prelude.{◌≡◌, ◌++◌, ◌∷◌, ◌<◌, ◌≤◌, ◌==◌, [], ℕ, None, false, find, flat_map, if◌then◌else◌, length, map, slice_index_or, IfOk, IfSome, OnOk};
+ghost use Rattle.std.specs.List.{range_with_len};
+ghost use Rattle.tetri_accounts.specs.Rows.{has_row, idle_at, idle_by, idle_rows};
+ghost use Rattle.tetri_base.specs.Lists.{has};
 
 use crate::row::{Departure, Outcome, Row};
 use std::alloc::{AllocError, Global};
 use tetri_base::Items;
+
+// The place of a job among so many, if it is one of these.
+fn place_in(job: u32, jobs: usize) -> Option<usize>
+    ensures some { IfSome result (λ place. (place ≡ job) × (job < jobs)) }
+    ensures none { result ≡ None → jobs ≤ job }
+{
+    let place = job as usize;
+    if place < jobs { Some(place) } else { None }
+}
 
 // By job, its first departure, if it has one.
 fn first_gone(
@@ -13,35 +24,53 @@ fn first_gone(
     gone: &[Departure],
 ) -> Result<Vec<Option<Departure>>, AllocError>
     ensures len { IfOk result (λ v. length v.items ≡ jobs) }
-    ensures first { IfOk result (λ v. (job : ℕ) → job < jobs → get_or v.items job None ≡ find (λ d. d.job == job) gone.entry.now) }
+    ensures first { IfOk result (λ v. (job : ℕ) → job < jobs → slice_index_or v.items job None ≡ find (λ d. d.job == job) gone.entry.now) }
 {
     let mut first = vec![in alloc; None; jobs]?;
     let mut place = gone.len();
     while place > 0 {
         place -= 1;
         let departure = gone[place];
-        let job = departure.job as usize;
-        if job < jobs {
-            first[job] = Some(departure);
+        match place_in(departure.job, jobs) {
+            Some(job) => first[job] = Some(departure),
+            None => {}
         }
     }
     Ok(first)
 }
 
+// By job, whether it is one of these.
+fn numbers_by_job(alloc: Global, jobs: usize, numbers: &[u32]) -> Result<Vec<bool>, AllocError>
+    ensures len { IfOk result (λ v. length v.items ≡ jobs) }
+    ensures has { IfOk result (λ v. (job : ℕ) → job < jobs → slice_index_or v.items job false ≡ has numbers.entry.now job) }
+{
+    let mut have = vec![in alloc; false; jobs]?;
+    let mut place = numbers.len();
+    while place > 0 {
+        place -= 1;
+        let number = numbers[place];
+        match place_in(number, jobs) {
+            Some(job) => have[job] = true,
+            None => {}
+        }
+    }
+    Ok(have)
+}
+
+// The jobs of rows.
+fn jobs_in(alloc: Global, rows: &[Row]) -> Result<Vec<u32>, AllocError>
+    ensures { IfOk result (λ v. v.items ≡ map (λ r. r.job) rows.now) }
+{
+    rows.iter().map(|r| r.job).collect(alloc)
+}
+
 // By job, whether one of the rows is its own.
 fn rows_by_job(alloc: Global, jobs: usize, rows: &[Row]) -> Result<Vec<bool>, AllocError>
     ensures len { IfOk result (λ v. length v.items ≡ jobs) }
-    ensures has { IfOk result (λ v. (job : ℕ) → job < jobs → get_or v.items job false ≡ has_row rows.entry.now job) }
+    ensures has { IfOk result (λ v. (job : ℕ) → job < jobs → slice_index_or v.items job false ≡ has_row rows.entry.now job) }
 {
-    let mut have = vec![in alloc; false; jobs]?;
-    let mut place = rows.len();
-    while place > 0 {
-        place -= 1;
-        let job = rows[place].job as usize;
-        if job < jobs {
-            have[job] = true;
-        }
-    }
+    let numbers = jobs_in(alloc, rows)?;
+    let have = numbers_by_job(alloc, jobs, &numbers)?;
     Ok(have)
 }
 
@@ -63,6 +92,40 @@ fn idle_by(alloc: Global, job: u32, departure: Option<Departure>) -> Row
     }
 }
 
+// Adds a row for a job that has none.
+fn add_idle_row(
+    alloc: Global,
+    job: u32,
+    has_one: bool,
+    departure: Option<Departure>,
+    rows: &mut Vec<Row>,
+) -> Result<(), AllocError>
+    ensures { OnOk result (rows.new.items ≡ rows.old.items ++ (if has_one then [] else idle_by job departure ∷ [])) }
+{
+    if !has_one {
+        rows.push(idle_by(alloc, job, departure))?;
+    }
+    Ok(())
+}
+
+// Adds a row for each job that has none, by what is known of each.
+fn add_idle_rows(
+    alloc: Global,
+    jobs: u32,
+    have: &[bool],
+    first: &[Option<Departure>],
+    rows: &mut Vec<Row>,
+) -> Result<(), AllocError>
+    requires have { length have.now ≡ jobs }
+    requires first { length first.now ≡ jobs }
+    ensures { OnOk result (rows.new.items ≡ rows.old.items ++ flat_map (idle_at have.now first.now) (range_with_len 0 jobs)) }
+{
+    for job in 0..jobs {
+        add_idle_row(alloc, job, have[job as usize], first[job as usize], rows)?;
+    }
+    Ok(())
+}
+
 /// Adds a row for each of the first so many jobs of which none of the rows is.
 pub(crate) fn add_idle(
     alloc: Global,
@@ -74,10 +137,6 @@ pub(crate) fn add_idle(
 {
     let first = first_gone(alloc, jobs as usize, gone)?;
     let have = rows_by_job(alloc, jobs as usize, rows)?;
-    for job in 0..jobs {
-        if !have[job as usize] {
-            rows.push(idle_by(alloc, job, first[job as usize]))?;
-        }
-    }
+    add_idle_rows(alloc, jobs, &have, &first, rows)?;
     Ok(())
 }
