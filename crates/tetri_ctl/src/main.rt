@@ -2,17 +2,21 @@
 //! output, and says on standard error what is wrong with which of them.
 #![tactic(auto)]
 
+mod accounted;
 mod asked;
 mod bound;
 mod chart;
 mod check;
+mod compare;
 mod export;
 mod import;
 mod lint;
+mod jobs;
 mod named;
 mod plan;
 mod refusals;
 mod said;
+mod stats;
 
 use clap::error::ErrorKind;
 use clap::{ArgMatches, Command, Error};
@@ -43,6 +47,9 @@ fn command<'a>(alloc: Global) -> Result<Command<'a>, AllocError> {
         .subcommand(check::command(alloc)?)?
         .subcommand(import::command(alloc)?)?
         .subcommand(chart::command(alloc)?)?
+        .subcommand(jobs::command(alloc)?)?
+        .subcommand(stats::command(alloc)?)?
+        .subcommand(compare::command(alloc)?)?
         .subcommand(bound::command(alloc)?)?
         .subcommand(export::command(alloc)?)?
         .subcommand(lint::command(alloc)?)
@@ -69,6 +76,9 @@ fn run(rt: &HostRuntime, matches: &ArgMatches<'_>) -> u8 {
         Some(("check", inner)) => check::run(rt, inner),
         Some(("import", inner)) => import::run(rt, inner),
         Some(("chart", inner)) => chart::run(rt, inner),
+        Some(("jobs", inner)) => jobs::run(rt, inner),
+        Some(("stats", inner)) => stats::run(rt, inner),
+        Some(("compare", inner)) => compare::run(rt, inner),
         Some(("bound", inner)) => bound::run(rt, inner),
         Some(("export", inner)) => export::run(rt, inner),
         Some(("lint", inner)) => lint::run(rt, inner),

@@ -95,3 +95,8 @@ pub fn end(rt: &HostRuntime, status: &Status, trace: &str, report: &str) -> u8 {
     let mut errors = StdSink::new(rt.stderr());
     conclude(rt.alloc(), status, &mut errors)
 }
+
+/// Says that there is no memory, and gives the exit number.
+pub fn no_memory(rt: &HostRuntime) -> u8 {
+    end(rt, &Status::NoMemory, "", "")
+}

@@ -6,6 +6,7 @@ mod policies;
 mod lint;
 mod swift;
 mod prices;
+mod accounts;
 
 use std::{env, fs, io};
 use tetri_tables::Tally;
@@ -18,6 +19,8 @@ fn judge(rt: &HostRuntime, name: &str, text: &str) -> io::Result<Option<Tally>> 
         "lint" => Ok(Some(lint::judge(rt.alloc(), text)?)),
         "swift" => Ok(Some(swift::judge(rt.alloc(), text)?)),
         "prices" => Ok(Some(prices::judge(rt.alloc(), text)?)),
+        "accounts" => Ok(Some(accounts::judge(rt.alloc(), text)?)),
+        "none" => Ok(Some(Tally::new(rt.alloc()))),
         _ => Ok(None),
     }
 }
