@@ -9,7 +9,9 @@ mod check;
 mod export;
 mod import;
 mod named;
+mod orders;
 mod plan;
+mod queue;
 mod said;
 
 use clap::error::ErrorKind;
@@ -29,7 +31,9 @@ fn words<R: env::Env + AllocGlobal>(rt: &R) -> io::Result<Vec<String>> {
 fn command<'a>(alloc: Global) -> Result<Command<'a>, AllocError> {
     Command::new(alloc, "tetri_ctl")
         .bin_name("tetri_ctl")?
-        .about("What people use around tetri: plans, checks, imports, pictures, bounds, exports")
+        .about(
+            "What people use around tetri: plans, checks, imports, pictures, bounds, exports, queues",
+        )
         .version(VERSION)
         .propagate_version(true)
         .subcommand_required(true)
@@ -40,7 +44,9 @@ fn command<'a>(alloc: Global) -> Result<Command<'a>, AllocError> {
         .subcommand(import::command(alloc)?)?
         .subcommand(chart::command(alloc)?)?
         .subcommand(bound::command(alloc)?)?
-        .subcommand(export::command(alloc)?)
+        .subcommand(export::command(alloc)?)?
+        .subcommand(queue::command(alloc)?)?
+        .subcommand(orders::command(alloc)?)
 }
 
 // What the words are read as. Standard input is named once at most.
@@ -66,6 +72,8 @@ fn run(rt: &HostRuntime, matches: &ArgMatches<'_>) -> u8 {
         Some(("chart", inner)) => chart::run(rt, inner),
         Some(("bound", inner)) => bound::run(rt, inner),
         Some(("export", inner)) => export::run(rt, inner),
+        Some(("queue", inner)) => queue::run(rt, inner),
+        Some(("orders", inner)) => orders::run(rt, inner),
         _ => USAGE,
     }
 }

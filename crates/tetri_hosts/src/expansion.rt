@@ -87,7 +87,7 @@ fn joined(alloc: Global, fronts: &[Word], backs: &[Word]) -> Result<Words, Alloc
 fn add_zeros(text: &mut String, count: usize) -> Result<(), AllocError>
     ensures { OnOk result (string_bytes text.new ≡ string_bytes text.old ++ zeros count) }
 {
-    for _ in 0..count {
+    for _done in 0..count {
         text.push_str("0")?;
     }
     Ok(())

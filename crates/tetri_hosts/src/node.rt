@@ -107,7 +107,8 @@ fn tags_of(alloc: Global, partition: Name, features: &[u8]) -> Result<NameList, 
 {
     let mut tags = Items::new(alloc);
     tags.push(partition)?;
-    for feature in features.split(|b| *b == b',') {
+    let features = parts_at(alloc, b',', features)?;
+    for feature in &features {
         add_feature(alloc, &mut tags, feature)?;
     }
     Ok(tags)

@@ -3,6 +3,7 @@ ghost use Rattle.std.specs.Prelude.{◌≡◌, ◌<◌, IfOk, OnOk, length};
 ghost use Rattle.std.specs.Prelude.{false};
 ghost use Rattle.tetri_cluster.specs.Cluster.{names_of};
 ghost use Rattle.tetri_cluster.specs.Names.{is_among};
+ghost use Rattle.tetri_io.specs.Words.{parts_at};
 ghost use Rattle.tetri_hosts.specs.Nodes.{no_nodes, nodes_in, told, with_fate, with_line, with_merged, with_new, with_tags, with_told};
 
 use crate::node::{NodeLine, add_tag, read_node_line};
@@ -137,10 +138,12 @@ impl Gathered {
 
 /// The nodes that the lines of a text tell of, as `sinfo -a -h -N -o '%N|%T|%P|%f'` prints them. Its only error is want of memory.
 pub fn read_nodes(alloc: Global, text: &[u8]) -> Result<Nodes, AllocError>
-    ensures { IfOk result (λ nodes. told nodes ≡ nodes_in text.now) }
+    ensures told { IfOk result (λ nodes. told nodes ≡ nodes_in text.now) }
+    ensures lines { IfOk result (λ nodes. length nodes.fates.items ≡ length (parts_at 10 text.now)) }
 {
     let mut gathered = Gathered::new(alloc);
-    for line in parts_at(alloc, b'\n', text)? {
+    let lines = parts_at(alloc, b'\n', text)?;
+    for line in &lines {
         gathered.add_line(alloc, line)?;
     }
     let Gathered {

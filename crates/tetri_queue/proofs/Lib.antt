@@ -1,0 +1,2 @@
+mod FromLemmas
+mod SameLemmas

@@ -1,0 +1,171 @@
+// From a queue to the trace of one cycle.
+ghost use Rattle.std.specs.Prelude.{◌≡◌, ◌+◌, IfOk, OnOk, length};
+ghost use Rattle.tetri_base.specs.Lists.{count};
+ghost use Rattle.tetri_io.specs.Words.{parts_at};
+ghost use Rattle.tetri_queue.specs.Queues.{IsQueue, is_taken};
+
+use crate::asked::{Asked, AskedFault};
+use crate::cause::{Fate, ReservationFate};
+use crate::confirming::is_read_as;
+use crate::gathering::{Cycle, Gathered, Gathering};
+use crate::text::{nodes_text, trace_text};
+use std::alloc::{AllocError, Global};
+use tetri_cluster::{Cluster, ClusterFault};
+use tetri_hosts::{NodeFate, NodeState, read_nodes};
+use tetri_io::parts_at;
+
+/// Why a queue does not become a trace.
+#[derive(Clone, Copy, Debug, PartialEq, Eq)]
+pub enum QueueFault {
+    /// What is asked for cannot be.
+    Asked(AskedFault),
+    /// There is no node, or there are more than 4,096.
+    Nodes,
+    /// The trace that was made is not read as it should be.
+    Unlike,
+    NoMemory,
+}
+
+impl From<AllocError> for QueueFault {
+    ghost use Rattle.std.specs.Prelude.{◌≡◌};
+    ghost use Rattle.tetri_queue.specs.declared.queueing.QueueFault.TheVariants as fault;
+
+    ghost from_gives = { λ _ e. e ≡ fault.NoMemory };
+
+    fn from(_: AllocError) -> Self {
+        QueueFault::NoMemory
+    }
+}
+
+/// A trace that was made of a queue.
+#[derive(Drop)]
+pub struct Queue {
+    pub trace: String,
+    /// What the trace says.
+    pub cycle: Cycle,
+    /// What becomes of each line of the queue, and of what stands behind its last line feed.
+    pub fates: Vec<Fate>,
+    /// The same of each line that tells of a node.
+    pub nodes: Vec<NodeFate>,
+    /// The same of each line that tells of a reservation.
+    pub reservations: Vec<ReservationFate>,
+    /// How many nodes are drained since there are more closures than a trace may have.
+    pub crowded: usize,
+}
+
+/// The lines that a queue is made of: its jobs, its nodes, and its reservations, empty where none are told.
+#[derive(Clone, Copy)]
+pub struct Lines<'a> {
+    pub jobs: &'a [u8],
+    pub nodes: &'a [u8],
+    pub reservations: &'a [u8],
+}
+
+// What becomes of the lines of a queue.
+fn add_lines(
+    alloc: Global,
+    gathering: &mut Gathering<'_>,
+    text: &[u8],
+) -> Result<Vec<Fate>, AllocError>
+    ensures lines { IfOk result (λ fates. length fates.items ≡ length (parts_at 10 text.now)) }
+    ensures taken { IfOk result (λ fates. length gathering.new.jobs.items ≡ length gathering.old.jobs.items + count is_taken fates.items) }
+{
+    let lines = parts_at(alloc, b'\n', text)?;
+    let mut fates = Vec::new(alloc);
+    for line in &lines {
+        fates.push(gathering.add_line(alloc, line)?)?;
+    }
+    Ok(fates)
+}
+
+// What becomes of the lines that tell of reservations.
+fn add_reservations(
+    alloc: Global,
+    gathering: &mut Gathering<'_>,
+    text: &[u8],
+) -> Result<Vec<ReservationFate>, AllocError>
+    ensures lines { IfOk result (λ fates. length fates.items ≡ length (parts_at 10 text.now)) }
+    ensures same { OnOk result (gathering.new.jobs.items ≡ gathering.old.jobs.items) }
+{
+    let lines = parts_at(alloc, b'\n', text)?;
+    let mut fates = Vec::new(alloc);
+    for line in &lines {
+        fates.push(gathering.add_reservation(alloc, line)?)?;
+    }
+    Ok(fates)
+}
+
+// What is gathered, and what becomes of each line.
+#[derive(Drop)]
+struct Whole {
+    gathered: Gathered,
+    fates: Vec<Fate>,
+    reservations: Vec<ReservationFate>,
+}
+
+// What is gathered of all lines, on these nodes in these states.
+fn gather(
+    alloc: Global,
+    asked: &Asked,
+    cluster: &Cluster,
+    states: &[NodeState],
+    lines: Lines<'_>,
+) -> Result<Whole, AllocError>
+    ensures lines { IfOk result (λ w. length w.fates.items ≡ length (parts_at 10 lines.jobs.now)) }
+    ensures taken { IfOk result (λ w. count is_taken w.fates.items ≡ length w.gathered.jobs.items) }
+    ensures reservations { IfOk result (λ w. length w.reservations.items ≡ length (parts_at 10 lines.reservations.now)) }
+{
+    let mut gathering = Gathering::new(alloc, asked, cluster, states)?;
+    let fates = add_lines(alloc, &mut gathering, lines.jobs)?;
+    let reservations = add_reservations(alloc, &mut gathering, lines.reservations)?;
+    let gathered = gathering.finish(alloc)?;
+    Ok(Whole {
+        gathered,
+        fates,
+        reservations,
+    })
+}
+
+fn cluster_of(alloc: Global, nodes: Vec<tetri_cluster::NodeText>) -> Result<Cluster, QueueFault> {
+    match Cluster::build(alloc, nodes) {
+        Ok(cluster) if cluster.count() != 0 => Ok(cluster),
+        Err(ClusterFault::NoMemory) => Err(QueueFault::NoMemory),
+        Ok(_) | Err(ClusterFault::TooManyNodes(_) | ClusterFault::NameTaken(_)) => {
+            Err(QueueFault::Nodes)
+        }
+    }
+}
+
+/// The trace of one cycle of a queue, and what becomes of each line. The trace is read back before it is handed out, and `Unlike` says that it
+/// is not read as it should be.
+pub fn queue_trace(alloc: Global, asked: &Asked, lines: Lines<'_>) -> Result<Queue, QueueFault>
+    ensures { IfOk result (IsQueue lines.jobs.now lines.nodes.now lines.reservations.now) }
+{
+    if let Some(fault) = asked.fault(!lines.reservations.is_empty()) {
+        return Err(QueueFault::Asked(fault));
+    }
+    let told = read_nodes(alloc, lines.nodes)?;
+    let nodes = nodes_text(alloc, &told.nodes)?;
+    let cluster = cluster_of(alloc, told.nodes)?;
+    let whole = gather(alloc, asked, &cluster, &told.states, lines)?;
+    let cycle = Cycle {
+        window: asked.window,
+        budget: asked.budget,
+        cluster,
+        closures: whole.gathered.closures,
+        jobs: whole.gathered.jobs,
+        events: whole.gathered.events,
+    };
+    let trace = trace_text(alloc, &cycle, &nodes)?;
+    if !is_read_as(alloc, &cycle, &trace)? {
+        return Err(QueueFault::Unlike);
+    }
+    Ok(Queue {
+        trace,
+        cycle,
+        fates: whole.fates,
+        nodes: told.fates,
+        reservations: whole.reservations,
+        crowded: whole.gathered.crowded,
+    })
+}
