@@ -1,7 +1,7 @@
 // `tetri_ctl orders TRACE REPORT`
 use crate::named::{Shelf, open_report, open_trace, report_word, trace_word};
 use crate::said::{NO_MEMORY, REFUSED, WRITE_FAULT, complain, end};
-use clap::{Arg, ArgMatches, Command};
+use clap::{Arg, ArgAction, ArgMatches, Command};
 use std::alloc::{AllocError, Global};
 use tetri_io::{StdSink, send_all};
 use tetri_queue::{Launches, OrderFault, OrderForm, orders_text};
@@ -19,8 +19,7 @@ pub fn command<'a>(alloc: Global) -> Result<Command<'a>, AllocError> {
         .arg(
             Arg::new(alloc, "slurm")
                 .long("slurm")
-                .action(clap::ArgAction::SetTrue)
-                .conflicts_with(["format"].as_slice())
+                .action(ArgAction::SetTrue)
                 .help("as commands of Slurm, a line a job"),
         )?
         .arg(

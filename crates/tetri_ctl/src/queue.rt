@@ -2,7 +2,7 @@
 use crate::said::{
     BAD_INPUT, NO_MEMORY, READ_FAULT, REFUSED, USAGE, WRITE_FAULT, complain, unread,
 };
-use clap::{Arg, ArgMatches, Command, value_parser};
+use clap::{Arg, ArgAction, ArgMatches, Command, value_parser};
 use std::alloc::{AllocError, Global};
 use std::fs;
 use tetri_io::{StdSink, parts_at, send_all};
@@ -72,7 +72,7 @@ fn with_jobs<'a>(alloc: Global, command: Command<'a>) -> Result<Command<'a>, All
         .arg(
             Arg::new(alloc, "whole")
                 .long("whole")
-                .action(clap::ArgAction::SetTrue)
+                .action(ArgAction::SetTrue)
                 .help("each job is given whole nodes, whatever its line says of sharing"),
         )
 }
