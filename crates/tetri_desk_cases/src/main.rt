@@ -2,15 +2,17 @@
 //! there were. A table is named after what it tries, up to the first `-` or `.` of its name.
 #![tactic(auto)]
 
+mod queue;
+
 use std::{env, fs, io};
 use tetri_tables::Tally;
 
 // Judges the cases of a table. None where nothing is tried by such a name.
 fn judge(rt: &HostRuntime, name: &str, text: &str) -> io::Result<Option<Tally>> {
-    let _text = text;
     let kind = name.split(['-', '.']).next().unwrap_or("");
     match kind {
         "none" => Ok(Some(Tally::new(rt.alloc()))),
+        "queue" => Ok(Some(queue::judge(rt.alloc(), text)?)),
         _ => Ok(None),
     }
 }

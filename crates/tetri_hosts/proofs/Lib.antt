@@ -1,1 +1,1 @@
-mod FoldLemmas
+mod NodeLemmas

@@ -87,13 +87,15 @@ fn joined(alloc: Global, fronts: &[Word], backs: &[Word]) -> Result<Words, Alloc
 fn add_zeros(text: &mut String, count: usize) -> Result<(), AllocError>
     ensures { OnOk result (string_bytes text.new ≡ string_bytes text.old ++ zeros count) }
 {
-    for _done in 0..count {
+    for done in 0..count {
+        let _written = done;
         text.push_str("0")?;
     }
     Ok(())
 }
 
 // A number in so many digits, or in more.
+#[tactic(auto, unfolding(crate::specs::Expanding::padded))]
 fn padded(alloc: Global, width: usize, number: u64) -> Result<Word, AllocError>
     ensures { IfOk result (λ word. word ≡ padded width number) }
 {

@@ -78,15 +78,21 @@ impl Gathered {
         }
     }
 
-    // A node that no earlier line tells of.
-    fn add_new(&mut self, line: NodeLine) -> Result<(), AllocError>
+    // A node that no earlier line tells of. Without memory nothing is kept.
+    fn add_new(&mut self, alloc: Global, line: NodeLine) -> Result<(), AllocError>
         requires { is_among line.name (names_of self.old.nodes) ≡ false }
         ensures { OnOk result (self.new ≡ with_new self.old line) }
     {
         let NodeLine { name, state, tags } = line;
         self.names.add(name.bytes())?;
-        self.nodes.push(NodeText { name, tags })?;
-        self.states.push(state)?;
+        let room = self.nodes.push(NodeText { name, tags }).is_ok()
+            && self.states.push(state).is_ok();
+        if !room {
+            self.names = NameTable::new(alloc);
+            self.nodes = Vec::new(alloc);
+            self.states = Vec::new(alloc);
+            return Err(AllocError);
+        }
         Ok(())
     }
 
@@ -107,7 +113,7 @@ impl Gathered {
     {
         match self.names.number(line.name.bytes()) {
             Some(place) => self.merge(alloc, place, &line),
-            None => self.add_new(line),
+            None => self.add_new(alloc, line),
         }
     }
 
@@ -136,10 +142,9 @@ impl Gathered {
     }
 }
 
-/// The nodes that the lines of a text tell of, as `sinfo -a -h -N -o '%N|%T|%P|%f'` prints them. Its only error is want of memory.
-pub fn read_nodes(alloc: Global, text: &[u8]) -> Result<Nodes, AllocError>
-    ensures told { IfOk result (λ nodes. told nodes ≡ nodes_in text.now) }
-    ensures lines { IfOk result (λ nodes. length nodes.fates.items ≡ length (parts_at 10 text.now)) }
+// The nodes that the lines of a text tell of.
+fn gather_nodes(alloc: Global, text: &[u8]) -> Result<Nodes, AllocError>
+    ensures { IfOk result (λ nodes. told nodes ≡ nodes_in text.now) }
 {
     let mut gathered = Gathered::new(alloc);
     let lines = parts_at(alloc, b'\n', text)?;
@@ -157,4 +162,13 @@ pub fn read_nodes(alloc: Global, text: &[u8]) -> Result<Nodes, AllocError>
         states,
         fates,
     })
+}
+
+/// The nodes that the lines of a text tell of, as `sinfo -a -h -N -o '%N|%T|%P|%f'` prints them. Its only error is want of memory.
+pub fn read_nodes(alloc: Global, text: &[u8]) -> Result<Nodes, AllocError>
+    ensures told { IfOk result (λ nodes. told nodes ≡ nodes_in text.now) }
+    ensures lines { IfOk result (λ nodes. length nodes.fates.items ≡ length (parts_at 10 text.now)) }
+{
+    let nodes = gather_nodes(alloc, text)?;
+    Ok(nodes)
 }
