@@ -9,8 +9,7 @@ use tetri_io::{StdSink, parts_at, send_all};
 use tetri_logs::seconds_in;
 use tetri_pipes::{Unread, read_whole};
 use tetri_queue::{
-    Asked, Fate, Lines, Queue, QueueFault, QueueWorth, counts_text, fate_word, fault_text,
-    queue_trace,
+    Asked, Fate, Queue, QueueFault, QueueWorth, counts_text, fate_word, fault_text, queue_trace,
 };
 use tetri_request::Class;
 
@@ -212,12 +211,7 @@ fn run_asked(rt: &HostRuntime, asked: &Asked, words: &ArgMatches<'_>) -> Result<
     let jobs = read(rt, words.get_str("jobs"))?;
     let nodes = read(rt, words.get_str("nodes"))?;
     let reservations = read(rt, words.get_str("reservations"))?;
-    let lines = Lines {
-        jobs: &jobs,
-        nodes: &nodes,
-        reservations: &reservations,
-    };
-    match queue_trace(rt.alloc(), asked, lines) {
+    match queue_trace(rt.alloc(), asked, &jobs, &nodes, &reservations) {
         Ok(queue) => match write_out(rt, &jobs, words.get_str("rejects"), &queue) {
             Ok(number) => Ok(number),
             Err(AllocError) => Err(refuse(rt, QueueFault::NoMemory)),

@@ -3,8 +3,7 @@ use std::alloc::{AllocError, Global};
 use tetri_hosts::{HostsFault, expand};
 use tetri_io::MemShelf;
 use tetri_queue::{
-    Asked, Launches, Lines, OrderForm, QueueWorth, counts_text, fault_text, orders_text,
-    queue_trace,
+    Asked, Launches, OrderForm, QueueWorth, counts_text, fault_text, orders_text, queue_trace,
 };
 use tetri_request::Class;
 use tetri_run::check_seen;
@@ -62,12 +61,14 @@ fn asked_of(words: &str) -> Asked {
 
 // The trace of a queue with the counts behind it, or why there is none.
 fn told(alloc: Global, texts: &Texts, words: &str) -> Result<String, AllocError> {
-    let lines = Lines {
-        jobs: &texts.jobs,
-        nodes: &texts.nodes,
-        reservations: &texts.reservations,
-    };
-    match queue_trace(alloc, &asked_of(words), lines) {
+    let asked = asked_of(words);
+    match queue_trace(
+        alloc,
+        &asked,
+        &texts.jobs,
+        &texts.nodes,
+        &texts.reservations,
+    ) {
         Ok(queue) => {
             let mut text = String::from_str(alloc, queue.trace.as_str())?;
             let counts = counts_text(alloc, &queue)?;

@@ -49,9 +49,8 @@ pub struct Cycle {
 
 /// What is gathered so far.
 #[derive(Drop)]
-pub(crate) struct Gathering<'a> {
-    asked: &'a Asked,
-    cluster: &'a Cluster,
+pub(crate) struct Gathering {
+    asked: Asked,
     // For each node in how many slots from slot 0 on it is closed, and whether it takes no jobs.
     closed: Vec<u32>,
     shut: Vec<bool>,
@@ -95,14 +94,13 @@ fn worth_of(asked: &Asked, job: &Waiting<'_>, slots: u32) -> u64 {
         .saturating_mul(times)
 }
 
-impl<'a> Gathering<'a> {
+impl Gathering {
     /// Nothing but the nodes, which have these states.
     pub(crate) fn new(
         alloc: Global,
-        asked: &'a Asked,
-        cluster: &'a Cluster,
+        asked: Asked,
         states: &[NodeState],
-    ) -> Result<Gathering<'a>, AllocError> {
+    ) -> Result<Gathering, AllocError> {
         let mut closed = Vec::new(alloc);
         let mut shut = Vec::new(alloc);
         for state in states {
@@ -111,7 +109,6 @@ impl<'a> Gathering<'a> {
         }
         Ok(Gathering {
             asked,
-            cluster,
             closed,
             shut,
             later: Vec::new(alloc),
@@ -132,12 +129,18 @@ impl<'a> Gathering<'a> {
     }
 
     // Closes hosts for so many seconds. False where this is no list of hosts.
-    fn close_hosts(&mut self, alloc: Global, hosts: &[u8], seconds: u64) -> Result<bool, AllocError>
+    fn close_hosts(
+        &mut self,
+        alloc: Global,
+        cluster: &Cluster,
+        hosts: &[u8],
+        seconds: u64,
+    ) -> Result<bool, AllocError>
         ensures { OnOk result (self.new.jobs.items ≡ self.old.jobs.items) }
     {
         let slots = slots_of(seconds, self.asked.slot);
         let mut marked = vec![in alloc; false; self.closed.len()]?;
-        if !mark_hosts(alloc, self.cluster, hosts, &mut marked)? {
+        if !mark_hosts(alloc, cluster, hosts, &mut marked)? {
             return Ok(false);
         }
         for node in 0..marked.len() {
@@ -152,6 +155,7 @@ impl<'a> Gathering<'a> {
     fn shape_number(
         &mut self,
         alloc: Global,
+        cluster: &Cluster,
         job: &Waiting<'_>,
     ) -> Result<Option<usize>, AllocError>
         ensures { OnOk result (self.new.jobs.items ≡ self.old.jobs.items) }
@@ -163,7 +167,7 @@ impl<'a> Gathering<'a> {
         if MOST_SETS <= self.shapes.len() {
             return Ok(None);
         }
-        let shape = shape_of(alloc, self.cluster, job.kind)?;
+        let shape = shape_of(alloc, cluster, job.kind)?;
         let number = self.shapes.len();
         self.shapes.push(shape)?;
         self.keys.add(&key)?;
@@ -171,10 +175,15 @@ impl<'a> Gathering<'a> {
     }
 
     // What becomes of a job that waits for an order.
-    fn take(&mut self, alloc: Global, job: Waiting<'_>) -> Result<Fate, AllocError>
+    fn take(
+        &mut self,
+        alloc: Global,
+        cluster: &Cluster,
+        job: Waiting<'_>,
+    ) -> Result<Fate, AllocError>
         ensures { IfOk result (λ fate. length self.new.jobs.items ≡ length self.old.jobs.items + bit (is_taken fate)) }
     {
-        let number = match self.shape_number(alloc, &job)? {
+        let number = match self.shape_number(alloc, cluster, &job)? {
             Some(number) if number < self.shapes.len() => number,
             _ => return Ok(Fate::Left(Cause::Beyond)),
         };
@@ -191,7 +200,7 @@ impl<'a> Gathering<'a> {
         if !self.names.add(job.name.bytes())? {
             return Ok(Fate::Left(Cause::Repeated));
         }
-        let ask = ask_of(self.asked, &job);
+        let ask = ask_of(&self.asked, &job);
         let nodes = NodeSet::of_slice(alloc, nodes)?;
         let set = String::from_str(alloc, set)?;
         self.jobs.push(TakenJob {
@@ -204,13 +213,18 @@ impl<'a> Gathering<'a> {
     }
 
     // What becomes of what a line says.
-    fn fate_of(&mut self, alloc: Global, said: Said<'_>) -> Result<Fate, AllocError>
+    fn fate_of(
+        &mut self,
+        alloc: Global,
+        cluster: &Cluster,
+        said: Said<'_>,
+    ) -> Result<Fate, AllocError>
         ensures { IfOk result (λ fate. length self.new.jobs.items ≡ length self.old.jobs.items + bit (is_taken fate)) }
     {
         match said {
-            Said::Asks(job) => self.take(alloc, job),
+            Said::Asks(job) => self.take(alloc, cluster, job),
             Said::Holds(hosts, seconds, runs) => {
-                if !self.close_hosts(alloc, hosts, seconds)? {
+                if !self.close_hosts(alloc, cluster, hosts, seconds)? {
                     return Ok(Fate::Left(Cause::Unreadable));
                 }
                 Ok(if runs { Fate::Running } else { Fate::Released })
@@ -220,7 +234,12 @@ impl<'a> Gathering<'a> {
     }
 
     /// What becomes of one line of the queue more.
-    pub(crate) fn add_line(&mut self, alloc: Global, line: &[u8]) -> Result<Fate, AllocError>
+    pub(crate) fn add_line(
+        &mut self,
+        alloc: Global,
+        cluster: &Cluster,
+        line: &[u8],
+    ) -> Result<Fate, AllocError>
         ensures { IfOk result (λ fate. length self.new.jobs.items ≡ length self.old.jobs.items + bit (is_taken fate)) }
     {
         if line.is_empty() {
@@ -228,15 +247,20 @@ impl<'a> Gathering<'a> {
         }
         let columns = columns_of(alloc, line)?;
         let said = said_of(alloc, &columns, self.asked.whole)?;
-        self.fate_of(alloc, said)
+        self.fate_of(alloc, cluster, said)
     }
 
     // Closes hosts in these slots. False where this is no list of hosts.
-    fn close_later(&mut self, alloc: Global, reserved: &Reserved<'_>) -> Result<bool, AllocError>
+    fn close_later(
+        &mut self,
+        alloc: Global,
+        cluster: &Cluster,
+        reserved: &Reserved<'_>,
+    ) -> Result<bool, AllocError>
         ensures { OnOk result (self.new.jobs.items ≡ self.old.jobs.items) }
     {
         let mut marked = vec![in alloc; false; self.closed.len()]?;
-        if !mark_hosts(alloc, self.cluster, reserved.hosts, &mut marked)? {
+        if !mark_hosts(alloc, cluster, reserved.hosts, &mut marked)? {
             return Ok(false);
         }
         for node in 0..marked.len() {
@@ -259,13 +283,14 @@ impl<'a> Gathering<'a> {
     pub(crate) fn add_reservation(
         &mut self,
         alloc: Global,
+        cluster: &Cluster,
         line: &[u8],
     ) -> Result<ReservationFate, AllocError>
         ensures { OnOk result (self.new.jobs.items ≡ self.old.jobs.items) }
     {
-        match reserved_of(alloc, line, self.asked)? {
+        match reserved_of(alloc, line, &self.asked)? {
             Ok(reserved) => {
-                if self.close_later(alloc, &reserved)? {
+                if self.close_later(alloc, cluster, &reserved)? {
                     Ok(ReservationFate::Closed)
                 } else {
                     Ok(ReservationFate::Unread)
@@ -286,7 +311,6 @@ impl<'a> Gathering<'a> {
             later,
             jobs,
             asked: _,
-            cluster: _,
             keys: _,
             shapes: _,
             names: _,

@@ -19,5 +19,5 @@ pub use asked::{Asked, AskedFault, QueueWorth};
 pub use cause::{Cause, Fate, ReservationFate};
 pub use gathering::{Cycle, TakenJob};
 pub use ordering::{Launch, Launches, OrderFault, OrderForm, orders_text};
-pub use queueing::{Lines, Queue, QueueFault, queue_trace};
+pub use queueing::{Queue, QueueFault, queue_trace};
 pub use telling::{counts_text, fate_word, fault_text};

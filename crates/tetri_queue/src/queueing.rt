@@ -10,7 +10,7 @@ use crate::confirming::is_read_as;
 use crate::gathering::{Cycle, Gathered, Gathering};
 use crate::text::{nodes_text, trace_text};
 use std::alloc::{AllocError, Global};
-use tetri_cluster::{Cluster, ClusterFault};
+use tetri_cluster::{Cluster, ClusterFault, NodeText};
 use tetri_hosts::{NodeFate, NodeState, read_nodes};
 use tetri_io::parts_at;
 
@@ -53,18 +53,11 @@ pub struct Queue {
     pub crowded: usize,
 }
 
-/// The lines that a queue is made of: its jobs, its nodes, and its reservations, empty where none are told.
-#[derive(Clone, Copy)]
-pub struct Lines<'a> {
-    pub jobs: &'a [u8],
-    pub nodes: &'a [u8],
-    pub reservations: &'a [u8],
-}
-
 // What becomes of the lines of a queue.
 fn add_lines(
     alloc: Global,
-    gathering: &mut Gathering<'_>,
+    cluster: &Cluster,
+    gathering: &mut Gathering,
     text: &[u8],
 ) -> Result<Vec<Fate>, AllocError>
     ensures lines { IfOk result (λ fates. length fates.items ≡ length (parts_at 10 text.now)) }
@@ -73,7 +66,7 @@ fn add_lines(
     let lines = parts_at(alloc, b'\n', text)?;
     let mut fates = Vec::new(alloc);
     for line in &lines {
-        fates.push(gathering.add_line(alloc, line)?)?;
+        fates.push(gathering.add_line(alloc, cluster, line)?)?;
     }
     Ok(fates)
 }
@@ -81,7 +74,8 @@ fn add_lines(
 // What becomes of the lines that tell of reservations.
 fn add_reservations(
     alloc: Global,
-    gathering: &mut Gathering<'_>,
+    cluster: &Cluster,
+    gathering: &mut Gathering,
     text: &[u8],
 ) -> Result<Vec<ReservationFate>, AllocError>
     ensures lines { IfOk result (λ fates. length fates.items ≡ length (parts_at 10 text.now)) }
@@ -90,7 +84,7 @@ fn add_reservations(
     let lines = parts_at(alloc, b'\n', text)?;
     let mut fates = Vec::new(alloc);
     for line in &lines {
-        fates.push(gathering.add_reservation(alloc, line)?)?;
+        fates.push(gathering.add_reservation(alloc, cluster, line)?)?;
     }
     Ok(fates)
 }
@@ -109,15 +103,16 @@ fn gather(
     asked: &Asked,
     cluster: &Cluster,
     states: &[NodeState],
-    lines: Lines<'_>,
+    jobs: &[u8],
+    reservations: &[u8],
 ) -> Result<Whole, AllocError>
-    ensures lines { IfOk result (λ w. length w.fates.items ≡ length (parts_at 10 lines.jobs.now)) }
+    ensures lines { IfOk result (λ w. length w.fates.items ≡ length (parts_at 10 jobs.now)) }
     ensures taken { IfOk result (λ w. count is_taken w.fates.items ≡ length w.gathered.jobs.items) }
-    ensures reservations { IfOk result (λ w. length w.reservations.items ≡ length (parts_at 10 lines.reservations.now)) }
+    ensures reservations { IfOk result (λ w. length w.reservations.items ≡ length (parts_at 10 reservations.now)) }
 {
-    let mut gathering = Gathering::new(alloc, asked, cluster, states)?;
-    let fates = add_lines(alloc, &mut gathering, lines.jobs)?;
-    let reservations = add_reservations(alloc, &mut gathering, lines.reservations)?;
+    let mut gathering = Gathering::new(alloc, *asked, states)?;
+    let fates = add_lines(alloc, cluster, &mut gathering, jobs)?;
+    let reservations = add_reservations(alloc, cluster, &mut gathering, reservations)?;
     let gathered = gathering.finish(alloc)?;
     Ok(Whole {
         gathered,
@@ -126,7 +121,7 @@ fn gather(
     })
 }
 
-fn cluster_of(alloc: Global, nodes: Vec<tetri_cluster::NodeText>) -> Result<Cluster, QueueFault> {
+fn cluster_of(alloc: Global, nodes: Vec<NodeText>) -> Result<Cluster, QueueFault> {
     match Cluster::build(alloc, nodes) {
         Ok(cluster) if cluster.count() != 0 => Ok(cluster),
         Err(ClusterFault::NoMemory) => Err(QueueFault::NoMemory),
@@ -136,18 +131,24 @@ fn cluster_of(alloc: Global, nodes: Vec<tetri_cluster::NodeText>) -> Result<Clus
     }
 }
 
-/// The trace of one cycle of a queue, and what becomes of each line. The trace is read back before it is handed out, and `Unlike` says that it
+/// The trace of one cycle of a queue, of the lines that tell of its jobs, its nodes and its reservations, and what becomes of each line. The trace is read back before it is handed out, and `Unlike` says that it
 /// is not read as it should be.
-pub fn queue_trace(alloc: Global, asked: &Asked, lines: Lines<'_>) -> Result<Queue, QueueFault>
-    ensures { IfOk result (IsQueue lines.jobs.now lines.nodes.now lines.reservations.now) }
+pub fn queue_trace(
+    alloc: Global,
+    asked: &Asked,
+    jobs: &[u8],
+    nodes: &[u8],
+    reservations: &[u8],
+) -> Result<Queue, QueueFault>
+    ensures { IfOk result (IsQueue jobs.now nodes.now reservations.now) }
 {
-    if let Some(fault) = asked.fault(!lines.reservations.is_empty()) {
+    if let Some(fault) = asked.fault(!reservations.is_empty()) {
         return Err(QueueFault::Asked(fault));
     }
-    let told = read_nodes(alloc, lines.nodes)?;
-    let nodes = nodes_text(alloc, &told.nodes)?;
+    let told = read_nodes(alloc, nodes)?;
+    let list = nodes_text(alloc, &told.nodes)?;
     let cluster = cluster_of(alloc, told.nodes)?;
-    let whole = gather(alloc, asked, &cluster, &told.states, lines)?;
+    let whole = gather(alloc, asked, &cluster, &told.states, jobs, reservations)?;
     let cycle = Cycle {
         window: asked.window,
         budget: asked.budget,
@@ -156,7 +157,7 @@ pub fn queue_trace(alloc: Global, asked: &Asked, lines: Lines<'_>) -> Result<Que
         jobs: whole.gathered.jobs,
         events: whole.gathered.events,
     };
-    let trace = trace_text(alloc, &cycle, &nodes)?;
+    let trace = trace_text(alloc, &cycle, &list)?;
     if !is_read_as(alloc, &cycle, &trace)? {
         return Err(QueueFault::Unlike);
     }

@@ -1,7 +1,7 @@
 // Reservations, as `scontrol show reservation --oneliner` prints them.
 use crate::asked::Asked;
 use crate::cause::ReservationFate;
-use crate::span::{is_nothing, slots_of};
+use crate::span::{is_nothing, is_text, slots_of};
 use std::alloc::{AllocError, Global};
 use tetri_io::parts_at;
 use tetri_logs::seconds_in;
@@ -20,8 +20,8 @@ const LAST: u32 = 30_000;
 // What stands behind a key in the word that begins with it.
 fn value_of<'a>(words: &[&'a [u8]], key: &str) -> Option<&'a [u8]> {
     for word in words {
-        if let Some(value) = word.strip_prefix(key.as_bytes()) {
-            return Some(value);
+        if key.len() <= word.len() && word.starts_with(key.as_bytes()) {
+            return Some(&word[key.len()..]);
         }
     }
     None
@@ -40,7 +40,7 @@ pub(crate) fn reserved_of<'a>(
     line: &'a [u8],
     asked: &Asked,
 ) -> Result<Result<Reserved<'a>, ReservationFate>, AllocError> {
-    if line.is_empty() || line == b"No reservations in the system".as_slice() {
+    if line.is_empty() || is_text(line, "No reservations in the system") {
         return Ok(Err(ReservationFate::Blank));
     }
     let words = parts_at(alloc, b' ', line)?;
