@@ -1,2 +1,3 @@
 mod FromLemmas
 mod SameLemmas
+pub mod CountLemmas

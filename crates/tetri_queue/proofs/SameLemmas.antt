@@ -16,3 +16,11 @@ same_more f g xs ys i d e before inside within here =
 -- all items
 pub same_all : {X Y Z : Type 0} (f : X → Z) (g : Y → Z) (xs : List X) (ys : List Y) (i : ℕ) → map f (take i xs) ≡ map g (take i ys) → length xs ≤ i → length ys ≤ i → map f xs ≡ map g ys
 same_all f g xs ys i same left right = ap (map f) (sym (take_all i xs left)) ∙ same ∙ ap (map g) (take_all i ys right)
+
+-- one item more of the lists themselves
+pub same_take : {X : Type 0} (xs ys : List X) (i : ℕ) (d : X) → take i xs ≡ take i ys → i < length xs → i < length ys → get_or xs i d ≡ get_or ys i d → take (i + 1) xs ≡ take (i + 1) ys
+same_take xs ys i d before inside within here =
+    take_more xs i d inside ∙ ap (λ zs. zs ++ get_or xs i d ∷ []) before ∙ ap (λ z. take i ys ++ z ∷ []) here ∙ sym (take_more ys i d within)
+
+pub same_whole : {X : Type 0} (xs ys : List X) (i : ℕ) → take i xs ≡ take i ys → length xs ≤ i → length ys ≤ i → xs ≡ ys
+same_whole xs ys i same left right = sym (take_all i xs left) ∙ same ∙ take_all i ys right

@@ -8,7 +8,7 @@ use std::alloc::{AllocError, Global};
 use tetri_cluster::{Cluster, NodeSet};
 use tetri_cycles::{Observer, SeenSlot};
 use tetri_report::Head;
-use tetri_state::State;
+use tetri_state::{Piece, State};
 use tetri_trace::Trace;
 
 /// A piece of a job that a cycle launches: its job and its nodes by number.
@@ -35,6 +35,17 @@ impl Launches {
     }
 }
 
+// What a piece is as a launch.
+fn launch_of(alloc: Global, piece: &Piece) -> Result<Launch, AllocError>
+    ensures { IfOk result (λ launch. launch ≡ launch_of piece.now) }
+{
+    let nodes = NodeSet::of_slice(alloc, piece.nodes.as_slice())?;
+    Ok(Launch {
+        job: piece.job,
+        nodes,
+    })
+}
+
 // The pieces of a state from this place on.
 fn pieces_from(alloc: Global, state: &State, from: usize) -> Result<Vec<Launch>, AllocError>
     ensures { IfOk result (λ v. v.items ≡ map launch_of (drop from state.entry.now.pieces)) }
@@ -42,10 +53,7 @@ fn pieces_from(alloc: Global, state: &State, from: usize) -> Result<Vec<Launch>,
     let mut pieces = Vec::new(alloc);
     for place in from..usize::MAX {
         match state.piece(place) {
-            Some(piece) => pieces.push(Launch {
-                job: piece.job,
-                nodes: NodeSet::of_slice(alloc, piece.nodes.as_slice())?,
-            })?,
+            Some(piece) => pieces.push(launch_of(alloc, piece)?)?,
             None => return Ok(pieces),
         }
     }
@@ -102,7 +110,7 @@ impl From<AllocError> for OrderFault {
 fn add_host(hosts: &mut String, name: &str) -> Result<(), AllocError>
     ensures { OnOk result (string_bytes hosts.new ≡ with_host (string_bytes hosts.old) name.now) }
 {
-    if !hosts.is_empty() {
+    if !hosts.as_str().is_empty() {
         hosts.push_str(",")?;
     }
     hosts.push_str(name)
@@ -162,13 +170,15 @@ fn add_order(
     ensures order { OnOk result (IsOrder (scenario trace.now) piece.now) }
     ensures text { OnOk result (string_bytes text.new ≡ string_bytes text.old ++ order_of form (scenario trace.now) piece.now) }
 {
-    let jobs = trace.jobs.as_slice();
-    let number = piece.job as usize;
-    if jobs.len() <= number || !is_id(jobs[number].name.bytes()) {
+    if trace.jobs.len() <= piece.job as usize {
+        return Err(OrderFault::NotOrder);
+    }
+    let job = trace.job(piece.job);
+    if !is_id(job.name.bytes()) {
         return Err(OrderFault::NotOrder);
     }
     let hosts = hosts_text(alloc, &trace.cluster, piece.nodes.as_slice())?;
-    add_line(text, form, jobs[number].name.text(), hosts.as_str())?;
+    add_line(text, form, job.name.text(), hosts.as_str())?;
     Ok(())
 }
 

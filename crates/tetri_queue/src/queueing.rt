@@ -54,6 +54,7 @@ pub struct Queue {
 }
 
 // What becomes of the lines of a queue.
+#[tactic(auto, using(crate::proofs::CountLemmas::count_push))]
 fn add_lines(
     alloc: Global,
     cluster: &Cluster,
