@@ -107,7 +107,7 @@ fn kept_out(columns: &[&[u8]], whole: bool) -> Option<Cause>
 }
 
 // A held job with this name.
-fn waiting<'a>(alloc: Global, name: Name, columns: &[&'a [u8]]) -> Result<Said<'a>, AllocError>
+fn waiting_job<'a>(alloc: Global, name: Name, columns: &[&'a [u8]]) -> Result<Said<'a>, AllocError>
     requires { length columns.now ≡ 16 }
 {
     let Some(limit) = seconds_of(alloc, columns[4])? else {
@@ -143,7 +143,7 @@ fn held<'a>(alloc: Global, columns: &[&'a [u8]], whole: bool) -> Result<Said<'a>
     }
     let id = task_of(alloc, columns[0])?;
     match Name::read(alloc, &id) {
-        Ok(name) if is_id(&id) => waiting(alloc, name, columns),
+        Ok(name) if is_id(&id) => waiting_job(alloc, name, columns),
         Ok(_) | Err(NameFault::NotName) => Ok(Said::Left(Cause::Unreadable)),
         Err(NameFault::NoMemory) => Err(AllocError),
     }
