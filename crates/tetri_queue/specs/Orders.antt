@@ -46,9 +46,15 @@ with_host hosts name = (if length hosts == 0 then hosts else hosts ++ codes ",")
 abbrev pub hosts_text : List NodeText → List ℕ → List ℕ
 hosts_text cluster nodes = fold (λ hosts node. with_host hosts (name_at cluster node)) [] nodes
 
+unfoldable pub update_text : List ℕ → List ℕ → List ℕ
+update_text job hosts = codes "scontrol update JobId=" ++ job ++ codes " ReqNodeList=" ++ hosts
+
+unfoldable pub release_text : List ℕ → List ℕ
+release_text job = codes " && scontrol release " ++ job ++ codes "\n"
+
 -- nothing of a job or a node is in it but names
-unfoldable pub slurm_line : List ℕ → List ℕ → List ℕ
-slurm_line job hosts = codes "scontrol update JobId=" ++ job ++ codes " ReqNodeList=" ++ hosts ++ codes " && scontrol release " ++ job ++ codes "\n"
+abbrev pub slurm_line : List ℕ → List ℕ → List ℕ
+slurm_line job hosts = update_text job hosts ++ release_text job
 
 unfoldable pub json_line : List ℕ → List ℕ → List ℕ
 json_line job hosts = codes "{\"job\":\"" ++ job ++ codes "\",\"nodes\":\"" ++ hosts ++ codes "\"}\n"

@@ -59,9 +59,9 @@ IsReadAs c text = (said : Scenario) × (scenario_in text ≡ Ok said) × IsCycle
 
 -- What is handed out of these lines: a text that is read as the trace of a cycle; each line has its fate, and those of jobs that are taken
 -- are as many as the jobs.
-pub record IsQueue (jobs nodes reservations : List ℕ) (q : Queue) : Type 0 where
+pub record IsQueue (job_lines node_lines reserved_lines : List ℕ) (q : Queue) : Type 0 where
   pub trace : IsReadAs q.cycle (string_bytes q.trace)
-  pub fates : length q.fates.items ≡ length (parts_at 10 jobs)
+  pub fates : length q.fates.items ≡ length (parts_at 10 job_lines)
   pub taken : count is_taken q.fates.items ≡ length q.cycle.jobs.items
-  pub nodes : length q.nodes.items ≡ length (parts_at 10 nodes)
-  pub reservations : length q.reservations.items ≡ length (parts_at 10 reservations)
+  pub nodes : length q.nodes.items ≡ length (parts_at 10 node_lines)
+  pub reservations : length q.reservations.items ≡ length (parts_at 10 reserved_lines)

@@ -126,6 +126,12 @@ fn same_jobs(sets: &Sets, read: &[Job], meant: &[TakenJob]) -> bool
     true
 }
 
+fn same_wishes(sets: &Sets, read: &[Job], meant: &[TakenJob]) -> bool
+    ensures { IsTrue result → map (wanted_of sets.now) (map submission read.now) ≡ map wanted meant.now }
+{
+    same_jobs(sets, read, meant)
+}
+
 fn same_header(header: Header, cycle: &Cycle) -> bool
     ensures { IsTrue result → header ≡ header_of cycle.now }
 {
@@ -135,15 +141,41 @@ fn same_header(header: Header, cycle: &Cycle) -> bool
         && header.unit == 1
 }
 
+fn closures_agree(trace: &Trace, cycle: &Cycle) -> bool
+    ensures { IsTrue result → (scenario trace.now).closures ≡ cycle.now.closures.items }
+{
+    same_closures(trace.closures.as_slice(), &cycle.closures)
+}
+
+fn jobs_agree(trace: &Trace, cycle: &Cycle) -> bool
+    ensures { IsTrue result → map (wanted_of (scenario trace.now).sets) (scenario trace.now).submissions ≡ map wanted cycle.now.jobs.items }
+{
+    same_wishes(&trace.sets, trace.jobs.as_slice(), &cycle.jobs)
+}
+
+fn events_agree(trace: &Trace, cycle: &Cycle) -> bool
+    ensures { IsTrue result → (scenario trace.now).events ≡ cycle.now.events.items }
+{
+    same_events(&trace.events, &cycle.events)
+}
+
 // Whether a trace is that of a cycle.
 fn is_cycle(trace: &Trace, cycle: &Cycle) -> bool
     ensures { IsTrue result → IsCycle cycle.now (scenario trace.now) }
 {
-    same_header(trace.header, cycle)
-        && same_nodes(&trace.cluster, &cycle.cluster)
-        && same_closures(trace.closures.as_slice(), &cycle.closures)
-        && same_jobs(&trace.sets, trace.jobs.as_slice(), &cycle.jobs)
-        && same_events(&trace.events, &cycle.events)
+    if !same_header(trace.header, cycle) {
+        return false;
+    }
+    if !same_nodes(&trace.cluster, &cycle.cluster) {
+        return false;
+    }
+    if !closures_agree(trace, cycle) {
+        return false;
+    }
+    if !jobs_agree(trace, cycle) {
+        return false;
+    }
+    events_agree(trace, cycle)
 }
 
 /// Whether a text is read as the trace of a cycle. Its only error is want of memory.

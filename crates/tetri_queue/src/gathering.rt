@@ -100,7 +100,9 @@ impl Gathering {
         alloc: Global,
         asked: Asked,
         states: &[NodeState],
-    ) -> Result<Gathering, AllocError> {
+    ) -> Result<Gathering, AllocError>
+        ensures { IfOk result (λ g. length g.jobs.items ≡ 0) }
+    {
         let mut closed = Vec::new(alloc);
         let mut shut = Vec::new(alloc);
         for state in states {
@@ -264,7 +266,7 @@ impl Gathering {
             return Ok(false);
         }
         for node in 0..marked.len() {
-            if marked[node] {
+            if marked[node] && node < MOST_CLOSURES {
                 if reserved.from == 0 {
                     self.close(node, reserved.to.saturating_add(1));
                 } else {

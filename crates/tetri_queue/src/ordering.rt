@@ -1,6 +1,6 @@
 // The launches of a report as commands.
 ghost use Rattle.std.specs.Prelude.{◌≡◌, ◌<◌, ◌++◌, [], All, IfOk, OnOk, drop, length, map, string_bytes};
-ghost use Rattle.tetri_queue.specs.Orders.{IsOrder, hosts_text, json_line, launch_of, order_line, order_of, orders_text, slurm_line, with_host};
+ghost use Rattle.tetri_queue.specs.Orders.{IsOrder, hosts_text, json_line, launch_of, order_line, order_of, orders_text, release_text, slurm_line, update_text, with_host};
 ghost use Rattle.tetri_trace.specs.Scenario.{scenario};
 
 use crate::line::is_id;
@@ -131,15 +131,28 @@ fn hosts_text(alloc: Global, cluster: &Cluster, nodes: &[u32]) -> Result<String,
     Ok(hosts)
 }
 
+// The command that names the hosts of a job.
+#[tactic(auto, unfolding(crate::specs::Orders::update_text))]
+fn add_update(text: &mut String, job: &str, hosts: &str) -> Result<(), AllocError>
+    ensures { OnOk result (string_bytes text.new ≡ string_bytes text.old ++ update_text job.now hosts.now) }
+{
+    write!(text, "scontrol update JobId={job} ReqNodeList={hosts}")
+}
+
+// The command that releases a job, where the one before was taken.
+#[tactic(auto, unfolding(crate::specs::Orders::release_text))]
+fn add_release(text: &mut String, job: &str) -> Result<(), AllocError>
+    ensures { OnOk result (string_bytes text.new ≡ string_bytes text.old ++ release_text job.now) }
+{
+    writeln!(text, " && scontrol release {job}")
+}
+
 // The command that starts a job on hosts.
-#[tactic(auto, unfolding(crate::specs::Orders::slurm_line))]
 fn add_slurm(text: &mut String, job: &str, hosts: &str) -> Result<(), AllocError>
     ensures { OnOk result (string_bytes text.new ≡ string_bytes text.old ++ slurm_line job.now hosts.now) }
 {
-    writeln!(
-        text,
-        "scontrol update JobId={job} ReqNodeList={hosts} && scontrol release {job}"
-    )
+    add_update(text, job, hosts)?;
+    add_release(text, job)
 }
 
 // The same as an object.
