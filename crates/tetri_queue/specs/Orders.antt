@@ -47,7 +47,7 @@ abbrev pub hosts_text : List NodeText → List ℕ → List ℕ
 hosts_text cluster nodes = fold (λ hosts node. with_host hosts (name_at cluster node)) [] nodes
 
 unfoldable pub update_text : List ℕ → List ℕ → List ℕ
-update_text job hosts = codes "scontrol update JobId=" ++ job ++ codes " ReqNodeList=" ++ hosts
+update_text job hosts = codes "scontrol update JobId=" ++ (job ++ (codes " ReqNodeList=" ++ hosts))
 
 unfoldable pub release_text : List ℕ → List ℕ
 release_text job = codes " && scontrol release " ++ job ++ codes "\n"

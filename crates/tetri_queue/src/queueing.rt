@@ -11,7 +11,7 @@ use crate::gathering::{Cycle, Gathered, Gathering};
 use crate::text::{nodes_text, trace_text};
 use std::alloc::{AllocError, Global};
 use tetri_cluster::{Cluster, ClusterFault, NodeText};
-use tetri_hosts::{NodeFate, NodeState, read_nodes};
+use tetri_hosts::{NodeFate, NodeState, Nodes, read_nodes};
 use tetri_io::parts_at;
 
 /// Why a queue does not become a trace.
@@ -146,17 +146,31 @@ pub fn queue_trace(
     if let Some(fault) = asked.fault(!reservations.is_empty()) {
         return Err(QueueFault::Asked(fault));
     }
-    let told = read_nodes(alloc, nodes)?;
-    let list = nodes_text(alloc, &told.nodes)?;
-    let cluster = cluster_of(alloc, told.nodes)?;
-    let whole = gather(alloc, asked, &cluster, &told.states, jobs, reservations)?;
+    let Nodes {
+        nodes: told,
+        states,
+        fates: node_fates,
+    } = read_nodes(alloc, nodes)?;
+    let list = nodes_text(alloc, &told)?;
+    let cluster = cluster_of(alloc, told)?;
+    let Whole {
+        gathered,
+        fates,
+        reservations: reserved,
+    } = gather(alloc, asked, &cluster, &states, jobs, reservations)?;
+    let Gathered {
+        closures,
+        events,
+        jobs: taken,
+        crowded,
+    } = gathered;
     let cycle = Cycle {
         window: asked.window,
         budget: asked.budget,
         cluster,
-        closures: whole.gathered.closures,
-        jobs: whole.gathered.jobs,
-        events: whole.gathered.events,
+        closures,
+        jobs: taken,
+        events,
     };
     let trace = trace_text(alloc, &cycle, &list)?;
     if !is_read_as(alloc, &cycle, &trace)? {
@@ -165,9 +179,9 @@ pub fn queue_trace(
     Ok(Queue {
         trace,
         cycle,
-        fates: whole.fates,
-        nodes: told.fates,
-        reservations: whole.reservations,
-        crowded: whole.gathered.crowded,
+        fates,
+        nodes: node_fates,
+        reservations: reserved,
+        crowded,
     })
 }
