@@ -13,8 +13,10 @@ mod import;
 mod lint;
 mod jobs;
 mod named;
+mod orders;
 mod plan;
 mod refusals;
+mod queue;
 mod said;
 mod stats;
 
@@ -37,6 +39,7 @@ fn command<'a>(alloc: Global) -> Result<Command<'a>, AllocError> {
         .bin_name("tetri_ctl")?
         .about(
             "What people use around tetri: plans, checks, imports, pictures, bounds, exports, lint",
+            "What people use around tetri: plans, checks, imports, pictures, bounds, exports, queues",
         )
         .version(VERSION)
         .propagate_version(true)
@@ -53,6 +56,8 @@ fn command<'a>(alloc: Global) -> Result<Command<'a>, AllocError> {
         .subcommand(bound::command(alloc)?)?
         .subcommand(export::command(alloc)?)?
         .subcommand(lint::command(alloc)?)
+        .subcommand(queue::command(alloc)?)?
+        .subcommand(orders::command(alloc)?)
 }
 
 // What the words are read as. Standard input is named once at most.
@@ -82,6 +87,8 @@ fn run(rt: &HostRuntime, matches: &ArgMatches<'_>) -> u8 {
         Some(("bound", inner)) => bound::run(rt, inner),
         Some(("export", inner)) => export::run(rt, inner),
         Some(("lint", inner)) => lint::run(rt, inner),
+        Some(("queue", inner)) => queue::run(rt, inner),
+        Some(("orders", inner)) => orders::run(rt, inner),
         _ => USAGE,
     }
 }

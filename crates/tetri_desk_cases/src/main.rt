@@ -7,6 +7,7 @@ mod lint;
 mod swift;
 mod prices;
 mod accounts;
+mod queue;
 
 use std::{env, fs, io};
 use tetri_tables::Tally;
@@ -21,6 +22,7 @@ fn judge(rt: &HostRuntime, name: &str, text: &str) -> io::Result<Option<Tally>> 
         "prices" => Ok(Some(prices::judge(rt.alloc(), text)?)),
         "accounts" => Ok(Some(accounts::judge(rt.alloc(), text)?)),
         "none" => Ok(Some(Tally::new(rt.alloc()))),
+        "queue" => Ok(Some(queue::judge(rt.alloc(), text)?)),
         _ => Ok(None),
     }
 }
