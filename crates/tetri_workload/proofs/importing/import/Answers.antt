@@ -1,7 +1,9 @@
 use Rattle.std.proofs.Common.{◌≡◌, ◌+◌, ◌∙◌, ◌++◌, length, ap, sym, subst, arith, rules}
-use Rattle.std.specs.Prelude.{All, Ok, string_bytes}
+use Rattle.std.specs.Prelude.{All, Ok, None, string_bytes}
 use Rattle.tetri_logs.specs.Options.{settings_of}
-use Rattle.tetri_logs.specs.Reading.{entries, facts_in, first_submit, jobs_in, left_in, no_facts}
+use Rattle.tetri_logs.specs.Origin.{begun, gap_of}
+use Rattle.tetri_logs.specs.Reading.{entries, facts_in, jobs_in, left_in, no_facts}
+use Rattle.tetri_workload.specs.Import.{IsDraft}
 use Rattle.tetri_workload.specs.Ordering.{IsOrderBy}
 use Rattle.tetri_workload.specs.Saying.{IsAsked, IsReadAs}
 use Rattle.tetri_workload.specs.Taking.{so_far, taken_all}
@@ -11,30 +13,31 @@ use Rattle.tetri_workload.proofs.TakingLemmas.{all_asked}
 use Rattle.tetri_workload.proofs.importing.import.Goals as goal
 
 pub is_read_as-requires : goal.is_read_as-requires
-is_read_as-requires c = subst (λ t. All (λ u. IsAsked u.demand) t.jobs) (sym c.in_ok-taken.ensures) (all_asked c.in_ok-settings.settings c.by_submission.new.jobs.items)
+is_read_as-requires c = subst (λ t. All (λ u. IsAsked u.demand) t.jobs) (sym c.in_ok-taken.ensures) (all_asked c.begun.result c.by_submission.new.jobs.items)
 
 pub returns-clause-trace : goal.returns-clause-trace
 returns-clause-trace c =
     let es = entries c.args.format c.args.log.now in
     let o = c.args.options.now in
     let log = c.in_ok-log.log in
-    let s = c.in_ok-settings.settings in
+    let draft = c.in_ok-draft.draft in
+    let s = c.begun-settings.result in
     let order = c.by_submission.new.jobs.items in
     let t = c.in_ok-taken.taken in
     let events = c.by_slot.new.events.items in
-    let settled : settings_of o (facts_in no_facts es) (first_submit (jobs_in es)) ≡ Ok s =
-    sym (c.in_ok-settings.ensures.value
-    ∙ ap (λ f. settings_of o f c.first_submit.result) c.in_ok-log.ensures.facts
-    ∙ ap (settings_of o (facts_in no_facts es)) (c.first_submit.ensures ∙ ap first_submit (c.deref.ensures.value ∙ c.in_ok-log.ensures.jobs))) in
+    let settled : settings_of o (facts_in no_facts es) ≡ Ok draft = sym (c.in_ok-draft.ensures.value ∙ ap (settings_of o) c.in_ok-log.ensures.facts) in
     let ordered : IsOrderBy (λ j. j.account.submit) (jobs_in es) order =
     subst (λ js. IsOrderBy (λ j. j.account.submit) js order) c.in_ok-log.ensures.jobs c.in_ok-by_submission.ensures in
+    let drafted : IsDraft es o draft order = record { settings = settled; ordered = ordered } in
+    let is : s ≡ begun draft order = c.begun-settings.ensures.value ∙ ap (begun draft) c.deref.ensures.value in
+    let gap : gap_of o s order ≡ None = ? in
     let in_order : IsOrderBy (λ e. e.at) t.events.items events = c.in_ok-by_slot.ensures in
     let tally : so_far t ≡ taken_all s order = c.in_ok-taken.ensures in
     let read : IsReadAs s (record (so_far t) { events = events }) (string_bytes c.in_ok-trace.trace) =
-    subst (IsReadAs s (record (so_far t) { events = events })) c.deref-2.ensures (c.in_ok-alike.ensures.0 (search rules)) in
-    let left : c.extend_from_slice.new.self.items ≡ left_in es ++ t.left.items =
-    c.in_ok-extend_from_slice.ensures.items ∙ ap (λ cs. log.left.items ++ cs) c.deref-3.ensures.value ∙ ap (λ cs. cs ++ t.left.items) c.in_ok-log.ensures.left in
+    subst (IsReadAs s (record (so_far t) { events = events })) c.deref-3.ensures (c.in_ok-alike.ensures.0 (search rules)) in
+    let left : IsOrderBy (λ r. r.line) (left_in es ++ t.left.items) c.by_line.new.left.items =
+    ? in
     let whole : length (jobs_in es) + length (left_in es) + log.comments ≡ length es =
     omega (arith, ap length c.in_ok-log.ensures.jobs, ap length c.in_ok-log.ensures.left, c.in_ok-log.ensures.whole) in
-    let i : Imported = record { trace = c.in_ok-trace.trace; jobs = c.len.result; left = c.extend_from_slice.new.self; comments = log.comments } in
-    (s, order, read.0, imported es o i s order t events settled ordered tally in_order read left c.len.ensures.value c.in_ok-log.ensures.comments whole)
+    let i : Imported = record { trace = c.in_ok-trace.trace; jobs = c.len.result; rounded = c.len-2.result; left = c.by_line.new.left; comments = log.comments } in
+    (draft, order, read.0, imported es o i draft s order t events drafted is gap tally in_order read left c.len.ensures.value c.len-2.ensures c.in_ok-log.ensures.comments whole)
