@@ -74,8 +74,9 @@ pub fn import(
     let mut jobs = log.jobs;
     by_submission(&mut jobs)?;
     let settings = begun(&draft, &jobs);
-    if let Some(second) = gap_of(options, &settings, &jobs) {
-        return Err(ImportFault::Apart(second));
+    match gap_of(options, &settings, &jobs) {
+        None => {}
+        Some(second) => return Err(ImportFault::Apart(second)),
     }
     let mut taken = take_all(alloc, &settings, jobs)?;
     by_slot(&mut taken.events)?;

@@ -13,7 +13,7 @@ use Rattle.tetri_workload.proofs.TakingLemmas.{all_asked}
 use Rattle.tetri_workload.proofs.importing.import.Goals as goal
 
 pub is_read_as-requires : goal.is_read_as-requires
-is_read_as-requires c = subst (λ t. All (λ u. IsAsked u.demand) t.jobs) (sym c.in_ok-taken.ensures) (all_asked c.begun.result c.by_submission.new.jobs.items)
+is_read_as-requires c = subst (λ t. All (λ u. IsAsked u.demand) t.jobs) (sym c.in_ok-taken.ensures) (all_asked c.begun-settings.result c.by_submission.new.jobs.items)
 
 pub returns-clause-trace : goal.returns-clause-trace
 returns-clause-trace c =
@@ -30,13 +30,15 @@ returns-clause-trace c =
     subst (λ js. IsOrderBy (λ j. j.account.submit) js order) c.in_ok-log.ensures.jobs c.in_ok-by_submission.ensures in
     let drafted : IsDraft es o draft order = record { settings = settled; ordered = ordered } in
     let is : s ≡ begun draft order = c.begun-settings.ensures.value ∙ ap (begun draft) c.deref.ensures.value in
-    let gap : gap_of o s order ≡ None = ? in
+    let gap : gap_of o s order ≡ None = sym (c.in-None.ensures ∙ ap (gap_of o s) c.deref-2.ensures.value) in
     let in_order : IsOrderBy (λ e. e.at) t.events.items events = c.in_ok-by_slot.ensures in
     let tally : so_far t ≡ taken_all s order = c.in_ok-taken.ensures in
     let read : IsReadAs s (record (so_far t) { events = events }) (string_bytes c.in_ok-trace.trace) =
     subst (IsReadAs s (record (so_far t) { events = events })) c.deref-3.ensures (c.in_ok-alike.ensures.0 (search rules)) in
+    let extended : c.extend_from_slice.new.self.items ≡ left_in es ++ t.left.items =
+    c.in_ok-extend_from_slice.ensures.items ∙ ap (λ cs. log.left.items ++ cs) c.deref-4.ensures.value ∙ ap (λ cs. cs ++ t.left.items) c.in_ok-log.ensures.left in
     let left : IsOrderBy (λ r. r.line) (left_in es ++ t.left.items) c.by_line.new.left.items =
-    ? in
+    subst (λ rs. IsOrderBy (λ r. r.line) rs c.by_line.new.left.items) extended c.in_ok-by_line.ensures in
     let whole : length (jobs_in es) + length (left_in es) + log.comments ≡ length es =
     omega (arith, ap length c.in_ok-log.ensures.jobs, ap length c.in_ok-log.ensures.left, c.in_ok-log.ensures.whole) in
     let i : Imported = record { trace = c.in_ok-trace.trace; jobs = c.len.result; rounded = c.len-2.result; left = c.by_line.new.left; comments = log.comments } in
