@@ -56,9 +56,6 @@ end_of p = min (last_of (p.arrival + p.ask.deadline) p.cancel) 9999 + 1
 abbrev pub rounded_of : ℕ → Placing → List ℕ
 rounded_of line p = if p.part_node then line ∷ [] else []
 
-abbrev pub rounded_up : Tally → ℕ → Placing → Tally
-rounded_up t line p = record t { rounded = t.rounded ++ rounded_of line p }
-
 abbrev pub taken : Tally → ℕ → ℕ → List ℕ → Placing → Tally
 taken t line submit name p = record {
   jobs = t.jobs ++ submitted name p ∷ [];

@@ -1,10 +1,10 @@
 // The jobs that are taken.
-ghost use Rattle.std.specs.Prelude.{◌≡◌, ◌<◌, IfOk, OnOk, false, length, map, slice_get, string_bytes};
+ghost use Rattle.std.specs.Prelude.{◌≡◌, ◌<◌, ◌++◌, IfOk, OnOk, false, length, map, slice_get, string_bytes};
 ghost use Rattle.tetri_trace.specs.Scenario.{job_names, submission};
 ghost use Rattle.tetri_cluster.specs.Names.{is_among, number_of};
 ghost use Rattle.tetri_logs.specs.Options.{AreGood};
 ghost use Rattle.tetri_logs.specs.Placing.{IsPlaced};
-ghost use Rattle.tetri_workload.specs.Taking.{again, again_name, end_of, is_second, kept, left_out, named, nothing_taken, rounded_up, so_far, taken, taken_all, with_logged};
+ghost use Rattle.tetri_workload.specs.Taking.{again, again_name, end_of, is_second, kept, left_out, named, nothing_taken, rounded_of, so_far, taken, taken_all, with_logged};
 
 use std::alloc::{AllocError, Global};
 use tetri_cluster::{Name, NameFault};
@@ -66,16 +66,6 @@ impl Taken {
         Ok(())
     }
 
-    // The line of a job that takes a whole node for fewer processors.
-    fn round(&mut self, line: usize, placing: &Placing) -> Result<(), AllocError>
-        ensures { OnOk result (so_far self.new ≡ rounded_up (so_far self.old) line placing.now) }
-    {
-        if placing.part_node {
-            self.rounded.push(line)?;
-        }
-        Ok(())
-    }
-
     // A job that is taken.
     fn take(
         &mut self,
@@ -108,7 +98,7 @@ impl Taken {
             })?;
         }
         self.until = self.until.max(end_of(placing));
-        self.round(line, placing)
+        add_rounded(&mut self.rounded, line, placing)
     }
 
     // A job that is taken unless so many are there as are wanted or possible.
@@ -206,6 +196,16 @@ impl Taken {
             Err(cause) => self.leave(job.line, cause),
         }
     }
+}
+
+// With the line of a job, where it takes a whole node for fewer processors.
+fn add_rounded(rounded: &mut Vec<usize>, line: usize, placing: &Placing) -> Result<(), AllocError>
+    ensures { OnOk result (rounded.new.items ≡ rounded.old.items ++ rounded_of line placing.now) }
+{
+    if placing.part_node {
+        rounded.push(line)?;
+    }
+    Ok(())
 }
 
 // What a job is called that was submitted again: its name, and when that was.
