@@ -1,4 +1,4 @@
-use Rattle.std.proofs.Common.{◌≡◌, ◌+◌, ◌∙◌, ◌++◌, map, drop, ap, sym}
+use Rattle.std.proofs.Common.{◌+◌, ◌∙◌, ◌++◌, [], map, drop, ap, sym}
 use Rattle.tetri_logs.specs.Reading.{entries_from, facts_in, jobs_in, left_in}
 use Rattle.tetri_logs.proofs.ReadingLemmas.{entries_from-next, facts_in-first, jobs_in-first, left_in-first}
 use Rattle.tetri_logs.proofs.reading.read_lines.Goals as goal
