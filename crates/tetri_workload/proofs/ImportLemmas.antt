@@ -1,6 +1,6 @@
 -- What follows of a trace that is read as what was taken.
-use Rattle.std.proofs.Common.{◌≡◌, ◌+◌, ◌∙◌, ◌++◌, List, length, ap, sym, subst, arith, length-append}
-use Rattle.std.specs.Prelude.{string_bytes, None, Ok}
+use Rattle.std.proofs.Common.{◌≡◌, ◌+◌, ◌∙◌, ◌++◌, ℕ, List, length, ap, sym, subst, arith, length-append}
+use Rattle.std.specs.Prelude.{string_bytes, None}
 use Rattle.std.proofs.lemmas.List.{length-map}
 use Rattle.std.proofs.lemmas.List.Sorted.{length_permutation}
 use Rattle.tetri_base.specs.Lists.{count}
@@ -15,7 +15,8 @@ use Rattle.tetri_trace.specs.declared.trace.Event.{Event}
 use Rattle.tetri_workload.specs.Import.{IsDraft, IsImportOf}
 use Rattle.tetri_workload.specs.Ordering.{IsOrderBy}
 use Rattle.tetri_workload.specs.Saying.{IsReadAs, header_of}
-use Rattle.tetri_workload.specs.Taking.{so_far, taken_all}
+use Rattle.tetri_workload.specs.Taking.{Tally, so_far, taken_all}
+use Rattle.tetri_workload.specs.Text.{text_of}
 use Rattle.tetri_workload.specs.declared.importing.Imported.{Imported}
 use Rattle.tetri_workload.specs.declared.taking.Taken.{Taken}
 use Rattle.tetri_workload.proofs.TakingLemmas.{all_taken_or_left}
@@ -59,3 +60,8 @@ imported es o i draft s order t events drafted is gap tally in_order read left j
         lines = omega (arith, taken, number, moved, whole, all_taken_or_left (begun draft order) order, length_permutation (jobs_in es) order drafted.ordered.moved);
       };
     }
+
+-- what is read as what was taken is so by any names of the same settings, the same tally and the same text
+pub same_reading : (s r : Settings) (t u : Tally) (text : List ℕ) → s ≡ r → t ≡ u → text ≡ text_of s t → IsReadAs r u (text_of r u) → IsReadAs s t text
+same_reading s r t u text p q e read =
+    subst (λ x. IsReadAs s t x) (sym e) (subst (λ b. IsReadAs b t (text_of b t)) (sym p) (subst (λ v. IsReadAs r v (text_of r v)) (sym q) read))

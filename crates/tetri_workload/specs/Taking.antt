@@ -72,9 +72,13 @@ kept s t line submit name p =
     if nat_le s.most (length t.jobs) then left_out t line Outside
     else (if nat_le 100000 (length t.jobs) then left_out t line Beyond else taken t line submit name p)
 
--- what a job is called that was submitted again: its name, and when that was
+-- the mark of a job that was submitted again: when that was
+abbrev pub again_mark : ℕ → List ℕ
+again_mark submit = codes ":" ++ decimal submit
+
+-- what it is called: its name with that mark
 abbrev pub again_name : List ℕ → ℕ → List ℕ
-again_name name submit = name ++ codes ":" ++ decimal submit
+again_name name submit = name ++ again_mark submit
 
 -- a job that was submitted again is taken under that name, unless one has it
 abbrev pub again : Settings → Tally → ℕ → ℕ → List ℕ → Placing → Tally

@@ -39,15 +39,25 @@ cause_word Outside = codes "outside"
 cause_word Repeated = codes "repeated"
 cause_word Beyond = codes "beyond"
 
+-- a line with a word and a number
+abbrev pub count_line : List ℕ → ℕ → List ℕ
+count_line word count = word ++ codes " " ++ decimal count ++ codes "\n"
+
 -- how many lines were left out for a cause
 abbrev pub cause_line : List Reject → Cause → List ℕ
-cause_line left cause = cause_word cause ++ codes " " ++ decimal (count_of cause left) ++ codes "\n"
+cause_line left cause = count_line (cause_word cause) (count_of cause left)
 
--- How many jobs are taken, how many of them take a whole node for fewer processors, how many lines are comments, and how many are left out
--- for each cause.
+-- how many lines are left out for what they say themselves, and for what they ask for
+abbrev pub first_causes : List Reject → List ℕ
+first_causes left = cause_line left (Unreadable 0) ++ cause_line left Step ++ cause_line left NoNodes ++ cause_line left Backwards
+
+abbrev pub last_causes : List Reject → List ℕ
+last_causes left = cause_line left TooLarge ++ cause_line left PartNode ++ cause_line left Outside ++ cause_line left Repeated ++ cause_line left Beyond
+
+-- how many jobs are taken, how many of them take a whole node for fewer processors, how many lines are comments, and these
 abbrev pub counts_text : Imported → List ℕ
 counts_text i =
-    codes "taken " ++ decimal i.jobs ++ codes "\nrounded-up " ++ decimal i.rounded ++ codes "\ncomments " ++ decimal i.comments ++ codes "\n" ++ cause_line i.left.items (Unreadable 0) ++ cause_line i.left.items Step ++ cause_line i.left.items NoNodes ++ cause_line i.left.items Backwards ++ cause_line i.left.items TooLarge ++ cause_line i.left.items PartNode ++ cause_line i.left.items Outside ++ cause_line i.left.items Repeated ++ cause_line i.left.items Beyond
+    count_line (codes "taken") i.jobs ++ count_line (codes "rounded-up") i.rounded ++ count_line (codes "comments") i.comments ++ first_causes i.left.items ++ last_causes i.left.items
 
 -- the column at which a line stops being one
 abbrev pub column_text : Cause → List ℕ
@@ -84,10 +94,15 @@ option_words Slack = codes "the slack is 0 to 10000"
 option_words Nodes = codes "there are 1 to 4096 nodes"
 option_words LogNodes = codes "give --nodes: the log does not say that there are 1 to 4096"
 
--- the second that parts the first jobs from the others
+-- with the second that parts the first jobs from the others
+abbrev pub from_words : ℕ → List ℕ
+from_words second = codes "give --from " ++ decimal second
+
+abbrev pub to_words : ℕ → List ℕ
+to_words second = codes " or --to " ++ decimal second
+
 abbrev pub gap_words : ℕ → List ℕ
-gap_words second =
-    codes "the first jobs lie 10000 slots or more before the others: give --from " ++ decimal second ++ codes " to begin with the others, or --to " ++ decimal second ++ codes " to end before them"
+gap_words second = from_words second ++ to_words second ++ codes ": the first jobs lie 10000 slots or more before the others"
 
 abbrev pub fault_words : ImportFault → List ℕ
 fault_words (faults.Options fault) = option_words fault

@@ -91,7 +91,7 @@ pub fn import(
     Ok(Imported {
         trace,
         jobs: taken.jobs.len(),
-        rounded: taken.rounded.len(),
+        rounded: taken.rounded.as_slice().len(),
         left,
         comments: log.comments,
     })

@@ -4,7 +4,7 @@ ghost use Rattle.tetri_trace.specs.Scenario.{job_names, submission};
 ghost use Rattle.tetri_cluster.specs.Names.{is_among, number_of};
 ghost use Rattle.tetri_logs.specs.Options.{AreGood};
 ghost use Rattle.tetri_logs.specs.Placing.{IsPlaced};
-ghost use Rattle.tetri_workload.specs.Taking.{again, again_name, end_of, is_second, kept, left_out, named, nothing_taken, rounded_of, so_far, taken, taken_all, with_logged};
+ghost use Rattle.tetri_workload.specs.Taking.{again, again_mark, again_name, end_of, is_second, kept, left_out, named, nothing_taken, rounded_of, so_far, taken, taken_all, with_logged};
 
 use std::alloc::{AllocError, Global};
 use tetri_cluster::{Name, NameFault};
@@ -208,11 +208,20 @@ fn add_rounded(rounded: &mut Vec<usize>, line: usize, placing: &Placing) -> Resu
     Ok(())
 }
 
+// The mark of a job that was submitted again: when that was.
+fn add_mark(text: &mut String, submit: u32) -> Result<(), AllocError>
+    ensures { OnOk result (string_bytes text.new ≡ string_bytes text.old ++ again_mark submit) }
+{
+    write!(text, ":{submit}")
+}
+
 // What a job is called that was submitted again: its name, and when that was.
 fn again_name(alloc: Global, name: &str, submit: u32) -> Result<String, AllocError>
     ensures { IfOk result (λ text. string_bytes text ≡ again_name name.now submit) }
 {
-    format!(in alloc; "{name}:{submit}")
+    let mut text = String::from_str(alloc, name)?;
+    add_mark(&mut text, submit)?;
+    Ok(text)
 }
 
 /// The jobs that are taken of those of a log, in order of submission. Its only error is want of memory.

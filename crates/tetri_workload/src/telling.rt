@@ -1,6 +1,6 @@
 // What is told of an import.
 ghost use Rattle.std.specs.Prelude.{◌≡◌, ◌-◌, ◌++◌, [], IfOk, OnOk, flat_map, map, slice_index_or, string_bytes};
-ghost use Rattle.tetri_workload.specs.Telling.{cause_line, cause_number, cause_word, column_text, count_of, counts_text, fault_words, gap_words, is_for, option_words, reason_text, reject_text, rejects_text};
+ghost use Rattle.tetri_workload.specs.Telling.{cause_line, cause_number, cause_word, column_text, count_line, count_of, counts_text, fault_words, first_causes, from_words, gap_words, is_for, last_causes, option_words, reason_text, reject_text, rejects_text, to_words};
 
 use crate::importing::{ImportFault, Imported};
 use std::alloc::{AllocError, Global};
@@ -52,13 +52,39 @@ fn cause_word(cause: Cause) -> &'static str
     }
 }
 
+// A line with a word and a number.
+fn add_count(text: &mut String, word: &str, count: usize) -> Result<(), AllocError>
+    ensures { OnOk result (string_bytes text.new ≡ string_bytes text.old ++ count_line word.now count) }
+{
+    writeln!(text, "{word} {count}")
+}
+
 // A line that says how many lines were left out for a cause.
 fn add_cause(text: &mut String, cause: Cause, left: &[Reject]) -> Result<(), AllocError>
     ensures { OnOk result (string_bytes text.new ≡ string_bytes text.old ++ cause_line left.now cause) }
 {
-    let word = cause_word(cause);
-    let count = count_of(cause, left);
-    writeln!(text, "{word} {count}")
+    add_count(text, cause_word(cause), count_of(cause, left))
+}
+
+// How many lines are left out for what they say themselves.
+fn add_first_causes(text: &mut String, left: &[Reject]) -> Result<(), AllocError>
+    ensures { OnOk result (string_bytes text.new ≡ string_bytes text.old ++ first_causes left.now) }
+{
+    add_cause(text, Cause::Unreadable(0), left)?;
+    add_cause(text, Cause::Step, left)?;
+    add_cause(text, Cause::NoNodes, left)?;
+    add_cause(text, Cause::Backwards, left)
+}
+
+// How many lines are left out for what they ask for.
+fn add_last_causes(text: &mut String, left: &[Reject]) -> Result<(), AllocError>
+    ensures { OnOk result (string_bytes text.new ≡ string_bytes text.old ++ last_causes left.now) }
+{
+    add_cause(text, Cause::TooLarge, left)?;
+    add_cause(text, Cause::PartNode, left)?;
+    add_cause(text, Cause::Outside, left)?;
+    add_cause(text, Cause::Repeated, left)?;
+    add_cause(text, Cause::Beyond, left)
 }
 
 /// How many jobs are taken, how many of them take a whole node for fewer processors, how many comments there are, and how many lines are
@@ -66,20 +92,13 @@ fn add_cause(text: &mut String, cause: Cause, left: &[Reject]) -> Result<(), All
 pub fn counts_text(alloc: Global, imported: &Imported) -> Result<String, AllocError>
     ensures { IfOk result (λ text. string_bytes text ≡ counts_text imported.now) }
 {
-    let jobs = imported.jobs;
-    let rounded = imported.rounded;
-    let comments = imported.comments;
     let left = imported.left.as_slice();
-    let mut text = format!(in alloc; "taken {jobs}\nrounded-up {rounded}\ncomments {comments}\n")?;
-    add_cause(&mut text, Cause::Unreadable(0), left)?;
-    add_cause(&mut text, Cause::Step, left)?;
-    add_cause(&mut text, Cause::NoNodes, left)?;
-    add_cause(&mut text, Cause::Backwards, left)?;
-    add_cause(&mut text, Cause::TooLarge, left)?;
-    add_cause(&mut text, Cause::PartNode, left)?;
-    add_cause(&mut text, Cause::Outside, left)?;
-    add_cause(&mut text, Cause::Repeated, left)?;
-    add_cause(&mut text, Cause::Beyond, left)?;
+    let mut text = String::new(alloc);
+    add_count(&mut text, "taken", imported.jobs)?;
+    add_count(&mut text, "rounded-up", imported.rounded)?;
+    add_count(&mut text, "comments", imported.comments)?;
+    add_first_causes(&mut text, left)?;
+    add_last_causes(&mut text, left)?;
     Ok(text)
 }
 
@@ -184,11 +203,25 @@ fn option_text(fault: OptionFault) -> &'static str
     }
 }
 
-// The second that parts the first jobs from the others.
+// With the second that parts the first jobs from the others.
+fn add_from(text: &mut String, second: u64) -> Result<(), AllocError>
+    ensures { OnOk result (string_bytes text.new ≡ string_bytes text.old ++ from_words second) }
+{
+    write!(text, "give --from {second}")
+}
+
+fn add_to(text: &mut String, second: u64) -> Result<(), AllocError>
+    ensures { OnOk result (string_bytes text.new ≡ string_bytes text.old ++ to_words second) }
+{
+    write!(text, " or --to {second}")
+}
+
 fn gap_text(alloc: Global, second: u64) -> Result<String, AllocError>
     ensures { IfOk result (λ text. string_bytes text ≡ gap_words second) }
 {
-    format!(in alloc;
-        "the first jobs lie 10000 slots or more before the others: give --from {second} to begin with the others, or --to {second} to end before them"
-    )
+    let mut text = String::new(alloc);
+    add_from(&mut text, second)?;
+    add_to(&mut text, second)?;
+    text.push_str(": the first jobs lie 10000 slots or more before the others")?;
+    Ok(text)
 }
