@@ -2,14 +2,16 @@
 //! there were. A table is named after what it tries, up to the first `-` or `.` of its name.
 #![tactic(auto)]
 
+mod export;
+
 use std::{env, fs, io};
 use tetri_tables::Tally;
 
 // Judges the cases of a table. None where nothing is tried by such a name.
 fn judge(rt: &HostRuntime, name: &str, text: &str) -> io::Result<Option<Tally>> {
-    let _text = text;
     let kind = name.split(['-', '.']).next().unwrap_or("");
     match kind {
+        "export" => Ok(Some(export::judge(rt.alloc(), text)?)),
         "none" => Ok(Some(Tally::new(rt.alloc()))),
         _ => Ok(None),
     }
