@@ -230,8 +230,9 @@ fn name_supply(
     let mut rest = uses;
     for part in 0..parts.count() {
         let end = rest.partition_point(|one| one.part <= part);
-        name_slots(alloc, inst, part, &rest[..end], rows)?;
-        rest = &rest[end..];
+        let (mine, later) = rest.split_at(end);
+        name_slots(alloc, inst, part, mine, rows)?;
+        rest = later;
     }
     Ok(())
 }
