@@ -33,31 +33,34 @@ fn wish_of(words: &str) -> Option<Wish> {
 }
 
 // A cycle of the plan of the trace, with the two shipped advisors.
-fn planned(alloc: Global, shelf: &mut MemShelf, wish: Wish) -> Result<Exported, Status> {
+fn planned(
+    alloc: Global,
+    shelf: &mut MemShelf,
+    wish: Wish,
+) -> Result<Result<Exported, Status>, AllocError> {
     let trace = match read_trace(alloc, shelf, "trace") {
         Ok(trace) => trace,
-        Err(fault) => return Err(status_of(fault)),
+        Err(fault) => return Ok(Err(status_of(fault))),
     };
-    let by_deadline: Box<dyn Advisor> = Box::new(alloc, ByDeadline::new()).map_err(no_memory)?;
-    let by_worth: Box<dyn Advisor> = Box::new(alloc, ByWorth::new()).map_err(no_memory)?;
+    let by_deadline: Box<dyn Advisor> = Box::new(alloc, ByDeadline::new())?;
+    let by_worth: Box<dyn Advisor> = Box::new(alloc, ByWorth::new())?;
     let mut panel = Panel::new(alloc);
     if panel.seat(by_deadline).is_err() || panel.seat(by_worth).is_err() {
-        return Err(Status::NoMemory);
+        return Err(AllocError);
     }
-    match export_cycle(alloc, &trace, wish.cycle, wish.format, &mut panel) {
-        Ok(exported) => Ok(exported),
-        Err(AllocError) => Err(Status::NoMemory),
-    }
-}
-
-fn no_memory(_error: AllocError) -> Status {
-    Status::NoMemory
+    let exported = export_cycle(alloc, &trace, wish.cycle, wish.format, &mut panel)?;
+    Ok(Ok(exported))
 }
 
 // What comes of a wish.
-fn exported(alloc: Global, shelf: &mut MemShelf, wish: Wish) -> Result<Exported, Status> {
+fn exported(
+    alloc: Global,
+    shelf: &mut MemShelf,
+    wish: Wish,
+) -> Result<Result<Exported, Status>, AllocError> {
     if wish.is_report {
-        return export_report(alloc, "trace", "report", wish.cycle, wish.format, shelf);
+        let outcome = export_report(alloc, "trace", "report", wish.cycle, wish.format, shelf);
+        return Ok(outcome);
     }
     planned(alloc, shelf, wish)
 }
@@ -107,7 +110,7 @@ fn judge_text(
     let mut shelf = MemShelf::new(alloc, 65_536, &[])?;
     shelf.put("trace", given.trace.as_bytes())?;
     shelf.put("report", given.report.as_bytes())?;
-    let text = told(alloc, exported(alloc, &mut shelf, wish))?;
+    let text = told(alloc, exported(alloc, &mut shelf, wish)?)?;
     let wanted = format!(in alloc; "{body}\n")?;
     if is_size {
         let size = size_of(alloc, text.as_str())?;
