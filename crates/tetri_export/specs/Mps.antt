@@ -53,7 +53,7 @@ boxes_text columns ls us =
     flat_map (λ k. bound_lines (name_at columns k) (number_at ls k) (number_at us k)) (range_with_len 0 (length ls))
 
 abbrev pub rows_section : List (List ℕ) → ℕ → List ℕ
-rows_section names n = codes "NAME cycle\nROWS\n N value\n L none\n" ++ limits_text names n
+rows_section names n = codes "NAME cycle FREE\nROWS\n N value\n L none\n" ++ limits_text names n
 
 abbrev pub columns_section : List (List ℕ) → List (List ℕ) → List ℤ → List Entry → List ℕ
 columns_section columns names cs es =

@@ -144,7 +144,7 @@ fn add_rows_section(out: &mut String, names: &[String], count: usize) -> Result<
     ensures { OnOk result (string_bytes out.new ≡ string_bytes out.old
         ++ rows_section (map string_bytes names.now) count) }
 {
-    out.push_str("NAME cycle\nROWS\n N value\n L none\n")?;
+    out.push_str("NAME cycle FREE\nROWS\n N value\n L none\n")?;
     add_limits(out, names, count)?;
     Ok(())
 }
