@@ -4,6 +4,7 @@ ghost use Rattle.tetri_trace.specs.Sound.{IsSound};
 ghost use Rattle.std.specs.Prelude.{IfOk};
 
 use crate::named::{Shelf, open_report, open_trace};
+use crate::refusals::end_of;
 use crate::said::end;
 use clap::{Arg, ArgMatches};
 use std::alloc::{AllocError, Global};
@@ -51,7 +52,7 @@ pub fn report_account(
     open_report(rt, shelf, report)?;
     match account_report(rt.alloc(), trace, report, shelf) {
         Ok((trace, account)) => Ok(Run { trace, account }),
-        Err(status) => Err(end(rt, &status, trace, report)),
+        Err(status) => Err(end_of(rt, shelf, &status, trace, report)),
     }
 }
 

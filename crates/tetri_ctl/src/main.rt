@@ -10,13 +10,13 @@ mod check;
 mod compare;
 mod export;
 mod import;
-mod lint;
 mod jobs;
+mod lint;
 mod named;
 mod orders;
 mod plan;
-mod refusals;
 mod queue;
+mod refusals;
 mod said;
 mod stats;
 
@@ -38,8 +38,7 @@ fn command<'a>(alloc: Global) -> Result<Command<'a>, AllocError> {
     Command::new(alloc, "tetri_ctl")
         .bin_name("tetri_ctl")?
         .about(
-            "What people use around tetri: plans, checks, imports, pictures, bounds, exports, lint",
-            "What people use around tetri: plans, checks, imports, pictures, bounds, exports, queues",
+            "What people use around tetri: plans, checks, imports, pictures, accounts, bounds, exports, lint, queues",
         )
         .version(VERSION)
         .propagate_version(true)
@@ -55,7 +54,7 @@ fn command<'a>(alloc: Global) -> Result<Command<'a>, AllocError> {
         .subcommand(compare::command(alloc)?)?
         .subcommand(bound::command(alloc)?)?
         .subcommand(export::command(alloc)?)?
-        .subcommand(lint::command(alloc)?)
+        .subcommand(lint::command(alloc)?)?
         .subcommand(queue::command(alloc)?)?
         .subcommand(orders::command(alloc)?)
 }

@@ -1,6 +1,7 @@
 // `tetri_ctl orders TRACE REPORT`
 use crate::named::{Shelf, open_report, open_trace, report_word, trace_word};
-use crate::said::{NO_MEMORY, REFUSED, WRITE_FAULT, complain, end};
+use crate::refusals::end_of;
+use crate::said::{NO_MEMORY, REFUSED, WRITE_FAULT, complain};
 use clap::{Arg, ArgAction, ArgMatches, Command};
 use std::alloc::{AllocError, Global};
 use tetri_io::{StdSink, send_all};
@@ -38,7 +39,7 @@ fn ordered(rt: &HostRuntime, trace: &str, report: &str, form: OrderForm) -> Resu
     let mut launches = Launches::new(rt.alloc());
     let kept = match check_seen(rt.alloc(), trace, report, &mut shelf, &mut launches) {
         Ok(kept) => kept,
-        Err(status) => return Err(end(rt, &status, trace, report)),
+        Err(status) => return Err(end_of(rt, &mut shelf, &status, trace, report)),
     };
     match orders_text(rt.alloc(), form, &kept, &launches) {
         Ok(text) => Ok(text),

@@ -33,10 +33,10 @@ pub fn complain(rt: &HostRuntime, name: &str, what: &str) {
     let _said = eprintln!(rt; "tetri_ctl: {name}: {what}");
 }
 
-/// Says that the program of a cycle is too large to be made.
+/// Says that the program of a cycle has more columns than numbers of columns tell.
 pub fn too_large(rt: &HostRuntime, name: &str, columns: u64, rows: u64) {
     let name = shown(name);
-    let what = "the program is larger than 2000 columns and rows";
+    let what = "the program is larger than 2147483647 columns";
     let _said = eprintln!(rt; "tetri_ctl: {name}: {what}: {columns} columns, {rows} rows");
 }
 

@@ -2,12 +2,13 @@
 //! there were. A table is named after what it tries, up to the first `-` or `.` of its name.
 #![tactic(auto)]
 
-mod policies;
-mod lint;
-mod swift;
-mod prices;
 mod accounts;
+mod export;
+mod lint;
+mod policies;
+mod prices;
 mod queue;
+mod swift;
 
 use std::{env, fs, io};
 use tetri_tables::Tally;
@@ -16,13 +17,13 @@ use tetri_tables::Tally;
 fn judge(rt: &HostRuntime, name: &str, text: &str) -> io::Result<Option<Tally>> {
     let kind = name.split(['-', '.']).next().unwrap_or("");
     match kind {
-        "policies" => Ok(Some(policies::judge(rt.alloc(), text)?)),
-        "lint" => Ok(Some(lint::judge(rt.alloc(), text)?)),
-        "swift" => Ok(Some(swift::judge(rt.alloc(), text)?)),
-        "prices" => Ok(Some(prices::judge(rt.alloc(), text)?)),
         "accounts" => Ok(Some(accounts::judge(rt.alloc(), text)?)),
-        "none" => Ok(Some(Tally::new(rt.alloc()))),
+        "export" => Ok(Some(export::judge(rt.alloc(), text)?)),
+        "lint" => Ok(Some(lint::judge(rt.alloc(), text)?)),
+        "policies" => Ok(Some(policies::judge(rt.alloc(), text)?)),
+        "prices" => Ok(Some(prices::judge(rt.alloc(), text)?)),
         "queue" => Ok(Some(queue::judge(rt.alloc(), text)?)),
+        "swift" => Ok(Some(swift::judge(rt.alloc(), text)?)),
         _ => Ok(None),
     }
 }
