@@ -1,10 +1,10 @@
 // Dictionaries of the dual simplex method over bounded variables. A column is one variable, its number
 // less the lower bound, or, where it is mirrored, the upper bound less its number; both are 0 or more.
 
-use crate::goal::{put_in_goal, Goal};
+use crate::goal::{part, put_in_goal, Goal, ONE, SHARE};
 use crate::lines::{mirror, places, put_in, solve_for, Line};
 use crate::numbers::{at, name_at, narrow, plus, wide_at};
-use crate::programs::{add_product, Program, Region, Row};
+use crate::programs::{add_product, product, Program, Region, Row};
 
 /// Variables by name: a column by its number, and the slack of a row by its number behind the columns.
 pub struct Dictionary {
@@ -68,20 +68,50 @@ fn first_line(columns: usize, row: &Row, r: &Region, mirrored: &[bool]) -> Optio
     })
 }
 
-// The objective, none of whose numbers is above 0.
+// The most that a number of the first objective is lessened by, over `ONE`: all columns of the
+// program's box together make less than a unit over `SHARE` of it.
+fn most_lessened(p: &Program) -> i128 {
+    let mut widths: i128 = 0;
+    for (column, upper) in p.upper.iter().enumerate() {
+        widths = widths.saturating_add(upper.saturating_sub(wide_at(&p.lower, column)));
+    }
+    part(part(ONE, SHARE), widths).max(1)
+}
+
+// The next of a row of numbers without a pattern (Lehmer 1951).
+fn next_seed(seed: u64) -> u64 {
+    seed.wrapping_mul(6_364_136_223_846_793_005)
+        .wrapping_add(1_442_695_040_888_963_407)
+}
+
+// A number from 1 to the most.
+fn lessened(seed: u64, most: i128) -> i128 {
+    if most <= 1 {
+        return 1;
+    }
+    ((seed >> 33) as i128 % most).saturating_add(1)
+}
+
+// A number of the first objective: what a unit of the column's variable costs, and a little more.
+fn first_number(cost: i128, less: i128) -> Option<i128> {
+    Some(product(cost.min(cost.wrapping_neg()), ONE)?.saturating_sub(less))
+}
+
+// The objective, each of whose numbers is below 0. Each is a little less than the program's, so that
+// few ratios are the same and pivots lessen the objective (Charnes 1952).
 fn first_goal(p: &Program, r: &Region, mirrored: &[bool]) -> Option<Goal> {
+    let most = most_lessened(p);
+    let mut seed = 1;
     let mut numbers = Vec::with_capacity(p.costs.len());
     let mut constant = 0;
     for (column, cost) in p.costs.iter().enumerate() {
-        let Some(next) = add_product(constant, *cost, base(r, mirrored, column)) else {
-            return None;
-        };
-        constant = next;
-        numbers.push((*cost).min(cost.wrapping_neg()));
+        constant = add_product(constant, *cost, base(r, mirrored, column))?;
+        seed = next_seed(seed);
+        numbers.push(first_number(*cost, lessened(seed, most))?);
     }
     Some(Goal {
-        over: 1,
-        constant,
+        over: ONE,
+        constant: product(constant, ONE)?,
         numbers,
     })
 }

@@ -10,6 +10,12 @@ const LONG: i128 = 1 << 60;
 // What a denominator is rounded to at least.
 const FINE: i128 = 1 << 30;
 
+/// The denominator of the first objective.
+pub const ONE: i128 = 1 << 40;
+
+/// What the numbers of the first objective are lessened by is together at most a unit over this.
+pub const SHARE: i128 = 4;
+
 /// The objective is the constant and the numbers times the nonbasic variables, all over `over`.
 pub struct Goal {
     pub over: i128,
@@ -43,7 +49,8 @@ fn divide(goal: &mut Goal, by: i128) {
     divide_all(&mut goal.numbers, by);
 }
 
-fn divide_all(numbers: &mut [i128], by: i128) {
+/// Divides each number by a number above 0, towards 0.
+pub fn divide_all(numbers: &mut [i128], by: i128) {
     for x in numbers {
         *x = part(*x, by);
     }

@@ -1,6 +1,7 @@
 // The search by an engine that goes on from the dictionary of the node above, in plain Rust: the same
 // rules as tetri_swift. It reads a program of numbers from standard input, whose lower bounds are 0.
-// usage: plain BUDGET BYTES
+// It prints the best objective, the nodes and the nanoseconds, and where LOW is given, which is known at first, the last whole point.
+// usage: plain BUDGET BYTES [LOW]
 
 mod columns;
 mod dictionary;
@@ -47,10 +48,17 @@ fn read() -> Program {
 }
 
 // The mark of a region, whose whole point counts at once; where nothing passes, a split in the middle.
-fn mark_of(p: &Program, r: &Region, best: &mut u64, engine: &mut Swift) -> Mark {
+fn mark_of(
+    p: &Program,
+    r: &Region,
+    best: &mut u64,
+    last: &mut Vec<i128>,
+    engine: &mut Swift,
+) -> Mark {
     let Some(j) = (0..r.lower.len()).find(|&j| r.lower[j] < r.upper[j]) else {
-        if p.holds(r, &r.lower) {
-            *best = (*best).max(p.worth(&r.lower) as u64);
+        if p.holds(r, &r.lower) && *best < p.worth(&r.lower) as u64 {
+            *best = p.worth(&r.lower) as u64;
+            *last = r.lower.clone();
         }
         return Mark::Close {};
     };
@@ -61,6 +69,7 @@ fn mark_of(p: &Program, r: &Region, best: &mut u64, engine: &mut Swift) -> Mark 
         Some(Proposal::Close { .. }) => Mark::Close {},
         Some(Proposal::Whole { point, .. }) => {
             *best = p.worth(&point) as u64;
+            *last = point;
             Mark::Whole {}
         }
         Some(Proposal::Split { column, at }) => Mark::Split { column, at },
@@ -74,9 +83,9 @@ fn mark_of(p: &Program, r: &Region, best: &mut u64, engine: &mut Swift) -> Mark 
     }
 }
 
-// The best objective, and how many nodes are no rests.
-fn search(p: &Program, budget: u32, keep: usize) -> (u64, u32) {
-    let (mut best, mut used) = (0, 0);
+// The best objective, how many nodes are no rests, and the last whole point.
+fn search(p: &Program, budget: u32, keep: usize, low: u64) -> (u64, u32, Vec<i128>) {
+    let (mut best, mut used, mut last) = (low, 0, vec![]);
     let mut engine = Swift::new(keep);
     let mut open = vec![Region {
         lower: p.lower.clone(),
@@ -84,7 +93,7 @@ fn search(p: &Program, budget: u32, keep: usize) -> (u64, u32) {
     }];
     while let Some(r) = open.pop() {
         let mark = if used < budget {
-            mark_of(p, &r, &mut best, &mut engine)
+            mark_of(p, &r, &mut best, &mut last, &mut engine)
         } else {
             Mark::Rest {}
         };
@@ -98,7 +107,7 @@ fn search(p: &Program, budget: u32, keep: usize) -> (u64, u32) {
             open.extend([low, high]);
         }
     }
-    (best, used)
+    (best, used, last)
 }
 
 fn main() {
@@ -108,6 +117,11 @@ fn main() {
         .collect();
     let p = read();
     let begun = Instant::now();
-    let (best, nodes) = search(&p, words[0] as u32, words[1]);
+    let low = words.get(2).copied();
+    let (best, nodes, last) = search(&p, words[0] as u32, words[1], low.unwrap_or(0) as u64);
     println!("{best} {nodes} {}", begun.elapsed().as_nanos());
+    if low.is_some() {
+        let point: Vec<String> = last.iter().map(|x| x.to_string()).collect();
+        println!("{}", point.join(" "));
+    }
 }

@@ -1,10 +1,13 @@
 // What the end of a node's pivots proposes.
 
 use crate::dictionary::{is_mirrored, Dictionary};
-use crate::goal::{divisor, part};
+use crate::goal::{divide_all, divisor, part};
 use crate::numbers::{at, name_at, wide_at};
 use crate::programs::{add_product, of_point, Frac, Program, Proposal, Region, Weight};
 use crate::repair::End;
+
+// Weights are rounded to this denominator: any of 0 or more bound a region.
+const FINE: i128 = 1 << 20;
 
 fn put(numbers: &mut [i128], place: usize, x: i128) {
     if place < numbers.len() {
@@ -41,7 +44,9 @@ fn goal_weights(p: &Program, d: &Dictionary) -> (i128, Vec<Weight>) {
             put(&mut numbers, variable - columns, loss);
         }
     }
-    lowest(d.goal.over, &numbers)
+    let by = part(d.goal.over, FINE);
+    divide_all(&mut numbers, by);
+    lowest(part(d.goal.over, by), &numbers)
 }
 
 // The weights that show that a line's variable is below 0 at each point.

@@ -37,8 +37,9 @@ fn known_worth(inst: &Instance, carry: &Allotment, given: &[Allotment]) -> u64
     most
 }
 
-// Puts the plan that prices lead to behind these lists, where it is lawful.
-fn add_priced(
+/// Looks for prices, and puts the plan that they lead to behind these lists, where it is lawful. Its
+/// only error is want of memory.
+pub fn add_priced(
     alloc: Global,
     inst: &Instance,
     carry: &Allotment,

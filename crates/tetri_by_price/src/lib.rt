@@ -3,4 +3,4 @@
 
 mod by_price;
 
-pub use by_price::ByPrice;
+pub use by_price::{ByPrice, add_priced};

@@ -1,5 +1,5 @@
 // The words of an import.
-use clap::{Arg, ArgMatches, Command, value_parser};
+use clap::{Arg, ArgAction, ArgMatches, Command, value_parser};
 use std::alloc::{AllocError, Global};
 use tetri_logs::{Format, Options, Worth, seconds_in};
 use tetri_request::Class;
@@ -10,6 +10,8 @@ pub struct Asked<'a> {
     pub format: Format,
     pub log: &'a str,
     pub options: Options,
+    /// The file for the lines that are left out.
+    pub rejects: Option<&'a str>,
 }
 
 // An option that holds a number.
@@ -49,7 +51,7 @@ fn with_cycles<'a>(alloc: Global, command: Command<'a>) -> Result<Command<'a>, A
         .arg(number(
             alloc,
             "nodes",
-            "number of nodes [default: what the log says]",
+            "number of nodes [default: what the log says of them]",
         ))?
         .arg(number(
             alloc,
@@ -89,6 +91,19 @@ fn with_jobs<'a>(alloc: Global, command: Command<'a>) -> Result<Command<'a>, All
         ))
 }
 
+// With what is asked of jobs that share nodes, and of lines that are left out.
+fn with_rejects<'a>(alloc: Global, command: Command<'a>) -> Result<Command<'a>, AllocError> {
+    let whole = Arg::new(alloc, "whole-nodes-only")
+        .long("whole-nodes-only")
+        .action(ArgAction::SetTrue)
+        .help("leave out jobs with fewer processors than a node has");
+    let rejects = Arg::new(alloc, "rejects")
+        .long("rejects")
+        .value_name("FILE")
+        .help("write each line that is left out, with its number and its cause");
+    command.arg(whole)?.arg(rejects)
+}
+
 /// The words of the command.
 pub fn import_command<'a>(alloc: Global) -> Result<Command<'a>, AllocError> {
     let format = Arg::new(alloc, "FORMAT")
@@ -102,7 +117,7 @@ pub fn import_command<'a>(alloc: Global) -> Result<Command<'a>, AllocError> {
         .after_help("Example: tetri_ctl import swf cluster.swf --slack 12 > cluster.jsonl")
         .arg(format)?
         .arg(log)?;
-    with_jobs(alloc, with_cycles(alloc, command)?)
+    with_rejects(alloc, with_jobs(alloc, with_cycles(alloc, command)?)?)
 }
 
 fn number_of(matches: &ArgMatches, name: &str) -> Option<u32> {
@@ -161,10 +176,12 @@ pub fn asked_of<'a>(matches: &ArgMatches<'a>) -> Option<Asked<'a>> {
         worth: worth_of(matches),
         slack: number_of(matches, "slack").unwrap_or(288),
         class: class_of(matches),
+        whole_nodes_only: matches.get_flag("whole-nodes-only"),
     };
     Some(Asked {
         format: format_of(matches),
         log: matches.get_str("LOG").unwrap_or(""),
         options,
+        rejects: matches.get_str("rejects"),
     })
 }

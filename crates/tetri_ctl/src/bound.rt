@@ -1,6 +1,7 @@
 // `tetri_ctl bound TRACE REPORT`
 use crate::named::{Shelf, open_report, open_trace, report_word, trace_word};
-use crate::said::{USAGE, complain, end};
+use crate::refusals::end_of;
+use crate::said::{USAGE, complain};
 use clap::{Arg, ArgAction, ArgMatches, Command};
 use std::alloc::{AllocError, Global};
 use tetri_io::StdSink;
@@ -49,15 +50,18 @@ fn wanted_of(words: &ArgMatches<'_>) -> Option<Wanted> {
 }
 
 // Bounds a report that can be read.
-fn bounded(rt: &HostRuntime, trace: &str, report: &str, wanted: Wanted) -> Result<Status, u8> {
-    let mut shelf = Shelf::new(rt.alloc(), rt);
-    open_trace(rt, &mut shelf, trace)?;
-    open_report(rt, &mut shelf, report)?;
+fn bounded(
+    rt: &HostRuntime,
+    shelf: &mut Shelf<'_>,
+    trace: &str,
+    report: &str,
+    wanted: Wanted,
+) -> Result<Status, u8> {
+    open_trace(rt, shelf, trace)?;
+    open_report(rt, shelf, report)?;
     let mut sink = StdSink::new(rt.stdout());
     let alloc = rt.alloc();
-    Ok(price_report(
-        alloc, trace, report, wanted, BySearch, &mut shelf, &mut sink,
-    ))
+    Ok(price_report(alloc, trace, report, wanted, BySearch, shelf, &mut sink))
 }
 
 /// Tells of what the words name, and gives the exit number.
@@ -68,8 +72,9 @@ pub fn run(rt: &HostRuntime, words: &ArgMatches<'_>) -> u8 {
         complain(rt, "bound", "slots are two numbers, as 8-16");
         return USAGE;
     };
-    match bounded(rt, trace, report, wanted) {
-        Ok(status) => end(rt, &status, trace, report),
+    let mut shelf = Shelf::new(rt.alloc(), rt);
+    match bounded(rt, &mut shelf, trace, report, wanted) {
+        Ok(status) => end_of(rt, &mut shelf, &status, trace, report),
         Err(number) => number,
     }
 }

@@ -1,6 +1,7 @@
 // `tetri_ctl chart TRACE REPORT`
 use crate::named::{Shelf, open_report, open_trace, report_word, trace_word};
-use crate::said::{USAGE, complain, end};
+use crate::refusals::end_of;
+use crate::said::{USAGE, complain};
 use clap::{Arg, ArgMatches, Command, value_parser};
 use std::alloc::{AllocError, Global};
 use tetri_chart::chart;
@@ -23,12 +24,17 @@ pub fn command<'a>(alloc: Global) -> Result<Command<'a>, AllocError> {
 }
 
 // Draws a report that can be read.
-fn drawn(rt: &HostRuntime, trace: &str, report: &str, cycle: Option<u32>) -> Result<Status, u8> {
-    let mut shelf = Shelf::new(rt.alloc(), rt);
-    open_trace(rt, &mut shelf, trace)?;
-    open_report(rt, &mut shelf, report)?;
+fn drawn(
+    rt: &HostRuntime,
+    shelf: &mut Shelf<'_>,
+    trace: &str,
+    report: &str,
+    cycle: Option<u32>,
+) -> Result<Status, u8> {
+    open_trace(rt, shelf, trace)?;
+    open_report(rt, shelf, report)?;
     let mut sink = StdSink::new(rt.stdout());
-    Ok(chart(rt.alloc(), trace, report, cycle, &mut shelf, &mut sink))
+    Ok(chart(rt.alloc(), trace, report, cycle, shelf, &mut sink))
 }
 
 /// Draws what the words name, and gives the exit number.
@@ -36,12 +42,13 @@ pub fn run(rt: &HostRuntime, words: &ArgMatches<'_>) -> u8 {
     let trace = words.get_str("TRACE").unwrap_or("");
     let report = words.get_str("REPORT").unwrap_or("");
     let cycle = words.get_one::<u32>("cycle");
-    match drawn(rt, trace, report, cycle) {
+    let mut shelf = Shelf::new(rt.alloc(), rt);
+    match drawn(rt, &mut shelf, trace, report, cycle) {
         Ok(Status::Usage) => {
             complain(rt, report, "the run has no such cycle");
             USAGE
         }
-        Ok(status) => end(rt, &status, trace, report),
+        Ok(status) => end_of(rt, &mut shelf, &status, trace, report),
         Err(number) => number,
     }
 }

@@ -1,6 +1,6 @@
 // `tetri_ctl check TRACE REPORT`
 use crate::named::{Shelf, open_report, open_trace, report_word, trace_word};
-use crate::said::end;
+use crate::refusals::end_of;
 use clap::{ArgMatches, Command};
 use std::alloc::{AllocError, Global};
 use tetri_io::StdSink;
@@ -16,20 +16,25 @@ pub fn command<'a>(alloc: Global) -> Result<Command<'a>, AllocError> {
 }
 
 // Checks a report that can be read.
-fn checked(rt: &HostRuntime, trace: &str, report: &str) -> Result<Status, u8> {
-    let mut shelf = Shelf::new(rt.alloc(), rt);
-    open_trace(rt, &mut shelf, trace)?;
-    open_report(rt, &mut shelf, report)?;
+fn checked(
+    rt: &HostRuntime,
+    shelf: &mut Shelf<'_>,
+    trace: &str,
+    report: &str,
+) -> Result<Status, u8> {
+    open_trace(rt, shelf, trace)?;
+    open_report(rt, shelf, report)?;
     let mut sink = StdSink::new(rt.stdout());
-    Ok(run_check(rt.alloc(), trace, report, &mut shelf, &mut sink))
+    Ok(run_check(rt.alloc(), trace, report, shelf, &mut sink))
 }
 
 /// Checks what the words name, and gives the exit number.
 pub fn run(rt: &HostRuntime, words: &ArgMatches<'_>) -> u8 {
     let trace = words.get_str("TRACE").unwrap_or("");
     let report = words.get_str("REPORT").unwrap_or("");
-    match checked(rt, trace, report) {
-        Ok(status) => end(rt, &status, trace, report),
+    let mut shelf = Shelf::new(rt.alloc(), rt);
+    match checked(rt, &mut shelf, trace, report) {
+        Ok(status) => end_of(rt, &mut shelf, &status, trace, report),
         Err(number) => number,
     }
 }

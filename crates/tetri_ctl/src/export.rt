@@ -1,13 +1,15 @@
-// `tetri_ctl export TRACE --cycle N`
-use crate::named::{Shelf, open_trace, trace_word};
+// `tetri_ctl export TRACE [REPORT] --cycle N`
+use crate::named::{Shelf, open_report, open_trace, report_word, trace_word};
+use crate::refusals::end_of;
 use crate::said::{REFUSED, USAGE, complain, end, too_large};
 use clap::{Arg, ArgMatches, Command, value_parser};
 use std::alloc::{AllocError, Global};
 use tetri_advice::{Advisor, Panel};
+use tetri_export::Format;
 use tetri_greedy::{ByDeadline, ByWorth};
 use tetri_io::{Failed, StdSink, send_all};
 use tetri_notice::TraceFault;
-use tetri_programs::{Exported, export_cycle};
+use tetri_programs::{Exported, export_cycle, export_report};
 use tetri_run::{Status, status_of};
 use tetri_trace::read_trace;
 
@@ -21,14 +23,26 @@ pub fn command<'a>(alloc: Global) -> Result<Command<'a>, AllocError> {
         .help("the cycle whose program is written");
     let format = Arg::new(alloc, "format")
         .long("format")
-        .value_parser(["lp"].as_slice())
+        .value_parser(["lp", "mps"].as_slice())
         .help("how it is written [default: lp]");
+    let report = report_word(alloc)
+        .required(false)
+        .help("the report whose run it is, a file or -");
     Command::new(alloc, "export")
-        .about("Writes the integer program of a cycle of a plan, for other solvers")
+        .about("Writes the integer program of a cycle of a run, for other solvers")
         .after_help("Example: tetri_ctl export day.jsonl --cycle 8 > day8.lp")
         .arg(trace_word(alloc))?
+        .arg(report)?
         .arg(cycle)?
         .arg(format)
+}
+
+// The format that the words ask for.
+fn format_of(words: &ArgMatches<'_>) -> Format {
+    match words.get_str("format") {
+        Some("mps") => Format::Mps,
+        _ => Format::Lp,
+    }
 }
 
 // The program of a cycle of a trace, if that can be read. The two shipped advisors are asked in the cycles before it.
@@ -37,6 +51,7 @@ fn seat_and_export(
     shelf: &mut Shelf<'_>,
     name: &str,
     cycle: u32,
+    format: Format,
 ) -> Result<Result<Exported, TraceFault>, AllocError> {
     let trace = match read_trace(rt.alloc(), shelf, name) {
         Ok(trace) => trace,
@@ -48,7 +63,22 @@ fn seat_and_export(
     if panel.seat(by_deadline).is_err() || panel.seat(by_worth).is_err() {
         return Err(AllocError);
     }
-    Ok(Ok(export_cycle(rt.alloc(), &trace, cycle, &mut panel)?))
+    Ok(Ok(export_cycle(rt.alloc(), &trace, cycle, format, &mut panel)?))
+}
+
+// The program of a cycle of a plan, or how it ends without one.
+fn planned(
+    rt: &HostRuntime,
+    shelf: &mut Shelf<'_>,
+    name: &str,
+    cycle: u32,
+    format: Format,
+) -> Result<Exported, Status> {
+    match seat_and_export(rt, shelf, name, cycle, format) {
+        Ok(Ok(exported)) => Ok(exported),
+        Ok(Err(fault)) => Err(status_of(fault)),
+        Err(AllocError) => Err(Status::NoMemory),
+    }
 }
 
 // Writes a program.
@@ -60,7 +90,7 @@ fn write_text(rt: &HostRuntime, text: &str) -> Status {
     }
 }
 
-// Writes what there is of a cycle, or says why there is nothing, and gives the exit number.
+// Writes what there is of a cycle of the run that a name tells, or says why there is nothing, and gives the exit number.
 fn written(rt: &HostRuntime, name: &str, exported: &Exported) -> u8 {
     match exported {
         Exported::Text(text) => end(rt, &write_text(rt, text.as_str()), name, ""),
@@ -75,17 +105,40 @@ fn written(rt: &HostRuntime, name: &str, exported: &Exported) -> u8 {
     }
 }
 
-/// Exports what the words name, and gives the exit number.
-pub fn run(rt: &HostRuntime, words: &ArgMatches<'_>) -> u8 {
-    let name = words.get_str("TRACE").unwrap_or("");
-    let cycle = words.get_one::<u32>("cycle").unwrap_or(0);
+// Exports a cycle of a plan of a trace, and gives the exit number.
+fn run_plan(rt: &HostRuntime, trace: &str, cycle: u32, format: Format) -> u8 {
     let mut shelf = Shelf::new(rt.alloc(), rt);
-    if let Err(number) = open_trace(rt, &mut shelf, name) {
+    if let Err(number) = open_trace(rt, &mut shelf, trace) {
         return number;
     }
-    match seat_and_export(rt, &mut shelf, name, cycle) {
-        Ok(Ok(exported)) => written(rt, name, &exported),
-        Ok(Err(fault)) => end(rt, &status_of(fault), name, ""),
-        Err(AllocError) => end(rt, &Status::NoMemory, name, ""),
+    match planned(rt, &mut shelf, trace, cycle, format) {
+        Ok(exported) => written(rt, trace, &exported),
+        Err(status) => end_of(rt, &mut shelf, &status, trace, ""),
+    }
+}
+
+// Exports a cycle of the run of a report, and gives the exit number.
+fn run_report(rt: &HostRuntime, trace: &str, report: &str, cycle: u32, format: Format) -> u8 {
+    let mut shelf = Shelf::new(rt.alloc(), rt);
+    if let Err(number) = open_trace(rt, &mut shelf, trace) {
+        return number;
+    }
+    if let Err(number) = open_report(rt, &mut shelf, report) {
+        return number;
+    }
+    match export_report(rt.alloc(), trace, report, cycle, format, &mut shelf) {
+        Ok(exported) => written(rt, report, &exported),
+        Err(status) => end_of(rt, &mut shelf, &status, trace, report),
+    }
+}
+
+/// Exports what the words name, and gives the exit number.
+pub fn run(rt: &HostRuntime, words: &ArgMatches<'_>) -> u8 {
+    let trace = words.get_str("TRACE").unwrap_or("");
+    let cycle = words.get_one::<u32>("cycle").unwrap_or(0);
+    let format = format_of(words);
+    match words.get_str("REPORT") {
+        Some(report) => run_report(rt, trace, report, cycle, format),
+        None => run_plan(rt, trace, cycle, format),
     }
 }

@@ -1,14 +1,15 @@
 // `tetri_ctl import FORMAT LOG`
 use crate::asked::{Asked, asked_of, import_command};
-use crate::said::{
-    BAD_INPUT, NO_MEMORY, READ_FAULT, REFUSED, USAGE, WRITE_FAULT, complain, unread,
-};
+use crate::said::{NO_MEMORY, READ_FAULT, REFUSED, USAGE, WRITE_FAULT, complain, unread};
 use clap::{ArgMatches, Command};
 use std::alloc::{AllocError, Global};
 use std::fs;
 use tetri_io::{StdSink, send_all};
+use tetri_logs::{Cause, Reject};
 use tetri_pipes::{Unread, read_whole};
-use tetri_workload::{ImportFault, Imported, counts_text, fault_text, import};
+use tetri_workload::{
+    ImportFault, Imported, counts_text, fault_text, import, reason_text, rejects_text,
+};
 
 /// The words of the command.
 pub fn command<'a>(alloc: Global) -> Result<Command<'a>, AllocError> {
@@ -35,26 +36,78 @@ fn write_trace(rt: &HostRuntime, imported: &Imported) -> u8 {
     }
 }
 
-// Writes the trace and then the counts. A trace without a job is none: then the counts say why.
-fn write_out(rt: &HostRuntime, name: &str, imported: &Imported) -> Result<u8, AllocError> {
+// Writes each line that is left out into a file.
+fn write_rejects(
+    rt: &HostRuntime,
+    name: &str,
+    log: &[u8],
+    imported: &Imported,
+) -> Result<u8, AllocError> {
+    let text = rejects_text(rt.alloc(), log, imported.left.as_slice())?;
+    match fs::write(rt, name, text.as_slice()) {
+        Ok(()) => Ok(0),
+        Err(error) => {
+            let _said = eprintln!(rt; "tetri_ctl: {name}: {error}");
+            Ok(WRITE_FAULT)
+        }
+    }
+}
+
+// The first line that is none of its format.
+fn first_unreadable(left: &[Reject]) -> Option<Reject> {
+    for reject in left {
+        if let Cause::Unreadable(_) = reject.cause {
+            return Some(*reject);
+        }
+    }
+    None
+}
+
+// Says that nothing is taken, and at which column the first line stops being one that could not be read.
+fn refuse_all(rt: &HostRuntime, name: &str, imported: &Imported) -> Result<u8, AllocError> {
+    complain(rt, name, "no line of the log is a job that is taken");
+    if let Some(reject) = first_unreadable(&imported.left) {
+        let reason = reason_text(rt.alloc(), reject)?;
+        let text = format!(in rt.alloc(); "line {reason}")?;
+        complain(rt, name, text.as_str());
+    }
+    Ok(REFUSED)
+}
+
+// Writes what is left out, the trace and then the counts. A trace without a job is none: then the counts say why.
+fn write_out(
+    rt: &HostRuntime,
+    asked: &Asked,
+    log: &[u8],
+    imported: &Imported,
+) -> Result<u8, AllocError> {
     let counts = counts_text(rt.alloc(), imported)?;
+    if let Some(name) = asked.rejects {
+        let status = write_rejects(rt, name, log, imported)?;
+        if status != 0 {
+            return Ok(status);
+        }
+    }
     if imported.jobs == 0 {
         let _told = rt.eprint(counts.as_str());
-        complain(rt, name, "no line of the log is a job that is taken");
-        return Ok(BAD_INPUT);
+        return refuse_all(rt, asked.log, imported);
     }
     let status = write_trace(rt, imported);
     if status == 0 {
         let _told = rt.eprint(counts.as_str());
+        complain(rt, asked.log, "all nodes are taken as alike");
     }
     Ok(status)
 }
 
 // Says why there is no trace, and gives the exit number.
 fn refuse(rt: &HostRuntime, name: &str, fault: ImportFault) -> u8 {
-    complain(rt, name, fault_text(fault));
+    match fault_text(rt.alloc(), fault) {
+        Ok(text) => complain(rt, name, text.as_str()),
+        Err(AllocError) => complain(rt, name, "out of memory"),
+    }
     match fault {
-        ImportFault::Options(_) => USAGE,
+        ImportFault::Options(_) | ImportFault::Apart(_) => USAGE,
         ImportFault::Unlike => REFUSED,
         ImportFault::NoMemory => NO_MEMORY,
     }
@@ -67,7 +120,7 @@ fn run_asked(rt: &HostRuntime, asked: &Asked) -> u8 {
         Err(why) => return unread(rt, asked.log, &why, READ_FAULT),
     };
     match import(rt.alloc(), asked.format, &asked.options, &log) {
-        Ok(imported) => match write_out(rt, asked.log, &imported) {
+        Ok(imported) => match write_out(rt, asked, &log, &imported) {
             Ok(status) => status,
             Err(AllocError) => refuse(rt, asked.log, ImportFault::NoMemory),
         },

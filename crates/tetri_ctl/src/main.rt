@@ -2,15 +2,23 @@
 //! output, and says on standard error what is wrong with which of them.
 #![tactic(auto)]
 
+mod accounted;
 mod asked;
 mod bound;
 mod chart;
 mod check;
+mod compare;
 mod export;
 mod import;
+mod jobs;
+mod lint;
 mod named;
+mod orders;
 mod plan;
+mod queue;
+mod refusals;
 mod said;
+mod stats;
 
 use clap::error::ErrorKind;
 use clap::{ArgMatches, Command, Error};
@@ -29,7 +37,9 @@ fn words<R: env::Env + AllocGlobal>(rt: &R) -> io::Result<Vec<String>> {
 fn command<'a>(alloc: Global) -> Result<Command<'a>, AllocError> {
     Command::new(alloc, "tetri_ctl")
         .bin_name("tetri_ctl")?
-        .about("What people use around tetri: plans, checks, imports, pictures, bounds, exports")
+        .about(
+            "What people use around tetri: plans, checks, imports, pictures, accounts, bounds, exports, lint, queues",
+        )
         .version(VERSION)
         .propagate_version(true)
         .subcommand_required(true)
@@ -39,8 +49,14 @@ fn command<'a>(alloc: Global) -> Result<Command<'a>, AllocError> {
         .subcommand(check::command(alloc)?)?
         .subcommand(import::command(alloc)?)?
         .subcommand(chart::command(alloc)?)?
+        .subcommand(jobs::command(alloc)?)?
+        .subcommand(stats::command(alloc)?)?
+        .subcommand(compare::command(alloc)?)?
         .subcommand(bound::command(alloc)?)?
-        .subcommand(export::command(alloc)?)
+        .subcommand(export::command(alloc)?)?
+        .subcommand(lint::command(alloc)?)?
+        .subcommand(queue::command(alloc)?)?
+        .subcommand(orders::command(alloc)?)
 }
 
 // What the words are read as. Standard input is named once at most.
@@ -64,8 +80,14 @@ fn run(rt: &HostRuntime, matches: &ArgMatches<'_>) -> u8 {
         Some(("check", inner)) => check::run(rt, inner),
         Some(("import", inner)) => import::run(rt, inner),
         Some(("chart", inner)) => chart::run(rt, inner),
+        Some(("jobs", inner)) => jobs::run(rt, inner),
+        Some(("stats", inner)) => stats::run(rt, inner),
+        Some(("compare", inner)) => compare::run(rt, inner),
         Some(("bound", inner)) => bound::run(rt, inner),
         Some(("export", inner)) => export::run(rt, inner),
+        Some(("lint", inner)) => lint::run(rt, inner),
+        Some(("queue", inner)) => queue::run(rt, inner),
+        Some(("orders", inner)) => orders::run(rt, inner),
         _ => USAGE,
     }
 }

@@ -1,10 +1,11 @@
 // `tetri_ctl plan TRACE`
 use crate::named::{Shelf, open_trace, trace_word};
-use crate::said::end;
+use crate::refusals::end_of;
 use clap::{Arg, ArgMatches, Command};
 use std::alloc::{AllocError, Global};
 use tetri_advice::{Advisor, Panel};
 use tetri_by_price::ByPrice;
+use tetri_by_swift::BySwift;
 use tetri_greedy::{ByDeadline, ByWorth};
 use tetri_io::StdSink;
 use tetri_run::{ByChooser, Status, run_chosen, run_plan};
@@ -16,14 +17,19 @@ enum Search {
     Exact,
     // By prices of the nodes first.
     Prices,
+    // By prices of the nodes, and by branch and bound that goes on from the node above.
+    Swift,
 }
+
+// The bytes of a plan's copies of dictionaries at most.
+const KEEP_BYTES: usize = 268_435_456;
 
 /// The words of the command.
 pub fn command<'a>(alloc: Global) -> Result<Command<'a>, AllocError> {
     let search = Arg::new(alloc, "search")
         .long("search")
         .value_name("HOW")
-        .value_parser(["exact", "prices"].as_slice())
+        .value_parser(["exact", "prices", "swift"].as_slice())
         .help("how plans are searched for [default: exact]");
     Command::new(alloc, "plan")
         .about("Plans a trace, and writes its report, as tetri plan does")
@@ -35,6 +41,7 @@ pub fn command<'a>(alloc: Global) -> Result<Command<'a>, AllocError> {
 fn search_of(words: &ArgMatches<'_>) -> Search {
     match words.get_str("search") {
         Some("prices") => Search::Prices,
+        Some("swift") => Search::Swift,
         _ => Search::Exact,
     }
 }
@@ -61,6 +68,12 @@ fn seat_and_plan(
             };
             Ok(run_chosen(rt.alloc(), trace, shelf, &mut sink, &mut planner))
         }
+        Search::Swift => {
+            let mut planner = ByChooser {
+                chooser: BySwift::new(panel, KEEP_BYTES),
+            };
+            Ok(run_chosen(rt.alloc(), trace, shelf, &mut sink, &mut planner))
+        }
     }
 }
 
@@ -75,5 +88,5 @@ pub fn run(rt: &HostRuntime, words: &ArgMatches<'_>) -> u8 {
         Ok(status) => status,
         Err(AllocError) => Status::NoMemory,
     };
-    end(rt, &status, trace, "")
+    end_of(rt, &mut shelf, &status, trace, "")
 }

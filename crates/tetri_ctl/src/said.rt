@@ -22,8 +22,8 @@ pub const BAD_INPUT: u8 = 5;
 /// There is no memory.
 pub const NO_MEMORY: u8 = 6;
 
-// A name as it is shown.
-fn shown(name: &str) -> &str {
+/// A name as it is shown.
+pub fn shown(name: &str) -> &str {
     if name == "-" { "standard input" } else { name }
 }
 
@@ -33,10 +33,10 @@ pub fn complain(rt: &HostRuntime, name: &str, what: &str) {
     let _said = eprintln!(rt; "tetri_ctl: {name}: {what}");
 }
 
-/// Says that the program of a cycle is too large to be made.
+/// Says that the program of a cycle has more columns than numbers of columns tell.
 pub fn too_large(rt: &HostRuntime, name: &str, columns: u64, rows: u64) {
     let name = shown(name);
-    let what = "the program is larger than 2000 columns and rows";
+    let what = "the program is larger than 2147483647 columns";
     let _said = eprintln!(rt; "tetri_ctl: {name}: {what}: {columns} columns, {rows} rows");
 }
 
@@ -94,4 +94,9 @@ pub fn end(rt: &HostRuntime, status: &Status, trace: &str, report: &str) -> u8 {
     }
     let mut errors = StdSink::new(rt.stderr());
     conclude(rt.alloc(), status, &mut errors)
+}
+
+/// Says that there is no memory, and gives the exit number.
+pub fn no_memory(rt: &HostRuntime) -> u8 {
+    end(rt, &Status::NoMemory, "", "")
 }

@@ -2,7 +2,13 @@
 //! there were. A table is named after what it tries, up to the first `-` or `.` of its name.
 #![tactic(auto)]
 
+mod accounts;
+mod export;
+mod lint;
+mod policies;
 mod prices;
+mod queue;
+mod swift;
 
 use std::{env, fs, io};
 use tetri_tables::Tally;
@@ -11,7 +17,13 @@ use tetri_tables::Tally;
 fn judge(rt: &HostRuntime, name: &str, text: &str) -> io::Result<Option<Tally>> {
     let kind = name.split(['-', '.']).next().unwrap_or("");
     match kind {
+        "accounts" => Ok(Some(accounts::judge(rt.alloc(), text)?)),
+        "export" => Ok(Some(export::judge(rt.alloc(), text)?)),
+        "lint" => Ok(Some(lint::judge(rt.alloc(), text)?)),
+        "policies" => Ok(Some(policies::judge(rt.alloc(), text)?)),
         "prices" => Ok(Some(prices::judge(rt.alloc(), text)?)),
+        "queue" => Ok(Some(queue::judge(rt.alloc(), text)?)),
+        "swift" => Ok(Some(swift::judge(rt.alloc(), text)?)),
         _ => Ok(None),
     }
 }

@@ -9,8 +9,8 @@ use crate::plain::{
 use std::alloc::AllocError;
 use tetri_ip::{Program, Row, Term};
 
-// The name at a place, and none past the end.
-fn name_at(names: &[String], place: usize) -> &str
+/// The name at a place, and none past the end.
+pub(crate) fn name_at(names: &[String], place: usize) -> &str
     ensures { result.now ≡ name_at (map string_bytes names.now) place }
 {
     if place < names.len() {

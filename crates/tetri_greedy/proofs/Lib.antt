@@ -1,3 +1,4 @@
+pub mod GreedyLaws
 pub mod Marks
 pub mod OpenLemmas
 pub mod Placing

@@ -21,7 +21,7 @@ use Rattle.tetri_greedy.specs.declared.order.Ranked.{Ranked}
 use Rattle.tetri_greedy.proofs.Marks.{in_window, tells_all}
 
 mutual
-  good_leaves : (t : Tree) → made.IsSound t → EachLeaf made.IsGoodLeaf t
+  pub good_leaves : (t : Tree) → made.IsSound t → EachLeaf made.IsGoodLeaf t
   good_leaves (one l) sound = sound.0
   good_leaves (join op ts) sound = good_leaves_of ts sound.1
   good_leaves (scale t v) sound = good_leaves t sound.0
@@ -71,7 +71,7 @@ module _ (s : Space) (job : ℕ) (taken : Leaf → ℕ → Bool) (few : s.window
   or_none false ps h = tt
 
   mutual
-    holdable : (held : List Placement) (t : Tree) → made.IsSound t → EachLeaf (HasKnownSet s) t → AreHoldable s.now s.nodes (fit_beside s job taken held t)
+    pub holdable : (held : List Placement) (t : Tree) → made.IsSound t → EachLeaf (HasKnownSet s) t → AreHoldable s.now s.nodes (fit_beside s job taken held t)
     holdable held (one l) sound known = leaf_holdable held l sound.0 known
     holdable held (join greatest ts) sound known = best_holdable held ts (0, []) sound.1 known tt
     holdable held (join least ts) sound known = or_none (all_fit s job taken held ts) (fits s job taken held ts) (all_holdable held ts sound.1 known)

@@ -1,36 +1,55 @@
 -- What a line of a log is.
-use Rattle.std.specs.Prelude.{ℕ, ◌==◌, ◌||◌, List, length, None, Result, Ok, Err, if◌then◌else◌}
+use Rattle.std.specs.Prelude.{ℕ, ◌+◌, ◌==◌, List, length, Option, Some, None, unwrap_or, Result, Ok, Err, if◌then◌else◌}
 use Rattle.tetri_cluster.specs.Names.{is_name}
-use Rattle.tetri_io.specs.Words.{parts_at}
 use Rattle.tetri_logs.specs.Facts.{fact_in}
-use Rattle.tetri_logs.specs.Sacct.{is_header, sacct_account, without_return}
-use Rattle.tetri_logs.specs.Swf.{is_comment, swf_account, word_at}
-use Rattle.tetri_logs.specs.Words.{words_of}
+use Rattle.tetri_logs.specs.Header.{header_in, is_header}
+use Rattle.tetri_logs.specs.Sacct.{cell, id_name, row_of, sacct_account, without_return}
+use Rattle.tetri_logs.specs.Swf.{is_comment, swf_account}
+use Rattle.tetri_logs.specs.Words.{word_at, words_of}
 use Rattle.tetri_logs.specs.declared.account.Account.{Account}
 use Rattle.tetri_logs.specs.declared.entry.Cause.{Cause}
-use Rattle.tetri_logs.specs.declared.entry.Cause.TheVariants.{Beyond}
+use Rattle.tetri_logs.specs.declared.entry.Cause.TheVariants.{Unreadable, Beyond}
 use Rattle.tetri_logs.specs.declared.entry.Entry.{Entry}
 use Rattle.tetri_logs.specs.declared.entry.Entry.TheVariants.{Job, Comment, Left}
-use Rattle.tetri_logs.specs.declared.entry.Format.{Format}
-use Rattle.tetri_logs.specs.declared.entry.Format.TheVariants.{Swf, Sacct}
+use Rattle.tetri_logs.specs.declared.header.Header.{Header}
+use Rattle.tetri_logs.specs.declared.layout.Layout.{Layout}
+use Rattle.tetri_logs.specs.declared.layout.Layout.TheVariants.{Words, Table}
+
+abbrev pub left_at : ℕ → Cause → Entry
+left_at line cause = Left (record { line = line; cause = cause })
 
 -- a job with this name, if it is one
-abbrev pub with_name : List ℕ → Result Account Cause → Entry
-with_name name (Err cause) = Left cause
-with_name name (Ok account) = if is_name name then Job (record { name = name; account = account }) else Left Beyond
+abbrev pub with_name : ℕ → List ℕ → Result Account Cause → Entry
+with_name line name (Err cause) = left_at line cause
+with_name line name (Ok account) = if is_name name then Job (record { line = line; name = name; account = account }) else left_at line Beyond
 
-abbrev pub swf_entry : List ℕ → Entry
-swf_entry line =
-    let words = words_of line in
-    if is_comment line then Comment (fact_in words) else with_name (word_at words 0) (swf_account words)
+abbrev pub swf_entry : ℕ → List ℕ → Entry
+swf_entry line text =
+    let words = words_of text in
+    if is_comment text then Comment (fact_in words) else with_name line (word_at words 0) (swf_account words)
 
-abbrev pub sacct_entry : List ℕ → Entry
-sacct_entry line =
-    let row = without_return line in
-    let columns = parts_at 124 row in
-    if length row == 0 || is_header columns then Comment None else with_name (word_at columns 0) (sacct_account columns)
+-- a header in which a column is missing stops being one behind the last
+abbrev pub header_entry : ℕ → List (List ℕ) → Option Header → Entry
+header_entry line row (Some h) = Comment None
+header_entry line row None = left_at line (Unreadable (length row + 1))
 
--- what a line is in a format
-abbrev pub entry_of : Format → List ℕ → Entry
-entry_of Swf line = swf_entry line
-entry_of Sacct line = sacct_entry line
+abbrev pub table_entry : Header → ℕ → List ℕ → Entry
+table_entry h line text =
+    let row = row_of text in
+    if length (without_return text) == 0 then Comment None
+    else (if is_header row then header_entry line row (header_in row) else with_name line (id_name (cell row h.id)) (sacct_account h row))
+
+-- what a line with this number is, in a layout
+abbrev pub entry_of : Layout → ℕ → List ℕ → Entry
+entry_of Words line text = swf_entry line text
+entry_of (Table h) line text = table_entry h line text
+
+-- the columns of a line and of those behind it: a header says which there are
+abbrev pub header_at : Header → List ℕ → Header
+header_at h text =
+    if length (without_return text) == 0 then h
+    else (if is_header (row_of text) then unwrap_or (header_in (row_of text)) h else h)
+
+abbrev pub layout_at : Layout → List ℕ → Layout
+layout_at Words text = Words
+layout_at (Table h) text = Table (header_at h text)

@@ -5,9 +5,13 @@ pub mod Lines
 pub mod Calendar
 pub mod Times
 pub mod Swf
+pub mod Header
+pub mod Limits
 pub mod Sacct
+pub mod Layout
 pub mod Entry
 pub mod Reading
 pub mod Options
 pub mod Scale
 pub mod Placing
+pub mod Origin

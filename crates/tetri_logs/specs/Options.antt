@@ -1,5 +1,5 @@
 -- What a caller asks for, and what follows from it and the log.
-use Rattle.std.specs.Prelude.{ℕ, ◌+◌, ◌-◌, ◌/◌, ◌≤◌, ◌&&◌, ◌^◌, max, nat_le, nat_lt, Option, Some, None, unwrap_or, Result, Ok, Err, if◌then◌else◌}
+use Rattle.std.specs.Prelude.{ℕ, ◌-◌, ◌/◌, ◌≤◌, ◌&&◌, ◌^◌, max, nat_le, nat_lt, Option, Some, None, unwrap_or, Result, Ok, Err, if◌then◌else◌}
 use Rattle.tetri_base.specs.ResultSteps.{◌>>=◌}
 use Rattle.tetri_logs.specs.declared.options.Options.{Options}
 use Rattle.tetri_logs.specs.declared.options.OptionFault.{OptionFault}
@@ -20,21 +20,29 @@ node_size None nodes = 1
 abbrev pub processors_of : Options → Facts → ℕ
 processors_of o f = unwrap_or o.processors (node_size f.processors f.nodes)
 
-abbrev pub cluster_size : ℕ → Option ℕ → Option ℕ → ℕ
-cluster_size processors (Some nodes) all = nodes
-cluster_size processors None (Some all) = all / processors
-cluster_size processors None None = 0
+-- So many nodes that they have the log's processors, where their size is given and the log has processors; else the log's nodes. What the
+-- log does not say counts as 0.
+abbrev pub cluster_size : Option ℕ → ℕ → Option ℕ → Option ℕ → ℕ
+cluster_size (Some given) processors nodes (Some all) = all / processors
+cluster_size (Some given) processors nodes None = unwrap_or nodes 0
+cluster_size None processors (Some nodes) all = nodes
+cluster_size None processors None all = unwrap_or all 0 / processors
 
--- the number of nodes: by default the log's, or else so many that they have the log's processors
+-- the number of nodes, of so many processors each: by default what the log says of them
 abbrev pub cluster_of : Options → Facts → ℕ → ℕ
-cluster_of o f processors = unwrap_or o.nodes (cluster_size processors f.nodes f.processors)
+cluster_of o f processors = unwrap_or o.nodes (cluster_size o.processors processors f.nodes f.processors)
 
--- how jobs become a trace, where the first of them was submitted at this second of the log's clock
-unfoldable pub settings_of : Options → Facts → ℕ → Result Settings OptionFault
-settings_of o f first = do
+-- whose number of nodes it is that cannot be
+abbrev pub nodes_fault : Option ℕ → OptionFault
+nodes_fault (Some nodes) = faults.Nodes
+nodes_fault None = faults.LogNodes
+
+-- how jobs become a trace, where slot 0 is not known
+unfoldable pub settings_of : Options → Facts → Result Settings OptionFault
+settings_of o f = do
   slot ← within o.slot 1 1000000 faults.Slot
   processors ← within (processors_of o f) 1 (2 ^ 32 - 1) faults.Processors
-  nodes ← within (cluster_of o f processors) 1 4096 faults.Nodes
+  nodes ← within (cluster_of o f processors) 1 4096 (nodes_fault o.nodes)
   window ← within o.window 1 64 faults.Window
   budget ← within o.budget 1 10000 faults.Budget
   unit ← within o.unit 1 1000000 faults.Unit
@@ -47,18 +55,20 @@ settings_of o f first = do
     budget = budget;
     unit = unit;
     start = f.start;
-    origin = unwrap_or o.from (f.start + first);
+    origin = 0;
     from = unwrap_or o.from 0;
     to = unwrap_or o.to (2 ^ 64 - 1);
     most = unwrap_or o.jobs (2 ^ 32 - 1);
     worth = o.worth;
     slack = slack;
     class = o.class;
+    whole_nodes_only = o.whole_nodes_only;
   })
 
 -- what follows of settings
 pub record AreGood (s : Settings) : Type 0 where
   pub some_slot : 1 ≤ s.slot
+  pub few_seconds : s.slot ≤ 1000000
   pub some_processors : 1 ≤ s.processors
   pub some_nodes : 1 ≤ s.nodes
   pub few_nodes : s.nodes ≤ 4096

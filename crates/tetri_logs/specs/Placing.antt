@@ -1,12 +1,12 @@
 -- The place of a job in a trace.
-use Rattle.std.specs.Prelude.{ℕ, ◌<◌, ◌≤◌, IfSome, ℤ, pos, ◌-ℤ◌, ◌+◌, ◌*◌, ◌/◌, ◌||◌, Bool, false, nat_le, nat_lt, Option, Some, None, Result, Ok, Err, if◌then◌else◌}
+use Rattle.std.specs.Prelude.{ℕ, ◌<◌, ◌≤◌, IfSome, ℤ, pos, ◌-ℤ◌, ◌+◌, ◌*◌, ◌/◌, ◌||◌, ◌&&◌, Bool, false, nat_le, nat_lt, Option, Some, None, Result, Ok, Err, if◌then◌else◌}
 use Rattle.tetri_base.specs.ResultSteps.{◌>>=◌}
 use Rattle.tetri_logs.specs.Swf.{refused}
 use Rattle.tetri_logs.specs.declared.account.Account.{Account}
 use Rattle.tetri_logs.specs.declared.entry.Cause.{Cause}
-use Rattle.tetri_logs.specs.declared.entry.Cause.TheVariants.{TooLarge, Outside, Beyond}
+use Rattle.tetri_logs.specs.declared.entry.Cause.TheVariants.{TooLarge, PartNode, Outside, Beyond}
 use Rattle.tetri_request.specs.declared.ask.Ask.{Ask}
-use Rattle.tetri_logs.specs.Scale.{moment_of, nodes_of, slot_of, slots_of, worth_of}
+use Rattle.tetri_logs.specs.Scale.{is_part_node, moment_of, nodes_of, slot_of, slots_of, worth_of}
 use Rattle.tetri_logs.specs.declared.options.Settings.{Settings}
 use Rattle.tetri_logs.specs.declared.placing.Placing.{Placing}
 
@@ -17,6 +17,10 @@ is_outside s moment = nat_lt moment s.from || nat_le s.to moment
 -- a slot of a run
 abbrev pub within_run : ℕ → Result ℕ Cause
 within_run slot = if nat_lt slot 10000 then Ok slot else Err Beyond
+
+-- the slot in which a job arrives, not before slot 0
+abbrev pub arrival_of : Settings → ℕ → Result ℕ Cause
+arrival_of s moment = if nat_lt moment s.origin then Err Beyond else within_run (slot_of s moment)
 
 -- so many slots as a run may last
 abbrev pub within_slots : ℕ → Result ℕ Cause
@@ -42,13 +46,14 @@ ask_of s nodes slots =
 unfoldable pub place : Settings → Account → Result Placing Cause
 place s a = do
   wanted ← refused (is_outside s (moment_of s a)) Outside
-  fits ← refused (nat_lt s.nodes (nodes_of s a.width)) TooLarge
-  arrival ← within_run (slot_of s (moment_of s a))
+  fits ← refused (nat_lt s.nodes (nodes_of s a)) TooLarge
+  whole ← refused (s.whole_nodes_only && is_part_node s a) PartNode
+  arrival ← arrival_of s (moment_of s a)
   slots ← within_slots (slots_of s a.limit)
   late ← late_of s slots a.ran
   cancel ← cancel_of s (moment_of s a) a.waited
-  ask ← ask_of s (nodes_of s a.width) slots
-  Ok (record { arrival = arrival; late = late; ask = ask; cancel = cancel })
+  ask ← ask_of s (nodes_of s a) slots
+  Ok (record { arrival = arrival; late = late; ask = ask; cancel = cancel; part_node = is_part_node s a })
 
 -- in a run of 10,000 slots
 pub record IsPlaced (p : Placing) : Type 0 where

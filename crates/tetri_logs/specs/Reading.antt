@@ -1,38 +1,48 @@
 -- What a log says.
-use Rattle.std.specs.Prelude.{ℕ, ◌-◌, ◌^◌, min, List, [], ◌∷◌, Bool, true, false, map, Option, Some, None}
-use Rattle.tetri_logs.specs.Entry.{entry_of}
+use Rattle.std.specs.Prelude.{ℕ, ◌+◌, List, [], ◌∷◌, Bool, true, false, Option, Some, None}
+use Rattle.tetri_logs.specs.Entry.{entry_of, layout_at}
+use Rattle.tetri_logs.specs.Layout.{first_layout}
 use Rattle.tetri_logs.specs.Lines.{log_lines}
-use Rattle.tetri_logs.specs.declared.entry.Cause.{Cause}
+use Rattle.tetri_logs.specs.declared.entry.Reject.{Reject}
 use Rattle.tetri_logs.specs.declared.entry.Entry.{Entry}
 use Rattle.tetri_logs.specs.declared.entry.Entry.TheVariants.{Job, Comment, Left}
 use Rattle.tetri_logs.specs.declared.entry.Format.{Format}
 use Rattle.tetri_logs.specs.declared.entry.LoggedJob.{LoggedJob}
 use Rattle.tetri_logs.specs.declared.comments.Fact.{Fact}
 use Rattle.tetri_logs.specs.declared.comments.Fact.TheVariants.{Nodes, Processors, Start}
+use Rattle.tetri_logs.specs.declared.layout.Layout.{Layout}
 use Rattle.tetri_logs.specs.declared.reading.Facts.{Facts}
 
--- what the lines of a log are
+-- what lines are, where the first has this number and those before it left this layout
+abbrev pub entries_from : Layout → ℕ → List (List ℕ) → List Entry
+entries_from layout number [] = []
+entries_from layout number (line ∷ lines) = entry_of layout number line ∷ entries_from (layout_at layout line) (number + 1) lines
+
+-- what all lines of a log are
+abbrev pub entries_of : Format → List (List ℕ) → List Entry
+entries_of format lines = entries_from (first_layout format) 1 lines
+
 abbrev pub entries : Format → List ℕ → List Entry
-entries format log = map (entry_of format) (log_lines log)
+entries format log = entries_of format (log_lines log)
 
 -- the jobs, in the order of the log
 abbrev pub jobs_in : List Entry → List LoggedJob
 jobs_in [] = []
 jobs_in (Job job ∷ es) = job ∷ jobs_in es
 jobs_in (Comment fact ∷ es) = jobs_in es
-jobs_in (Left cause ∷ es) = jobs_in es
+jobs_in (Left reject ∷ es) = jobs_in es
 
--- why lines bring no job
-abbrev pub left_in : List Entry → List Cause
+-- the lines that bring no job
+abbrev pub left_in : List Entry → List Reject
 left_in [] = []
 left_in (Job job ∷ es) = left_in es
 left_in (Comment fact ∷ es) = left_in es
-left_in (Left cause ∷ es) = cause ∷ left_in es
+left_in (Left reject ∷ es) = reject ∷ left_in es
 
 abbrev pub is_comment : Entry → Bool
 is_comment (Job job) = false
 is_comment (Comment fact) = true
-is_comment (Left cause) = false
+is_comment (Left reject) = false
 
 abbrev pub no_facts : Facts
 no_facts = record { nodes = None; processors = None; start = 0 }
@@ -49,9 +59,4 @@ abbrev pub facts_in : Facts → List Entry → Facts
 facts_in f [] = f
 facts_in f (Job job ∷ es) = facts_in f es
 facts_in f (Comment fact ∷ es) = facts_in (with_fact f fact) es
-facts_in f (Left cause ∷ es) = facts_in f es
-
--- the least second at which a job was submitted
-abbrev pub first_submit : List LoggedJob → ℕ
-first_submit [] = 2 ^ 32 - 1
-first_submit (job ∷ jobs) = min job.account.submit (first_submit jobs)
+facts_in f (Left reject ∷ es) = facts_in f es

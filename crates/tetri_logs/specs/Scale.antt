@@ -1,5 +1,5 @@
 -- Seconds as slots, and processors as nodes.
-use Rattle.std.specs.Prelude.{ℕ, ◌+◌, ◌-◌, ◌*◌, ◌/◌, max}
+use Rattle.std.specs.Prelude.{ℕ, ◌+◌, ◌-◌, ◌*◌, ◌/◌, Bool, max, nat_lt, unwrap_or}
 use Rattle.tetri_logs.specs.declared.account.Account.{Account}
 use Rattle.tetri_logs.specs.declared.options.Settings.{Settings}
 use Rattle.tetri_logs.specs.declared.options.Worth.{Worth}
@@ -18,8 +18,16 @@ abbrev pub slots_of : Settings → ℕ → ℕ
 slots_of s seconds = max ((seconds + s.slot - 1) / s.slot) 1
 
 -- how many nodes have so many processors
-abbrev pub nodes_of : Settings → ℕ → ℕ
-nodes_of s width = (width + s.processors - 1) / s.processors
+abbrev pub nodes_with : Settings → ℕ → ℕ
+nodes_with s processors = (processors + s.processors - 1) / s.processors
+
+-- how many nodes a job asks for: those that the log counts, or so many that they have its processors
+abbrev pub nodes_of : Settings → Account → ℕ
+nodes_of s a = unwrap_or a.nodes (nodes_with s (unwrap_or a.processors 0))
+
+-- whether a job asks for fewer processors than a node has
+abbrev pub is_part_node : Settings → Account → Bool
+is_part_node s a = nat_lt (unwrap_or a.processors s.processors) s.processors
 
 abbrev pub worth_by : Worth → ℕ → ℕ → ℕ
 worth_by NodeSlots nodes slots = nodes * slots

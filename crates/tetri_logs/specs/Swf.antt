@@ -1,8 +1,8 @@
 -- A line of the Standard Workload Format.
-use Rattle.std.specs.Prelude.{ℕ, ◌==◌, ◌||◌, Bool, true, false, not, List, [], ◌∷◌, length, slice_index_or, Option, Some, None, Result, Ok, Err, if◌then◌else◌}
+use Rattle.std.specs.Prelude.{ℕ, ◌+◌, ◌==◌, ◌||◌, Bool, true, false, not, List, [], ◌∷◌, length, min, Option, Some, None, Result, Ok, Err, if◌then◌else◌}
 use Rattle.tetri_base.specs.ResultSteps.{◌>>=◌}
 use Rattle.tetri_logs.specs.Account.{account_of, positive}
-use Rattle.tetri_logs.specs.Words.{amount, needed}
+use Rattle.tetri_logs.specs.Words.{amount, count_in, needed, word_at}
 use Rattle.tetri_io.specs.Words.{is_blank}
 use Rattle.tetri_logs.specs.declared.account.Account.{Account}
 use Rattle.tetri_logs.specs.declared.entry.Cause.{Cause}
@@ -36,23 +36,19 @@ abbrev pub refused : Bool → Cause → Result (Unit {0}) Cause
 refused true cause = Err cause
 refused false cause = Ok tt
 
--- a word by its place
-abbrev pub word_at : List (List ℕ) → ℕ → List ℕ
-word_at words place = slice_index_or words place []
-
--- what 18 words say of a job: its number, when it was submitted, how long it waited and ran, on how many processors, how many it asked for,
--- for how long, and how it ended
+-- What 18 words say of a job: its number, when it was submitted, how long it waited and ran, on how many processors, how many it asked
+-- for, for how long, and how it ended. A part of a job needs nothing but its status: when it was submitted may stand with the first alone.
 unfoldable pub swf_account : List (List ℕ) → Result Account Cause
 swf_account words = do
-  whole ← refused (not (length words == 18)) Unreadable
-  number ← needed (word_at words 0)
-  submit ← needed (word_at words 1)
-  wait ← amount (word_at words 2)
-  ran ← amount (word_at words 3)
-  given ← amount (word_at words 4)
-  asked ← amount (word_at words 7)
-  limit ← amount (word_at words 8)
-  status ← amount (word_at words 10)
-  job ← refused (is_part status) Step
+  whole ← refused (not (length words == 18)) (Unreadable (min (length words) 18 + 1))
+  job ← refused (is_part (count_in (word_at words 10))) Step
+  number ← needed 1 (word_at words 0)
+  submit ← needed 2 (word_at words 1)
+  wait ← amount 3 (word_at words 2)
+  ran ← amount 4 (word_at words 3)
+  given ← amount 5 (word_at words 4)
+  asked ← amount 8 (word_at words 7)
+  limit ← amount 9 (word_at words 8)
+  status ← amount 11 (word_at words 10)
   width ← width_of asked given
-  Ok (account_of (record { submit = submit; width = width; limit = limit; ran = ran; wait = wait; cancelled = is_known_as 5 status }))
+  Ok (account_of (record { submit = submit; nodes = None; processors = Some width; limit = limit; ran = ran; wait = wait; cancelled = is_known_as 5 status }))

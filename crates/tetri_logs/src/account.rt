@@ -7,8 +7,10 @@ ghost use Rattle.tetri_logs.specs.Account.{account_of, positive};
 pub struct Account {
     /// When it was submitted.
     pub submit: u32,
-    /// How many processors or nodes it asked for, one at least.
-    pub width: u32,
+    /// How many nodes it asked for, one at least, where the log counts nodes.
+    pub nodes: Option<u32>,
+    /// How many processors it asked for, one at least, where the log says it.
+    pub processors: Option<u32>,
     /// For how long it asked for them: what it ran, where it is not known.
     pub limit: u32,
     /// How long it ran, where it is known.
@@ -21,7 +23,8 @@ pub struct Account {
 #[derive(Clone, Copy)]
 pub(crate) struct Columns {
     pub(crate) submit: u32,
-    pub(crate) width: u32,
+    pub(crate) nodes: Option<u32>,
+    pub(crate) processors: Option<u32>,
     pub(crate) limit: Option<u32>,
     pub(crate) ran: Option<u32>,
     pub(crate) wait: Option<u32>,
@@ -44,7 +47,8 @@ pub(crate) fn account_of(columns: Columns) -> Account
 {
     let Columns {
         submit,
-        width,
+        nodes,
+        processors,
         limit,
         ran,
         wait,
@@ -54,7 +58,8 @@ pub(crate) fn account_of(columns: Columns) -> Account
     if cancelled && positive(ran).is_none() {
         Account {
             submit,
-            width,
+            nodes,
+            processors,
             limit,
             ran: None,
             waited: Some(wait.unwrap_or(0)),
@@ -62,7 +67,8 @@ pub(crate) fn account_of(columns: Columns) -> Account
     } else {
         Account {
             submit,
-            width,
+            nodes,
+            processors,
             limit,
             ran,
             waited: None,

@@ -1,34 +1,46 @@
 // What a line of a log is.
-ghost use Rattle.std.specs.Prelude.{◌≡◌, IfOk, map};
-ghost use Rattle.tetri_logs.specs.Entry.{entry_of, sacct_entry, swf_entry, with_name};
-ghost use Rattle.tetri_logs.specs.Swf.{word_at};
+ghost use Rattle.std.specs.Prelude.{◌≡◌, IfOk, OnOk, map};
+ghost use Rattle.tetri_logs.specs.Entry.{entry_of, header_at, header_entry, layout_at, swf_entry, table_entry, with_name};
+ghost use Rattle.tetri_logs.specs.Sacct.{id_name};
 
 use crate::account::Account;
 use crate::comments::{Fact, fact_in};
-use crate::sacct::{is_header, sacct_account, without_return};
+use crate::header::{Header, header_in, is_header};
+use crate::layout::Layout;
+use crate::sacct::{cell, pointed_id, row_of, sacct_account, without_return};
 use crate::swf::{is_comment, swf_account};
-use crate::words::words_of;
+use crate::words::{word_at, words_of};
 use std::alloc::{AllocError, Global};
 use tetri_cluster::{Name, NameFault};
-use tetri_io::parts_at;
 
-/// Why a line of a log brings no job.
+/// Why a line of a log brings no job, or why a job of it is not taken.
 #[derive(Clone, Copy, Debug, PartialEq, Eq)]
 pub enum Cause {
-    /// It is no line of its format.
-    Unreadable,
+    /// It is no line of its format. This column, counted from 1, is the first that is read and is not what it should be.
+    Unreadable(usize),
     /// It speaks of a part of a job.
     Step,
     /// The job has no nodes.
     NoNodes,
+    /// The job ended before it began, or before it was submitted.
+    Backwards,
     /// The job asks for more nodes than there are.
     TooLarge,
+    /// The job asks for fewer processors than a node has, and jobs with whole nodes alone are wanted.
+    PartNode,
     /// The job is outside the part of the log that is asked for.
     Outside,
     /// An earlier job has its name.
     Repeated,
     /// It is beyond what a trace can say.
     Beyond,
+}
+
+/// A line that brings no job, or a job that is not taken, by the number of the line, counted from 1.
+#[derive(Clone, Copy)]
+pub struct Reject {
+    pub line: usize,
+    pub cause: Cause,
 }
 
 /// The formats of a log.
@@ -40,9 +52,10 @@ pub enum Format {
     Sacct,
 }
 
-/// A job of a log.
+/// A job of a log, with the number of its line.
 #[derive(Drop)]
 pub struct LoggedJob {
+    pub line: usize,
     pub name: Name,
     pub account: Account,
 }
@@ -52,65 +65,111 @@ pub struct LoggedJob {
 pub enum Entry {
     Job(LoggedJob),
     Comment(Option<Fact>),
-    Left(Cause),
+    Left(Reject),
 }
 
 // A job with this name, if it is one.
 fn with_name(
     alloc: Global,
+    line: usize,
     name: &[u8],
     account: Result<Account, Cause>,
 ) -> Result<Entry, AllocError>
-    ensures { IfOk result (λ e. e ≡ with_name name.now account) }
+    ensures { IfOk result (λ e. e ≡ with_name line name.now account) }
 {
     let account = match account {
         Ok(account) => account,
-        Err(cause) => return Ok(Entry::Left(cause)),
+        Err(cause) => return Ok(Entry::Left(Reject { line, cause })),
     };
     match Name::read(alloc, name) {
-        Ok(name) => Ok(Entry::Job(LoggedJob { name, account })),
-        Err(NameFault::NotName) => Ok(Entry::Left(Cause::Beyond)),
+        Ok(name) => Ok(Entry::Job(LoggedJob {
+            line,
+            name,
+            account,
+        })),
+        Err(NameFault::NotName) => Ok(Entry::Left(Reject {
+            line,
+            cause: Cause::Beyond,
+        })),
         Err(NameFault::NoMemory) => Err(AllocError),
     }
 }
 
-// The first of these, or nothing.
-fn first_of<'a>(words: &[&'a [u8]]) -> &'a [u8]
-    ensures { result.now ≡ word_at (map (λ w. w.now) words.now) 0 }
+fn swf_entry(alloc: Global, line: usize, text: &[u8]) -> Result<Entry, AllocError>
+    ensures { IfOk result (λ e. e ≡ swf_entry line text.now) }
 {
-    match words.first() {
-        Some(first) => first,
-        None => b"",
-    }
-}
-
-fn swf_entry(alloc: Global, line: &[u8]) -> Result<Entry, AllocError>
-    ensures { IfOk result (λ e. e ≡ swf_entry line.now) }
-{
-    let words = words_of(alloc, line)?;
-    if is_comment(line) {
+    let words = words_of(alloc, text)?;
+    if is_comment(text) {
         return Ok(Entry::Comment(fact_in(&words)));
     }
-    with_name(alloc, first_of(&words), swf_account(&words))
+    with_name(alloc, line, word_at(&words, 0), swf_account(&words))
 }
 
-fn sacct_entry(alloc: Global, line: &[u8]) -> Result<Entry, AllocError>
-    ensures { IfOk result (λ e. e ≡ sacct_entry line.now) }
+// What a header is, where it is known whether each column is there that is needed.
+fn header_entry(line: usize, row: &[&[u8]], header: Option<Header>) -> Entry
+    ensures { result ≡ header_entry line (map (λ w. w.now) row.now) header }
 {
-    let line = without_return(line);
-    let columns = parts_at(alloc, b'|', line)?;
-    if line.is_empty() || is_header(&columns) {
+    match header {
+        Some(_) => Entry::Comment(None),
+        None => Entry::Left(Reject {
+            line,
+            cause: Cause::Unreadable(row.len() + 1),
+        }),
+    }
+}
+
+// A job by its identifier.
+fn with_id(
+    alloc: Global,
+    line: usize,
+    id: &[u8],
+    account: Result<Account, Cause>,
+) -> Result<Entry, AllocError>
+    ensures { IfOk result (λ e. e ≡ with_name line (id_name id.now) account) }
+{
+    if id.contains(&b'+') {
+        let name = pointed_id(alloc, id)?;
+        with_name(alloc, line, &name, account)
+    } else {
+        with_name(alloc, line, id, account)
+    }
+}
+
+// What the columns of a line are. A header says which columns there are.
+fn table_entry(
+    alloc: Global,
+    header: &mut Header,
+    line: usize,
+    text: &[u8],
+) -> Result<Entry, AllocError>
+    ensures entry { IfOk result (λ e. e ≡ table_entry header.old line text.now) }
+    ensures header { OnOk result (header.new ≡ header_at header.old text.now) }
+{
+    if without_return(text).is_empty() {
         return Ok(Entry::Comment(None));
     }
-    with_name(alloc, first_of(&columns), sacct_account(&columns))
+    let row = row_of(alloc, text)?;
+    if is_header(&row) {
+        let named = header_in(&row);
+        *header = named.unwrap_or(*header);
+        return Ok(header_entry(line, &row, named));
+    }
+    let account = sacct_account(header, &row);
+    with_id(alloc, line, cell(&row, header.id), account)
 }
 
-/// What a line of a log is. Its only error is want of memory.
-pub fn read_entry(alloc: Global, format: Format, line: &[u8]) -> Result<Entry, AllocError>
-    ensures { IfOk result (λ e. e ≡ entry_of format line.now) }
+/// What a line with this number is, where the lines before it have left this layout. Its only error is want of memory.
+pub fn read_entry(
+    alloc: Global,
+    layout: &mut Layout,
+    line: usize,
+    text: &[u8],
+) -> Result<Entry, AllocError>
+    ensures entry { IfOk result (λ e. e ≡ entry_of layout.old line text.now) }
+    ensures layout { OnOk result (layout.new ≡ layout_at layout.old text.now) }
 {
-    match format {
-        Format::Swf => swf_entry(alloc, line),
-        Format::Sacct => sacct_entry(alloc, line),
+    match layout {
+        Layout::Words => swf_entry(alloc, line, text),
+        Layout::Table(header) => table_entry(alloc, header, line, text),
     }
 }

@@ -16,8 +16,8 @@ pub fn log_lines(alloc: Global, log: &[u8]) -> Result<Vec<&[u8]>, AllocError>
     Ok(parts)
 }
 
-// Whether the last part has no byte.
-fn ends_empty(parts: &[&[u8]]) -> bool
+/// Whether the last part has no byte.
+pub(crate) fn ends_empty(parts: &[&[u8]]) -> bool
     ensures { result ≡ ends_empty (map (λ x. x.now) parts.now) }
 {
     match parts.last() {

@@ -1,6 +1,6 @@
 // What a caller asks for, and what follows from it and the log.
 ghost use Rattle.std.specs.Prelude.{◌≡◌, ◌≤◌, IfOk};
-ghost use Rattle.tetri_logs.specs.Options.{AreGood, cluster_of, processors_of, settings_of, within};
+ghost use Rattle.tetri_logs.specs.Options.{AreGood, cluster_of, nodes_fault, processors_of, settings_of, within};
 
 use crate::reading::Facts;
 use tetri_request::Class;
@@ -19,7 +19,7 @@ pub enum Worth {
 pub struct Options {
     /// The seconds of a slot, 1 to 1,000,000.
     pub slot: u32,
-    /// The processors of a node; by default what the log says.
+    /// The processors of a node; by default what the log says of them.
     pub processors: Option<u32>,
     /// How many nodes there are, 1 to 4,096; by default what the log says.
     pub nodes: Option<u32>,
@@ -39,6 +39,8 @@ pub struct Options {
     /// How many slots longer than it asks for a job may take from its arrival to its end, at most 10,000.
     pub slack: u32,
     pub class: Class,
+    /// Whether jobs that ask for fewer processors than a node has are left out. Else they take a whole node.
+    pub whole_nodes_only: bool,
 }
 
 /// Why a log is not imported as asked for.
@@ -50,8 +52,10 @@ pub enum OptionFault {
     Budget,
     Unit,
     Slack,
-    /// Neither the log nor the caller says how many nodes there are, or there are more than 4,096 or none.
+    /// The caller asks for more than 4,096 nodes or none.
     Nodes,
+    /// The caller does not say how many nodes there are, and the log does not say it, or says more than 4,096 or none.
+    LogNodes,
 }
 
 /// How jobs become a trace: what was asked for, and what the log says.
@@ -73,6 +77,7 @@ pub struct Settings {
     pub worth: Worth,
     pub slack: u32,
     pub class: Class,
+    pub whole_nodes_only: bool,
 }
 
 // The number, if it is within its limits.
@@ -98,43 +103,54 @@ fn processors_of(options: &Options, facts: Facts) -> u32
     }
 }
 
-// The number of nodes: by default the log's, or else so many that they have the log's processors.
+// The number of nodes, of so many processors each: by default what the log says of them.
 fn cluster_of(options: &Options, facts: Facts, processors: u32) -> u32
     requires { 1 ≤ processors }
     ensures { result ≡ cluster_of options.now facts processors }
 {
-    match (options.nodes, facts.nodes, facts.processors) {
-        (Some(nodes), _, _) => nodes,
-        (None, Some(nodes), _) => nodes,
-        (None, None, Some(all)) => all / processors,
-        (None, None, None) => 0,
+    match (
+        options.nodes,
+        options.processors,
+        facts.nodes,
+        facts.processors,
+    ) {
+        (Some(nodes), _, _, _) => nodes,
+        (None, Some(_), _, Some(all)) => all / processors,
+        (None, Some(_), nodes, None) => nodes.unwrap_or(0),
+        (None, None, Some(nodes), _) => nodes,
+        (None, None, None, all) => all.unwrap_or(0) / processors,
     }
 }
 
-/// How jobs become a trace, where the first of them was submitted at this second of the log's clock.
+// Whose number of nodes it is that cannot be.
+fn nodes_fault(given: Option<u32>) -> OptionFault
+    ensures { result ≡ nodes_fault given }
+{
+    match given {
+        Some(_) => OptionFault::Nodes,
+        None => OptionFault::LogNodes,
+    }
+}
+
+/// How jobs become a trace, where slot 0 is not known. The first option that cannot be is its fault.
 #[tactic(auto, unfolding(crate::specs::Options::settings_of))]
-pub fn settings_of(options: &Options, facts: Facts, first: u32) -> Result<Settings, OptionFault>
-    ensures value { result ≡ settings_of options.now facts first }
+pub fn settings_of(options: &Options, facts: Facts) -> Result<Settings, OptionFault>
+    ensures value { result ≡ settings_of options.now facts }
     ensures good { IfOk result AreGood }
 {
     let slot = within(options.slot, 1, 1_000_000, OptionFault::Slot)?;
     let processors = processors_of(options, facts);
     let processors = within(processors, 1, u32::MAX, OptionFault::Processors)?;
     let nodes = cluster_of(options, facts, processors);
-    let nodes = within(nodes, 1, 4096, OptionFault::Nodes)?;
+    let nodes = within(nodes, 1, 4096, nodes_fault(options.nodes))?;
     let window = within(options.window, 1, 64, OptionFault::Window)?;
     let budget = within(options.budget, 1, 10_000, OptionFault::Budget)?;
     let unit = within(options.unit, 1, 1_000_000, OptionFault::Unit)?;
     let slack = within(options.slack, 0, 10_000, OptionFault::Slack)?;
-    let first = u64::from(facts.start) + u64::from(first);
     let from = options.from.unwrap_or(0);
     let to = match options.to {
         Some(to) => u64::from(to),
         None => u64::MAX,
-    };
-    let origin = match options.from {
-        Some(from) => u64::from(from),
-        None => first,
     };
     Ok(Settings {
         slot,
@@ -144,12 +160,13 @@ pub fn settings_of(options: &Options, facts: Facts, first: u32) -> Result<Settin
         budget,
         unit,
         start: facts.start,
-        origin,
+        origin: 0,
         from: u64::from(from),
         to,
         most: options.jobs.unwrap_or(u32::MAX),
         worth: options.worth,
         slack,
         class: options.class,
+        whole_nodes_only: options.whole_nodes_only,
     })
 }

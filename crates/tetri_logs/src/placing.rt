@@ -1,12 +1,12 @@
 // The place of a job in a trace.
 ghost use Rattle.std.specs.Prelude.{◌≡◌, ◌≤◌, ◌<◌, ◌^◌, IfOk, IfSome};
 ghost use Rattle.tetri_logs.specs.Options.{AreGood};
-ghost use Rattle.tetri_logs.specs.Placing.{IsPlaced, ask_of, cancel_of, is_outside, late_of, place, within_run, within_slots};
+ghost use Rattle.tetri_logs.specs.Placing.{IsPlaced, arrival_of, ask_of, cancel_of, is_outside, late_of, place, within_run, within_slots};
 
 use crate::account::Account;
 use crate::entry::Cause;
 use crate::options::Settings;
-use crate::scale::{moment_of, nodes_of, slot_of, slots_of, worth_of};
+use crate::scale::{is_part_node, moment_of, nodes_of, slot_of, slots_of, worth_of};
 use tetri_request::Ask;
 
 // The slots that a trace has at most, and the greatest worth.
@@ -21,6 +21,8 @@ pub struct Placing {
     pub late: i32,
     pub ask: Ask,
     pub cancel: Option<u32>,
+    /// Whether it asks for fewer processors than a node has, and takes a whole one.
+    pub part_node: bool,
 }
 
 // Whether a job is outside the part of the log that is wanted.
@@ -40,6 +42,18 @@ fn within_run(slot: u64) -> Result<u32, Cause>
     } else {
         Err(Cause::Beyond)
     }
+}
+
+// The slot in which a job arrives, not before slot 0.
+fn arrival_of(settings: &Settings, moment: u64) -> Result<u32, Cause>
+    requires { AreGood settings.now }
+    ensures value { result ≡ arrival_of settings.now moment }
+    ensures small { IfOk result (λ n. n < 10000) }
+{
+    if moment < settings.origin {
+        return Err(Cause::Beyond);
+    }
+    within_run(slot_of(settings, moment))
 }
 
 // How many slots longer than it asked for a job ran.
@@ -108,11 +122,15 @@ pub fn place(settings: &Settings, account: Account) -> Result<Placing, Cause>
     if is_outside(settings, moment) {
         return Err(Cause::Outside);
     }
-    let nodes = nodes_of(settings, account.width);
+    let nodes = nodes_of(settings, account);
     if nodes > u64::from(settings.nodes) {
         return Err(Cause::TooLarge);
     }
-    let arrival = within_run(slot_of(settings, moment))?;
+    let part_node = is_part_node(settings, account);
+    if settings.whole_nodes_only && part_node {
+        return Err(Cause::PartNode);
+    }
+    let arrival = arrival_of(settings, moment)?;
     let slots = within_slots(slots_of(settings, account.limit))?;
     let late = late_of(settings, slots, account.ran)?;
     let cancel = cancel_of(settings, moment, account.waited)?;
@@ -122,6 +140,7 @@ pub fn place(settings: &Settings, account: Account) -> Result<Placing, Cause>
         late,
         ask,
         cancel,
+        part_node,
     })
 }
 

@@ -1,10 +1,11 @@
 // What a log says.
-ghost use Rattle.std.specs.Prelude.{◌≡◌, ◌+◌, ◌≤◌, ◌++◌, ◌∷◌, [], IfOk, OnOk, length};
+ghost use Rattle.std.specs.Prelude.{◌≡◌, ◌+◌, ◌≤◌, ◌++◌, ◌∷◌, [], IfOk, OnOk, length, map};
 ghost use Rattle.tetri_base.specs.Lists.{count};
-ghost use Rattle.tetri_logs.specs.Reading.{entries, facts_in, first_submit, is_comment, jobs_in, left_in, no_facts, with_fact};
+ghost use Rattle.tetri_logs.specs.Reading.{entries, entries_of, facts_in, is_comment, jobs_in, left_in, no_facts, with_fact};
 
 use crate::comments::Fact;
-use crate::entry::{Cause, Entry, Format, LoggedJob, read_entry};
+use crate::entry::{Entry, Format, LoggedJob, Reject, read_entry};
+use crate::layout::first_layout;
 use crate::lines::log_lines;
 use std::alloc::{AllocError, Global};
 
@@ -17,12 +18,12 @@ pub struct Facts {
     pub start: u32,
 }
 
-/// What a log says: its jobs, why other lines bring none, what its comments say, and how many there are, blank lines and
+/// What a log says: its jobs, the lines that bring none, what its comments say, and how many there are, blank lines and
 /// headers among them.
 #[derive(Drop)]
 pub struct Log {
     pub jobs: Vec<LoggedJob>,
-    pub left: Vec<Cause>,
+    pub left: Vec<Reject>,
     pub facts: Facts,
     pub comments: usize,
 }
@@ -61,7 +62,7 @@ fn add(log: &mut Log, entry: Entry) -> Result<(), AllocError>
     match entry {
         Entry::Job(job) => log.jobs.push(job)?,
         Entry::Comment(fact) => log.facts = with_fact(log.facts, fact),
-        Entry::Left(cause) => log.left.push(cause)?,
+        Entry::Left(reject) => log.left.push(reject)?,
     }
     Ok(())
 }
@@ -72,6 +73,26 @@ fn rest_of(all: usize, one: usize, other: usize) -> usize
     ensures { one + other + result ≡ all }
 {
     all - one - other
+}
+
+// What the lines of a log say. Its only error is want of memory.
+fn read_lines(alloc: Global, format: Format, lines: &[&[u8]]) -> Result<Log, AllocError>
+    ensures jobs { IfOk result (λ l. l.jobs.items ≡ jobs_in (entries_of format (map (λ x. x.now) lines.now))) }
+    ensures left { IfOk result (λ l. l.left.items ≡ left_in (entries_of format (map (λ x. x.now) lines.now))) }
+    ensures facts { IfOk result (λ l. l.facts ≡ facts_in no_facts (entries_of format (map (λ x. x.now) lines.now))) }
+{
+    let mut read = Log {
+        jobs: Vec::new(alloc),
+        left: Vec::new(alloc),
+        facts: NO_FACTS,
+        comments: 0,
+    };
+    let mut layout = first_layout(format);
+    for (i, line) in lines.iter().enumerate() {
+        let entry = read_entry(alloc, &mut layout, i + 1, line)?;
+        add(&mut read, entry)?;
+    }
+    Ok(read)
 }
 
 /// What a log says. Its only error is want of memory.
@@ -85,27 +106,7 @@ pub fn read_log(alloc: Global, format: Format, log: &[u8]) -> Result<Log, AllocE
     ensures whole { IfOk result (λ l. length l.jobs.items + length l.left.items + l.comments ≡ length (entries format log.now)) }
 {
     let lines = log_lines(alloc, log)?;
-    let mut read = Log {
-        jobs: Vec::new(alloc),
-        left: Vec::new(alloc),
-        facts: NO_FACTS,
-        comments: 0,
-    };
-    for line in &lines {
-        let entry = read_entry(alloc, format, line)?;
-        add(&mut read, entry)?;
-    }
+    let mut read = read_lines(alloc, format, &lines)?;
     read.comments = rest_of(lines.len(), read.jobs.len(), read.left.len());
     Ok(read)
-}
-
-/// The least second at which a job was submitted.
-pub fn first_submit(jobs: &[LoggedJob]) -> u32
-    ensures { result ≡ first_submit jobs.now }
-{
-    let mut first = u32::MAX;
-    for job in jobs {
-        first = first.min(job.account.submit);
-    }
-    first
 }

@@ -1,12 +1,15 @@
-// A line that `sacct --parsable2` prints with the columns JobIDRaw, Submit, Start, End, NNodes, TimelimitRaw, Partition and State.
-ghost use Rattle.std.specs.Prelude.{◌≡◌, ◌-◌, codes, map};
-ghost use Rattle.tetri_logs.specs.Sacct.{elapsed, is_cancelled, is_header, is_step, is_unlimited, is_unknown, limit_in, moment_in, needed_moment, sacct_account, without_return, width_in};
+// A line of what `sacct` prints with `--parsable2` or `--parsable`.
+ghost use Rattle.std.specs.Prelude.{◌≡◌, IfOk, map};
+ghost use Rattle.tetri_logs.specs.Sacct.{cell, elapsed, exact_count, is_cancelled, is_row, is_step, is_unknown, moment_in, needed_moment, nodes_in, pointed, processors_in, row_of, sacct_account, without_return};
 
-use crate::account::{Account, Columns, account_of};
+use crate::account::{Account, Columns, account_of, positive};
 use crate::entry::Cause;
+use crate::header::Header;
+use crate::limits::limit_in;
 use crate::times::seconds_in;
-use crate::words::{is_text, needed};
-use tetri_io::digits_below;
+use crate::words::{count_in, is_text, word_at};
+use std::alloc::{AllocError, Global};
+use tetri_io::{digits_below, parts_at};
 
 /// The line without the carriage return at its end.
 pub(crate) fn without_return(line: &[u8]) -> &[u8]
@@ -18,14 +21,26 @@ pub(crate) fn without_return(line: &[u8]) -> &[u8]
     }
 }
 
-/// Whether these are the names of the columns.
-pub(crate) fn is_header(columns: &[&[u8]]) -> bool
-    ensures { result ≡ is_header (map (λ w. w.now) columns.now) }
+/// What stands in a line between its bars. Its only error is want of memory.
+pub(crate) fn row_of(alloc: Global, line: &[u8]) -> Result<Vec<&[u8]>, AllocError>
+    ensures { IfOk result (λ v. map (λ x. x.now) v.items ≡ row_of line.now) }
 {
-    match columns.first() {
-        Some(first) => is_text(first, "JobIDRaw"),
-        None => false,
-    }
+    parts_at(alloc, b'|', without_return(line))
+}
+
+/// What stands in a column, counted from 1.
+pub(crate) fn cell<'a>(row: &[&'a [u8]], column: usize) -> &'a [u8]
+    ensures { result.now ≡ cell (map (λ w. w.now) row.now) column }
+{
+    word_at(row, column.saturating_sub(1))
+}
+
+// As many columns as the header names; a bar at the line's end may be there.
+fn is_row(header: &Header, row: &[&[u8]]) -> bool
+    ensures { result ≡ is_row header.now (map (λ w. w.now) row.now) }
+{
+    row.len() == header.count
+        || (row.len().saturating_sub(1) == header.count && word_at(row, header.count).is_empty())
 }
 
 // Whether an identifier is that of a step of a job.
@@ -35,6 +50,20 @@ fn is_step(id: &[u8]) -> bool
     id.contains(&b'.')
 }
 
+// A point in the place of a plus.
+fn pointed(b: u8) -> u8
+    ensures { result ≡ pointed b }
+{
+    if b == b'+' { b'.' } else { b }
+}
+
+/// The name that an identifier gives, where it has a plus in it. Its only error is want of memory.
+pub(crate) fn pointed_id(alloc: Global, id: &[u8]) -> Result<Vec<u8>, AllocError>
+    ensures { IfOk result (λ v. v.items ≡ map pointed id.now) }
+{
+    id.iter().map(|b| pointed(*b)).collect(alloc)
+}
+
 // Whether a moment is not known.
 fn is_unknown(text: &[u8]) -> bool
     ensures { result ≡ is_unknown text.now }
@@ -42,67 +71,71 @@ fn is_unknown(text: &[u8]) -> bool
     is_text(text, "Unknown") || is_text(text, "None") || text.is_empty()
 }
 
-// The moment that has to be there.
-fn needed_moment(text: &[u8]) -> Result<u32, Cause>
-    ensures { result ≡ needed_moment text.now }
+// The moment that has to be there, in a column.
+fn needed_moment(column: usize, text: &[u8]) -> Result<u32, Cause>
+    ensures { result ≡ needed_moment column text.now }
 {
     match seconds_in(text) {
         Some(seconds) => Ok(seconds),
-        None => Err(Cause::Unreadable),
+        None => Err(Cause::Unreadable(column)),
     }
 }
 
-fn moment_in(text: &[u8]) -> Result<Option<u32>, Cause>
-    ensures { result ≡ moment_in text.now }
+fn moment_in(column: usize, text: &[u8]) -> Result<Option<u32>, Cause>
+    ensures { result ≡ moment_in column text.now }
 {
     if is_unknown(text) {
         return Ok(None);
     }
-    let moment = needed_moment(text)?;
+    let moment = needed_moment(column, text)?;
     Ok(Some(moment))
 }
 
+// A number, which may be printed as `4K` for 4096.
+fn exact_count(text: &[u8]) -> Option<u32>
+    ensures { result ≡ exact_count text.now }
+{
+    match text.split_last() {
+        Some((b'K', rest)) => match digits_below(4_194_304, rest) {
+            Some(number) => Some((number * 1024) as u32),
+            None => None,
+        },
+        _ => count_in(text),
+    }
+}
+
 // How many nodes a job has, one at least.
-fn width_in(text: &[u8]) -> Result<u32, Cause>
-    ensures { result ≡ width_in text.now }
+fn nodes_in(column: usize, text: &[u8]) -> Result<u32, Cause>
+    ensures { result ≡ nodes_in column text.now }
 {
     if text.is_empty() {
         return Err(Cause::NoNodes);
     }
-    let width = needed(text)?;
-    if width == 0 {
-        return Err(Cause::NoNodes);
+    match exact_count(text) {
+        Some(0) => Err(Cause::NoNodes),
+        Some(nodes) => Ok(nodes),
+        None => Err(Cause::Unreadable(column)),
     }
-    Ok(width)
 }
 
-// Whether there is no limit that is known.
-fn is_unlimited(text: &[u8]) -> bool
-    ensures { result ≡ is_unlimited text.now }
+// How many processors a job asked for, where it is known.
+fn processors_in(column: Option<usize>, row: &[&[u8]]) -> Option<u32>
+    ensures { result ≡ processors_in column (map (λ w. w.now) row.now) }
 {
-    is_text(text, "UNLIMITED") || is_text(text, "Partition_Limit") || text.is_empty()
-}
-
-// The seconds of a limit in minutes.
-fn limit_in(text: &[u8]) -> Result<Option<u32>, Cause>
-    ensures { result ≡ limit_in text.now }
-{
-    if is_unlimited(text) {
-        return Ok(None);
-    }
-    match digits_below(67_108_864, text) {
-        Some(minutes) => Ok(Some((minutes * 60) as u32)),
-        None => Err(Cause::Unreadable),
+    match column {
+        Some(column) => positive(exact_count(cell(row, column))),
+        None => None,
     }
 }
 
 // The seconds from one moment to another, where both are known.
-fn elapsed(from: Option<u32>, to: Option<u32>) -> Option<u32>
+fn elapsed(from: Option<u32>, to: Option<u32>) -> Result<Option<u32>, Cause>
     ensures { result ≡ elapsed from to }
 {
     match (from, to) {
-        (Some(from), Some(to)) => Some(to.saturating_sub(from)),
-        _ => None,
+        (Some(from), Some(to)) if to < from => Err(Cause::Backwards),
+        (Some(from), Some(to)) => Ok(Some(to - from)),
+        _ => Ok(None),
     }
 }
 
@@ -115,26 +148,29 @@ fn is_cancelled(state: &[u8]) -> bool
 
 /// What the columns of a line say of a job, or why it is left out.
 #[tactic(auto, unfolding(crate::specs::Sacct::sacct_account))]
-pub(crate) fn sacct_account(columns: &[&[u8]]) -> Result<Account, Cause>
-    ensures { result ≡ sacct_account (map (λ w. w.now) columns.now) }
+pub(crate) fn sacct_account(header: &Header, row: &[&[u8]]) -> Result<Account, Cause>
+    ensures { result ≡ sacct_account header.now (map (λ w. w.now) row.now) }
 {
-    if columns.len() != 8 {
-        return Err(Cause::Unreadable);
+    if !is_row(header, row) {
+        return Err(Cause::Unreadable(row.len().min(header.count) + 1));
     }
-    if is_step(columns[0]) {
+    if is_step(cell(row, header.id)) {
         return Err(Cause::Step);
     }
-    let submit = needed_moment(columns[1])?;
-    let start = moment_in(columns[2])?;
-    let end = moment_in(columns[3])?;
-    let limit = limit_in(columns[5])?;
-    let width = width_in(columns[4])?;
+    let submit = needed_moment(header.submit, cell(row, header.submit))?;
+    let start = moment_in(header.start, cell(row, header.start))?;
+    let end = moment_in(header.end, cell(row, header.end))?;
+    let limit = limit_in(header.in_minutes, header.limit, cell(row, header.limit))?;
+    let nodes = nodes_in(header.nodes, cell(row, header.nodes))?;
+    let ran = elapsed(start, end)?;
+    let wait = elapsed(Some(submit), end)?;
     Ok(account_of(Columns {
         submit,
-        width,
+        nodes: Some(nodes),
+        processors: processors_in(header.processors, row),
         limit,
-        ran: elapsed(start, end),
-        wait: elapsed(Some(submit), end),
-        cancelled: is_cancelled(columns[7]),
+        ran,
+        wait,
+        cancelled: is_cancelled(cell(row, header.state)),
     }))
 }

@@ -1,7 +1,7 @@
 // Seconds as slots, and processors as nodes.
 ghost use Rattle.std.specs.Prelude.{◌≡◌, ◌≤◌, ◌<◌, ◌^◌};
 ghost use Rattle.tetri_logs.specs.Options.{AreGood};
-ghost use Rattle.tetri_logs.specs.Scale.{moment_of, nodes_of, slot_of, slots_of, worth_of};
+ghost use Rattle.tetri_logs.specs.Scale.{is_part_node, moment_of, nodes_of, nodes_with, slot_of, slots_of, worth_of};
 
 use crate::account::Account;
 use crate::options::{Settings, Worth};
@@ -33,13 +33,31 @@ pub(crate) fn slots_of(settings: &Settings, seconds: u32) -> u64
     ((u64::from(seconds) + slot - 1) / slot).max(1)
 }
 
-/// How many nodes have so many processors.
-pub(crate) fn nodes_of(settings: &Settings, width: u32) -> u64
+// How many nodes have so many processors.
+fn nodes_with(settings: &Settings, processors: u32) -> u64
     requires { AreGood settings.now }
-    ensures { result ≡ nodes_of settings.now width }
+    ensures { result ≡ nodes_with settings.now processors }
 {
-    let processors = u64::from(settings.processors);
-    (u64::from(width) + processors - 1) / processors
+    let size = u64::from(settings.processors);
+    (u64::from(processors) + size - 1) / size
+}
+
+/// How many nodes a job asks for: those that the log counts, or so many that they have its processors.
+pub(crate) fn nodes_of(settings: &Settings, account: Account) -> u64
+    requires { AreGood settings.now }
+    ensures { result ≡ nodes_of settings.now account }
+{
+    match account.nodes {
+        Some(nodes) => u64::from(nodes),
+        None => nodes_with(settings, account.processors.unwrap_or(0)),
+    }
+}
+
+/// Whether a job asks for fewer processors than a node has.
+pub(crate) fn is_part_node(settings: &Settings, account: Account) -> bool
+    ensures { result ≡ is_part_node settings.now account }
+{
+    account.processors.unwrap_or(settings.processors) < settings.processors
 }
 
 /// What so many nodes for so many slots are worth.

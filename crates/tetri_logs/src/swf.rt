@@ -4,7 +4,7 @@ ghost use Rattle.tetri_logs.specs.Swf.{is_comment, is_known_as, is_part, swf_acc
 
 use crate::account::{Account, Columns, account_of, positive};
 use crate::entry::Cause;
-use crate::words::{amount, needed};
+use crate::words::{amount, count_in, needed};
 use tetri_io::is_blank;
 
 /// Whether the first byte that is no blank begins a comment, or there is none.
@@ -53,23 +53,24 @@ pub(crate) fn swf_account(words: &[&[u8]]) -> Result<Account, Cause>
     ensures { result ≡ swf_account (map (λ w. w.now) words.now) }
 {
     if words.len() != 18 {
-        return Err(Cause::Unreadable);
+        return Err(Cause::Unreadable(words.len().min(18) + 1));
     }
-    let _number = needed(words[0])?;
-    let submit = needed(words[1])?;
-    let wait = amount(words[2])?;
-    let ran = amount(words[3])?;
-    let given = amount(words[4])?;
-    let asked = amount(words[7])?;
-    let limit = amount(words[8])?;
-    let status = amount(words[10])?;
-    if is_part(status) {
+    if is_part(count_in(words[10])) {
         return Err(Cause::Step);
     }
+    let _number = needed(1, words[0])?;
+    let submit = needed(2, words[1])?;
+    let wait = amount(3, words[2])?;
+    let ran = amount(4, words[3])?;
+    let given = amount(5, words[4])?;
+    let asked = amount(8, words[7])?;
+    let limit = amount(9, words[8])?;
+    let status = amount(11, words[10])?;
     let width = width_of(asked, given)?;
     Ok(account_of(Columns {
         submit,
-        width,
+        nodes: None,
+        processors: Some(width),
         limit,
         ran,
         wait,

@@ -5,8 +5,8 @@ ghost use Rattle.tetri_logs.specs.Times.{date_in, has_marks, part, seconds_in};
 use crate::calendar::{Date, is_date, seconds_of};
 use tetri_io::digits_below;
 
-// The number that the digits of a part of a text are.
-fn part(text: &[u8], from: usize, to: usize) -> Option<u64>
+/// The number that the digits of a part of a text are.
+pub(crate) fn part(text: &[u8], from: usize, to: usize) -> Option<u64>
     requires order { from ≤ to }
     requires inside { to ≤ length text.now }
     ensures { result ≡ part text.now from to }

@@ -1,6 +1,6 @@
 // The words of a line, and the numbers that they are.
 ghost use Rattle.std.specs.Prelude.{◌≡◌, IfOk, bytes_eq, map};
-ghost use Rattle.tetri_logs.specs.Words.{amount, count_in, is_separator, needed, words_of};
+ghost use Rattle.tetri_logs.specs.Words.{amount, count_in, is_separator, needed, word_at, words_of};
 
 use crate::entry::Cause;
 use std::alloc::{AllocError, Global};
@@ -22,6 +22,16 @@ pub(crate) fn words_of(alloc: Global, line: &[u8]) -> Result<Vec<&[u8]>, AllocEr
         .collect(alloc)
 }
 
+/// A word by its place, or nothing.
+pub(crate) fn word_at<'a>(words: &[&'a [u8]], place: usize) -> &'a [u8]
+    ensures { result.now ≡ word_at (map (λ w. w.now) words.now) place }
+{
+    match words.get(place) {
+        Some(word) => word,
+        None => b"",
+    }
+}
+
 /// Whether a word is this text.
 pub(crate) fn is_text(word: &[u8], text: &str) -> bool
     ensures { result ≡ bytes_eq word.now text.now }
@@ -39,23 +49,23 @@ pub(crate) fn count_in(word: &[u8]) -> Option<u32>
     }
 }
 
-/// The number that has to be there.
-pub(crate) fn needed(word: &[u8]) -> Result<u32, Cause>
-    ensures { result ≡ needed word.now }
+/// The number that has to be there, in a column.
+pub(crate) fn needed(column: usize, word: &[u8]) -> Result<u32, Cause>
+    ensures { result ≡ needed column word.now }
 {
     match count_in(word) {
         Some(number) => Ok(number),
-        None => Err(Cause::Unreadable),
+        None => Err(Cause::Unreadable(column)),
     }
 }
 
-/// The number that a word is, where it is known: `-1` says that it is not.
-pub(crate) fn amount(word: &[u8]) -> Result<Option<u32>, Cause>
-    ensures { result ≡ amount word.now }
+/// The number that a word in a column is, where it is known: `-1` says that it is not.
+pub(crate) fn amount(column: usize, word: &[u8]) -> Result<Option<u32>, Cause>
+    ensures { result ≡ amount column word.now }
 {
     if is_text(word, "-1") {
         return Ok(None);
     }
-    let number = needed(word)?;
+    let number = needed(column, word)?;
     Ok(Some(number))
 }

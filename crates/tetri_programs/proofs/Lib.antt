@@ -1,1 +1,2 @@
 mod ExportLemmas
+mod WatchLemmas

@@ -2,9 +2,15 @@
 #![tactic(auto)]
 
 mod cycle;
+mod instance;
 mod names;
+mod report;
 mod text;
+mod watching;
 
-pub use cycle::{Exported, export_cycle};
+pub use cycle::export_cycle;
+pub use instance::{Exported, export_instance};
 pub use names::{Names, names_of};
+pub use report::export_report;
 pub use text::program_text;
+pub use watching::Watching;

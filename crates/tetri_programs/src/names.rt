@@ -187,39 +187,57 @@ fn name(
     }
 }
 
-// Whether a leaf uses nodes of a partition in a slot.
-fn is_used(uses: &[Use], part: u32, slot: u32) -> bool {
+// Whether one of these leaves uses nodes in a slot.
+fn is_used(uses: &[Use], slot: u32) -> bool {
     for one in uses {
         let leaf = one.leaf;
-        if one.part == part && leaf.start <= slot && slot - leaf.start < leaf.dur {
+        if leaf.start <= slot && slot - leaf.start < leaf.dur {
             return true;
         }
     }
     false
 }
 
-// Names the rows that keep each partition within what is free.
-fn name_supply(
+// Names the rows that keep a partition within what is free, over the leaves that may use it.
+fn name_slots(
     alloc: Global,
     inst: &Instance,
-    parts: &Partitions,
-    naming: &mut Naming,
+    part: u32,
+    uses: &[Use],
+    rows: &mut Vec<String>,
 ) -> Result<(), AllocError>
     requires { IsSound (space inst.now) }
 {
-    for part in 0..parts.count() {
-        for place in 0..inst.window {
-            let slot = inst.now + place;
-            if is_used(&naming.uses, part, slot) {
-                let name = format!(in alloc; "supply_part{part}_slot{slot}")?;
-                naming.names.rows.push(name)?;
-            }
+    for place in 0..inst.window {
+        let slot = inst.now + place;
+        if is_used(uses, slot) {
+            rows.push(format!(in alloc; "supply_part{part}_slot{slot}")?)?;
         }
     }
     Ok(())
 }
 
-/// The names of the columns and rows of the program that `compile` makes of an instance with these
+// Names the rows that keep each partition within what is free, where the uses ascend by partition.
+fn name_supply(
+    alloc: Global,
+    inst: &Instance,
+    parts: &Partitions,
+    uses: &[Use],
+    rows: &mut Vec<String>,
+) -> Result<(), AllocError>
+    requires { IsSound (space inst.now) }
+{
+    let mut rest = uses;
+    for part in 0..parts.count() {
+        let end = rest.partition_point(|one| one.part <= part);
+        let (mine, later) = rest.split_at(end);
+        name_slots(alloc, inst, part, mine, rows)?;
+        rest = later;
+    }
+    Ok(())
+}
+
+/// The names of the columns and rows of the program of an instance with these
 /// partitions, as docs/EXPORT.md has them. Its only error is want of memory.
 pub fn names_of(alloc: Global, inst: &Instance, parts: &Partitions) -> Result<Names, AllocError>
     requires { IsSound (space inst.now) }
@@ -245,6 +263,11 @@ pub fn names_of(alloc: Global, inst: &Instance, parts: &Partitions) -> Result<Na
             &mut naming,
         )?;
     }
-    name_supply(alloc, inst, parts, &mut naming)?;
-    Ok(naming.names)
+    let Naming {
+        mut names,
+        mut uses,
+    } = naming;
+    uses.sort_by_key(|one| one.part)?;
+    name_supply(alloc, inst, parts, &uses, &mut names.rows)?;
+    Ok(names)
 }

@@ -12,6 +12,12 @@ const LONG: i128 = 1 << 60;
 // What a denominator is rounded to at least.
 const FINE: i128 = 1 << 30;
 
+/// The denominator of the first objective.
+pub(crate) const ONE: i128 = 1 << 40;
+
+/// What the numbers of the first objective are lessened by is together at most a unit over this.
+pub(crate) const SHARE: i128 = 4;
+
 /// The objective is the constant and the numbers times the nonbasic variables, all over `over`.
 #[derive(Drop)]
 pub(crate) struct Goal {
@@ -42,7 +48,8 @@ fn divide(goal: &mut Goal, by: i128) {
     divide_all(&mut goal.numbers, by);
 }
 
-fn divide_all(numbers: &mut [i128], by: i128) {
+/// Divides each number by a number above 0, towards 0.
+pub(crate) fn divide_all(numbers: &mut [i128], by: i128) {
     for x in numbers {
         *x = part(*x, by);
     }

@@ -3,12 +3,15 @@
 use crate::anew::of_point;
 use crate::dictionary::{Dictionary, is_mirrored};
 use crate::engine::Proposal;
-use crate::goal::{divisor, part};
+use crate::goal::{divide_all, divisor, part};
 use crate::numbers::{at, name_at, wide_at};
 use crate::repair::End;
 use std::alloc::{AllocError, Global};
 use tetri_ip::{Program, Region, Weight, add_product};
 use tetri_num::Frac;
+
+// Weights are rounded to this denominator: any of 0 or more bound a region.
+const FINE: i128 = 1 << 20;
 
 fn put(numbers: &mut [i128], place: usize, x: i128) {
     if place < numbers.len() {
@@ -34,7 +37,8 @@ fn lowest(alloc: Global, q: i128, numbers: &[i128]) -> Result<(i128, Vec<Weight>
     Ok((part(q, by), weights))
 }
 
-// The weights of the objective: what it loses by the slack of each row.
+// The weights of the objective, over a denominator that is not much greater than `FINE`: what it
+// loses by the slack of each row.
 fn goal_weights(
     alloc: Global,
     p: &Program,
@@ -49,7 +53,9 @@ fn goal_weights(
             put(&mut numbers, variable - columns, loss);
         }
     }
-    lowest(alloc, d.goal.over, &numbers)
+    let by = part(d.goal.over, FINE);
+    divide_all(&mut numbers, by);
+    lowest(alloc, part(d.goal.over, by), &numbers)
 }
 
 // The weights that show that a line's variable is below 0 at each point.

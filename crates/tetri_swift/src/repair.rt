@@ -1,6 +1,7 @@
 // The dual simplex method, from a dictionary whose objective has no number above 0.
 
 use crate::dictionary::{Dictionary, mirror_line, pivot, width};
+use crate::goal::{SHARE, part};
 use crate::lines::Line;
 use crate::numbers::{name_at, wide_at};
 use std::alloc::{AllocError, Global};
@@ -10,7 +11,7 @@ use tetri_ip::Region;
 // back.
 const PIVOTS: u32 = 5000;
 
-const GREATEST: u32 = 60;
+const GREATEST: u32 = 2000;
 
 /// How the pivots of a node end.
 #[derive(Clone, Copy, PartialEq, Eq)]
@@ -129,8 +130,11 @@ fn find_entering(d: &Dictionary, numbers: &[i64]) -> Option<usize> {
     }
 }
 
+// Whether the objective of the program is at most the best one known: the dictionary's is less than
+// that by at most a unit over `SHARE`.
 fn is_cut(d: &Dictionary, best: u64) -> bool {
-    d.goal.over > 0 && d.goal.constant.div_euclid(d.goal.over) <= best as i128
+    let most = d.goal.constant.saturating_add(part(d.goal.over, SHARE));
+    d.goal.over > 0 && most.div_euclid(d.goal.over) <= best as i128
 }
 
 // One pivot, or the end.

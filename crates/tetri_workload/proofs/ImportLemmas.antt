@@ -1,55 +1,67 @@
 -- What follows of a trace that is read as what was taken.
-use Rattle.std.proofs.Common.{◌≡◌, ◌+◌, ◌∙◌, ◌++◌, List, length, ap, sym, subst, arith, length-append}
-use Rattle.std.specs.Prelude.{string_bytes, Ok}
+use Rattle.std.proofs.Common.{◌≡◌, ◌+◌, ◌∙◌, ◌++◌, ℕ, List, length, ap, sym, subst, arith, length-append}
+use Rattle.std.specs.Prelude.{string_bytes, None}
 use Rattle.std.proofs.lemmas.List.{length-map}
 use Rattle.std.proofs.lemmas.List.Sorted.{length_permutation}
 use Rattle.tetri_base.specs.Lists.{count}
 use Rattle.tetri_logs.specs.declared.entry.Entry.{Entry}
 use Rattle.tetri_logs.specs.declared.entry.LoggedJob.{LoggedJob}
-use Rattle.tetri_logs.specs.Options.{settings_of}
-use Rattle.tetri_logs.specs.Reading.{facts_in, first_submit, is_comment, jobs_in, left_in, no_facts}
+use Rattle.tetri_logs.specs.Origin.{begun, gap_of}
+use Rattle.tetri_logs.specs.Reading.{is_comment, jobs_in, left_in}
 use Rattle.tetri_logs.specs.declared.options.Options.{Options}
 use Rattle.tetri_logs.specs.declared.options.Settings.{Settings}
 use Rattle.tetri_trace.specs.Scenario.{submission}
 use Rattle.tetri_trace.specs.declared.trace.Event.{Event}
-use Rattle.tetri_workload.specs.Import.{IsImportOf}
+use Rattle.tetri_workload.specs.Import.{IsDraft, IsImportOf}
 use Rattle.tetri_workload.specs.Ordering.{IsOrderBy}
 use Rattle.tetri_workload.specs.Saying.{IsReadAs, header_of}
-use Rattle.tetri_workload.specs.Taking.{so_far, taken_all}
+use Rattle.tetri_workload.specs.Taking.{Tally, so_far, taken_all}
+use Rattle.tetri_workload.specs.Text.{text_of}
 use Rattle.tetri_workload.specs.declared.importing.Imported.{Imported}
 use Rattle.tetri_workload.specs.declared.taking.Taken.{Taken}
 use Rattle.tetri_workload.proofs.TakingLemmas.{all_taken_or_left}
 
-pub imported : (es : List Entry) (o : Options) (i : Imported) (s : Settings) (order : List LoggedJob) (t : Taken) (events : List Event)
-    → settings_of o (facts_in no_facts es) (first_submit (jobs_in es)) ≡ Ok s
-    → IsOrderBy (λ j. j.account.submit) (jobs_in es) order
+pub imported : (es : List Entry) (o : Options) (i : Imported) (draft s : Settings) (order : List LoggedJob) (t : Taken) (events : List Event)
+    → IsDraft es o draft order
+    → s ≡ begun draft order
+    → gap_of o s order ≡ None
     → so_far t ≡ taken_all s order
     → IsOrderBy (λ e. e.at) t.events.items events
     → (read : IsReadAs s (record (so_far t) { events = events }) (string_bytes i.trace))
-    → i.left.items ≡ left_in es ++ t.left.items
+    → IsOrderBy (λ r. r.line) (left_in es ++ t.left.items) i.left.items
     → i.jobs ≡ length t.jobs
+    → i.rounded ≡ length t.rounded.items
     → i.comments ≡ count is_comment es
     → length (jobs_in es) + length (left_in es) + i.comments ≡ length es
-    → IsImportOf es o i s order read.0
-imported es o i s order t events settled ordered tally in_order read left jobs comments whole =
-    let lefts : i.left.items ≡ left_in es ++ (taken_all s order).left = left ∙ ap (λ u. left_in es ++ u.left) tally in
-    let taken : i.jobs ≡ length (taken_all s order).jobs = jobs ∙ sym (length-map t.jobs submission) ∙ ap (λ u. length u.jobs) tally in
-    let number : length i.left.items ≡ length (left_in es) + length (taken_all s order).left = ap length lefts ∙ length-append (left_in es) (taken_all s order).left in
+    → IsImportOf es o i draft order read.0
+imported es o i draft s order t events drafted is gap tally in_order read left jobs rounded comments whole =
+    let tallied : so_far t ≡ taken_all (begun draft order) order = tally ∙ ap (λ b. taken_all b order) is in
+    let lefts : IsOrderBy (λ r. r.line) (left_in es ++ (taken_all (begun draft order) order).left) i.left.items =
+    subst (λ rs. IsOrderBy (λ r. r.line) (left_in es ++ rs) i.left.items) (ap (λ u. u.left) tallied) left in
+    let taken : i.jobs ≡ length (taken_all (begun draft order) order).jobs = jobs ∙ sym (length-map t.jobs submission) ∙ ap (λ u. length u.jobs) tallied in
+    let moved = length_permutation (left_in es ++ (taken_all (begun draft order) order).left) i.left.items lefts.moved in
+    let number = length-append (left_in es) (taken_all (begun draft order) order).left in
     record {
-      settings = settled;
-      ordered = ordered;
+      drafted = drafted;
+      together = ap (λ b. gap_of o b order) (sym is) ∙ gap;
       trace = record {
         read = read.1;
-        header = read.2.header ∙ ap (λ u. header_of s u.until) tally;
-        nodes = read.2.nodes;
-        jobs = read.2.jobs ∙ ap (λ u. u.jobs) tally;
-        events = subst (λ xs. IsOrderBy (λ e. e.at) xs read.0.events) (ap (λ u. u.events) tally)
+        header = read.2.header ∙ ap (λ u. header_of s u.until) tallied ∙ ap (λ b. header_of b (taken_all (begun draft order) order).until) is;
+        nodes = read.2.nodes ∙ ap (λ b. b.nodes) is;
+        jobs = read.2.jobs ∙ ap (λ u. u.jobs) tallied;
+        events = subst (λ xs. IsOrderBy (λ e. e.at) xs read.0.events) (ap (λ u. u.events) tallied)
             (subst (λ ys. IsOrderBy (λ e. e.at) t.events.items ys) (sym read.2.events) in_order);
       };
       whole = record {
         left = lefts;
         jobs = taken;
+        rounded = rounded ∙ ap (λ u. length u.rounded) tallied;
         comments = comments;
-        lines = omega (arith, taken, number, whole, all_taken_or_left s order, length_permutation (jobs_in es) order ordered.moved);
+        lines = omega (arith, taken, number, moved, whole, all_taken_or_left (begun draft order) order, length_permutation (jobs_in es) order drafted.ordered.moved);
       };
     }
+
+-- what is read as what was taken is so by any names of the same settings, the same tally and the same text
+pub same_reading : (s r : Settings) (t u : Tally) (text : List ℕ) → s ≡ r → t ≡ u → text ≡ text_of s t → IsReadAs r u (text_of r u) → IsReadAs s t text
+same_reading s r t u text p q e read =
+    subst (λ x. IsReadAs s t x) (sym e) (subst (λ b. IsReadAs b t (text_of b t)) (sym p) (subst (λ v. IsReadAs r v (text_of r v)) (sym q) read))

@@ -1,9 +1,10 @@
 -- The jobs that are taken.
-use Rattle.std.specs.Prelude.{ℕ, ◌+◌, min, max, nat_le, List, [], ◌∷◌, ◌++◌, length, map, fold, Option, Some, None, Result, Ok, Err, if◌then◌else◌}
-use Rattle.tetri_cluster.specs.Names.{is_among}
+use Rattle.std.specs.Prelude.{ℕ, ◌+◌, ◌==◌, Bool, false, min, max, nat_le, List, [], ◌∷◌, ◌++◌, length, map, fold, slice_get, codes, decimal, Option, Some, None, Result, Ok, Err, if◌then◌else◌}
+use Rattle.tetri_cluster.specs.Names.{is_among, is_name, number_of}
 use Rattle.tetri_logs.specs.declared.entry.Cause.{Cause}
 use Rattle.tetri_logs.specs.declared.entry.Cause.TheVariants.{Outside, Repeated, Beyond}
 use Rattle.tetri_logs.specs.declared.entry.LoggedJob.{LoggedJob}
+use Rattle.tetri_logs.specs.declared.entry.Reject.{Reject}
 use Rattle.tetri_trace.specs.Scenario.{Submission, asks, job_names, submission}
 use Rattle.tetri_trace.specs.declared.trace.Event.{Event}
 use Rattle.tetri_trace.specs.declared.trace.Happening.TheVariants.{Arrive, Cancel}
@@ -12,21 +13,24 @@ use Rattle.tetri_logs.specs.declared.options.Settings.{Settings}
 use Rattle.tetri_logs.specs.declared.placing.Placing.{Placing}
 use Rattle.tetri_workload.specs.declared.taking.Taken.{Taken}
 
--- the jobs that are taken, in order of submission, with what happens to each, why others are left out, and how many slots a run has
+-- the jobs that are taken, in order of submission, the second of each submission, with what happens to each, why others are left out, how many slots a run has, and on
+-- which lines jobs stand that take a whole node for fewer processors
 pub record Tally : Type 0 where
   pub jobs : List Submission
+  pub submits : List ℕ
   pub events : List Event
-  pub left : List Cause
+  pub left : List Reject
   pub until : ℕ
+  pub rounded : List ℕ
 
 abbrev pub so_far : Taken → Tally
-so_far t = record { jobs = map submission t.jobs; events = t.events.items; left = t.left.items; until = t.until }
+so_far t = record { jobs = map submission t.jobs; submits = t.submits.items; events = t.events.items; left = t.left.items; until = t.until; rounded = t.rounded.items }
 
 abbrev pub nothing_taken : Tally
-nothing_taken = record { jobs = []; events = []; left = []; until = 1 }
+nothing_taken = record { jobs = []; submits = []; events = []; left = []; until = 1; rounded = [] }
 
-abbrev pub left_out : Tally → Cause → Tally
-left_out t cause = record t { left = t.left ++ cause ∷ [] }
+abbrev pub left_out : Tally → ℕ → Cause → Tally
+left_out t line cause = record t { left = t.left ++ (record { line = line; cause = cause }) ∷ [] }
 
 -- a job with this name at its place
 abbrev pub submitted : List ℕ → Placing → Submission
@@ -48,25 +52,57 @@ last_of deadline (Some slot) = max deadline slot
 abbrev pub end_of : Placing → ℕ
 end_of p = min (last_of (p.arrival + p.ask.deadline) p.cancel) 9999 + 1
 
-abbrev pub taken : Tally → List ℕ → Placing → Tally
-taken t name p = record {
+-- the line of a job, where it takes a whole node for fewer processors
+abbrev pub rounded_of : ℕ → Placing → List ℕ
+rounded_of line p = if p.part_node then line ∷ [] else []
+
+abbrev pub taken : Tally → ℕ → ℕ → List ℕ → Placing → Tally
+taken t line submit name p = record {
   jobs = t.jobs ++ submitted name p ∷ [];
+  submits = t.submits ++ submit ∷ [];
   events = t.events ++ events_of (length t.jobs) p;
   left = t.left;
   until = max t.until (end_of p);
+  rounded = t.rounded ++ rounded_of line p;
 }
 
--- a job is taken unless one has its name, or so many are there as are wanted or possible
-abbrev pub with_placed : Settings → Tally → List ℕ → Result Placing Cause → Tally
-with_placed s t name (Err cause) = left_out t cause
-with_placed s t name (Ok p) =
-    if is_among name (job_names t.jobs) then left_out t Repeated
-    else (if nat_le s.most (length t.jobs) then left_out t Outside
-    else (if nat_le 100000 (length t.jobs) then left_out t Beyond else taken t name p))
+-- a job is taken under a name unless so many are there as are wanted or possible
+abbrev pub kept : Settings → Tally → ℕ → ℕ → List ℕ → Placing → Tally
+kept s t line submit name p =
+    if nat_le s.most (length t.jobs) then left_out t line Outside
+    else (if nat_le 100000 (length t.jobs) then left_out t line Beyond else taken t line submit name p)
+
+-- the mark of a job that was submitted again: when that was
+abbrev pub again_mark : ℕ → List ℕ
+again_mark submit = codes ":" ++ decimal submit
+
+-- what it is called: its name with that mark
+abbrev pub again_name : List ℕ → ℕ → List ℕ
+again_name name submit = name ++ again_mark submit
+
+-- a job that was submitted again is taken under that name, unless one has it
+abbrev pub again : Settings → Tally → ℕ → ℕ → List ℕ → Placing → Tally
+again s t line submit name p =
+    if is_name name then (if is_among name (job_names t.jobs) then left_out t line Repeated else kept s t line submit name p) else left_out t line Beyond
+
+-- whether it was submitted in this second
+abbrev pub is_second : Option ℕ → ℕ → Bool
+is_second None submit = false
+is_second (Some second) submit = second == submit
+
+-- where an earlier job has its name, a job is that one once more if both were submitted in one second, and else it was submitted again
+abbrev pub named : Settings → Tally → ℕ → ℕ → List ℕ → Placing → Option ℕ → Tally
+named s t line submit name p None = kept s t line submit name p
+named s t line submit name p (Some number) =
+    if is_second (slice_get t.submits number) submit then left_out t line Repeated else again s t line submit (again_name name submit) p
+
+abbrev pub with_placed : Settings → Tally → ℕ → ℕ → List ℕ → Result Placing Cause → Tally
+with_placed s t line submit name (Err cause) = left_out t line cause
+with_placed s t line submit name (Ok p) = named s t line submit name p (number_of name (job_names t.jobs))
 
 -- with one job of the log more
 abbrev pub with_logged : Settings → Tally → LoggedJob → Tally
-with_logged s t job = with_placed s t job.name (place s job.account)
+with_logged s t job = with_placed s t job.line job.account.submit job.name (place s job.account)
 
 -- what is taken of jobs in this order
 abbrev pub taken_all : Settings → List LoggedJob → Tally

@@ -1,45 +1,87 @@
 -- What is told of an import.
-use Rattle.std.specs.Prelude.{ℕ, ◌==◌, Bool, List, ◌++◌, count_by, codes, decimal}
+use Rattle.std.specs.Prelude.{ℕ, ◌-◌, ◌==◌, Bool, List, [], ◌++◌, count_by, codes, decimal, flat_map, slice_index_or}
+use Rattle.tetri_logs.specs.Lines.{log_lines}
 use Rattle.tetri_logs.specs.declared.entry.Cause.{Cause}
-use Rattle.tetri_logs.specs.declared.entry.Cause.TheVariants.{Unreadable, Step, NoNodes, TooLarge, Outside, Repeated, Beyond}
+use Rattle.tetri_logs.specs.declared.entry.Cause.TheVariants.{Unreadable, Step, NoNodes, Backwards, TooLarge, PartNode, Outside, Repeated, Beyond}
+use Rattle.tetri_logs.specs.declared.entry.Reject.{Reject}
 use Rattle.tetri_logs.specs.declared.options.OptionFault.{OptionFault}
-use Rattle.tetri_logs.specs.declared.options.OptionFault.TheVariants.{Slot, Processors, Window, Budget, Unit as UnitRange, Slack, Nodes}
+use Rattle.tetri_logs.specs.declared.options.OptionFault.TheVariants.{Slot, Processors, Window, Budget, Unit as UnitRange, Slack, Nodes, LogNodes}
 use Rattle.tetri_workload.specs.declared.importing.Imported.{Imported}
 use Rattle.tetri_workload.specs.declared.importing.ImportFault.{ImportFault}
 use Rattle.tetri_workload.specs.declared.importing.ImportFault.TheVariants as faults
 
 abbrev pub cause_number : Cause → ℕ
-cause_number Unreadable = 0
+cause_number (Unreadable column) = 0
 cause_number Step = 1
 cause_number NoNodes = 2
-cause_number TooLarge = 3
-cause_number Outside = 4
-cause_number Repeated = 5
-cause_number Beyond = 6
+cause_number Backwards = 3
+cause_number TooLarge = 4
+cause_number PartNode = 5
+cause_number Outside = 6
+cause_number Repeated = 7
+cause_number Beyond = 8
 
-abbrev pub is_cause : Cause → Cause → Bool
-is_cause one other = cause_number one == cause_number other
+-- whether a line is left out for a cause, in whatever column
+abbrev pub is_for : Cause → Reject → Bool
+is_for cause r = cause_number r.cause == cause_number cause
 
-abbrev pub count_of : Cause → List Cause → ℕ
-count_of cause left = count_by (is_cause cause) left
+abbrev pub count_of : Cause → List Reject → ℕ
+count_of cause left = count_by (is_for cause) left
 
 abbrev pub cause_word : Cause → List ℕ
-cause_word Unreadable = codes "unreadable"
+cause_word (Unreadable column) = codes "unreadable"
 cause_word Step = codes "steps"
 cause_word NoNodes = codes "no-nodes"
+cause_word Backwards = codes "backwards"
 cause_word TooLarge = codes "too-large"
+cause_word PartNode = codes "part-nodes"
 cause_word Outside = codes "outside"
 cause_word Repeated = codes "repeated"
 cause_word Beyond = codes "beyond"
 
--- how many lines were left out for a cause
-abbrev pub cause_line : List Cause → Cause → List ℕ
-cause_line left cause = cause_word cause ++ codes " " ++ decimal (count_of cause left) ++ codes "\n"
+-- a line with a word and a number
+abbrev pub count_line : List ℕ → ℕ → List ℕ
+count_line word count = word ++ codes " " ++ decimal count ++ codes "\n"
 
--- how many jobs are taken, how many lines are comments, and how many are left out for each cause
+-- how many lines were left out for a cause
+abbrev pub cause_line : List Reject → Cause → List ℕ
+cause_line left cause = count_line (cause_word cause) (count_of cause left)
+
+-- how many lines are left out for what they say themselves, and for what they ask for
+abbrev pub first_causes : List Reject → List ℕ
+first_causes left = cause_line left (Unreadable 0) ++ cause_line left Step ++ cause_line left NoNodes ++ cause_line left Backwards
+
+abbrev pub last_causes : List Reject → List ℕ
+last_causes left = cause_line left TooLarge ++ cause_line left PartNode ++ cause_line left Outside ++ cause_line left Repeated ++ cause_line left Beyond
+
+-- how many jobs are taken, how many of them take a whole node for fewer processors, how many lines are comments, and these
 abbrev pub counts_text : Imported → List ℕ
 counts_text i =
-    codes "taken " ++ decimal i.jobs ++ codes "\ncomments " ++ decimal i.comments ++ codes "\n" ++ cause_line i.left.items Unreadable ++ cause_line i.left.items Step ++ cause_line i.left.items NoNodes ++ cause_line i.left.items TooLarge ++ cause_line i.left.items Outside ++ cause_line i.left.items Repeated ++ cause_line i.left.items Beyond
+    count_line (codes "taken") i.jobs ++ count_line (codes "rounded-up") i.rounded ++ count_line (codes "comments") i.comments ++ first_causes i.left.items ++ last_causes i.left.items
+
+-- the column at which a line stops being one
+abbrev pub column_text : Cause → List ℕ
+column_text (Unreadable column) = codes " column " ++ decimal column
+column_text Step = []
+column_text NoNodes = []
+column_text Backwards = []
+column_text TooLarge = []
+column_text PartNode = []
+column_text Outside = []
+column_text Repeated = []
+column_text Beyond = []
+
+-- the number of a line that is left out, and why
+abbrev pub reason_text : Reject → List ℕ
+reason_text r = decimal r.line ++ codes " " ++ cause_word r.cause ++ column_text r.cause
+
+-- the same with the line
+abbrev pub reject_text : List (List ℕ) → Reject → List ℕ
+reject_text lines r = reason_text r ++ codes ": " ++ slice_index_or lines (r.line - 1) [] ++ codes "\n"
+
+-- each line of a log that is left out
+abbrev pub rejects_text : List ℕ → List Reject → List ℕ
+rejects_text log left = flat_map (reject_text (log_lines log)) left
 
 -- why there is no trace
 abbrev pub option_words : OptionFault → List ℕ
@@ -49,9 +91,21 @@ option_words Window = codes "the window is 1 to 64"
 option_words Budget = codes "the budget is 1 to 10000"
 option_words UnitRange = codes "the unit is 1 to 1000000"
 option_words Slack = codes "the slack is 0 to 10000"
-option_words Nodes = codes "give --nodes: the log does not say that there are 1 to 4096"
+option_words Nodes = codes "there are 1 to 4096 nodes"
+option_words LogNodes = codes "give --nodes: the log does not say that there are 1 to 4096"
+
+-- with the second that parts the first jobs from the others
+abbrev pub from_words : ℕ → List ℕ
+from_words second = codes "give --from " ++ decimal second
+
+abbrev pub to_words : ℕ → List ℕ
+to_words second = codes " or --to " ++ decimal second
+
+abbrev pub gap_words : ℕ → List ℕ
+gap_words second = from_words second ++ to_words second ++ codes ": the first jobs lie 10000 slots or more before the others"
 
 abbrev pub fault_words : ImportFault → List ℕ
 fault_words (faults.Options fault) = option_words fault
+fault_words (faults.Apart second) = gap_words second
 fault_words faults.Unlike = codes "the trace that was made is not read as it should be"
 fault_words faults.NoMemory = codes "out of memory"

@@ -32,11 +32,15 @@ unfoldable pub limits_text : ℕ → ℕ → List ℕ
 limits_text window budget = codes "],\"window\":" ++ (decimal window ++ (codes ",\"budget\":" ++ decimal budget))
 
 unfoldable pub run_text : ℕ → ℕ → List ℕ
-run_text until unit = codes ",\"until\":" ++ decimal until ++ codes ",\"unit\":" ++ decimal unit ++ codes "}\n"
+run_text until unit = codes ",\"until\":" ++ (decimal until ++ (codes ",\"unit\":" ++ decimal unit))
+
+-- when slot 0 begins, in seconds since 1970, and how many seconds a slot has: keys that the scheduler does not know
+unfoldable pub clock_text : ℕ → ℕ → List ℕ
+clock_text epoch slot = codes ",\"epoch\":" ++ decimal epoch ++ codes ",\"slot_seconds\":" ++ decimal slot ++ codes "}\n"
 
 -- the nodes and the limits of a run of so many slots
 abbrev pub header_text : Settings → ℕ → List ℕ
-header_text s until = opening_text ++ nodes_text s.nodes ++ limits_text s.window s.budget ++ run_text until s.unit
+header_text s until = opening_text ++ nodes_text s.nodes ++ limits_text s.window s.budget ++ run_text until s.unit ++ clock_text s.origin s.slot
 
 abbrev pub class_name : Class → List ℕ
 class_name Steady = codes "steady"

@@ -4,17 +4,19 @@ ghost use Rattle.tetri_logs.specs.Reading.{entries};
 ghost use Rattle.tetri_workload.specs.Import.{IsImport, IsRefused};
 
 use crate::confirming::is_read_as;
-use crate::ordering::{by_slot, by_submission};
+use crate::ordering::{by_line, by_slot, by_submission};
 use crate::taking::take_all;
 use crate::text::trace_text;
 use std::alloc::{AllocError, Global};
-use tetri_logs::{Cause, Format, OptionFault, Options, first_submit, read_log, settings_of};
+use tetri_logs::{Format, OptionFault, Options, Reject, begun, gap_of, read_log, settings_of};
 
 /// Why a log is not imported.
 #[derive(Clone, Copy, Debug, PartialEq, Eq)]
 pub enum ImportFault {
     /// What is asked for cannot be.
     Options(OptionFault),
+    /// The first jobs lie as long before the others as a trace is long. The first of these was submitted at this second since 1970.
+    Apart(u64),
     /// The trace that was made is not read as it should be.
     Unlike,
     NoMemory,
@@ -48,14 +50,16 @@ pub struct Imported {
     pub trace: String,
     /// How many jobs were taken.
     pub jobs: usize,
-    /// Why other lines brought none.
-    pub left: Vec<Cause>,
+    /// How many of them take a whole node for fewer processors than it has.
+    pub rounded: usize,
+    /// Why other lines brought none, in their order.
+    pub left: Vec<Reject>,
     /// How many lines are comments, among them blank ones and headers.
     pub comments: usize,
 }
 
-/// The trace of a log, and what was left out. `Options` comes exactly with the first option that cannot be, and `Unlike` only where the
-/// text that is made of what is taken is not read back as the trace that says so.
+/// The trace of a log, and what was left out. `Options` comes exactly with the first option that cannot be, `Apart` exactly with a gap in the
+/// log as long as a trace, and `Unlike` only where the text that is made of what is taken is not read back as the trace that says so.
 pub fn import(
     alloc: Global,
     format: Format,
@@ -66,9 +70,14 @@ pub fn import(
     ensures refused { IfErr result (IsRefused (entries format log.now) options.now) }
 {
     let log = read_log(alloc, format, log)?;
-    let settings = settings_of(options, log.facts, first_submit(&log.jobs))?;
+    let draft = settings_of(options, log.facts)?;
     let mut jobs = log.jobs;
     by_submission(&mut jobs)?;
+    let settings = begun(&draft, &jobs);
+    match gap_of(options, &settings, &jobs) {
+        None => {}
+        Some(second) => return Err(ImportFault::Apart(second)),
+    }
     let mut taken = take_all(alloc, &settings, jobs)?;
     by_slot(&mut taken.events)?;
     let trace = trace_text(alloc, &settings, &taken)?;
@@ -78,9 +87,11 @@ pub fn import(
     }
     let mut left = log.left;
     left.extend_from_slice(&taken.left)?;
+    by_line(&mut left)?;
     Ok(Imported {
         trace,
         jobs: taken.jobs.len(),
+        rounded: taken.rounded.as_slice().len(),
         left,
         comments: log.comments,
     })

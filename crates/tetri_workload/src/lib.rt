@@ -10,4 +10,4 @@ mod telling;
 mod text;
 
 pub use importing::{ImportFault, Imported, import};
-pub use telling::{counts_text, fault_text};
+pub use telling::{counts_text, fault_text, reason_text, rejects_text};

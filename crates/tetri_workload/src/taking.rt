@@ -1,14 +1,14 @@
 // The jobs that are taken.
-ghost use Rattle.std.specs.Prelude.{◌≡◌, ◌<◌, IfOk, OnOk, false, length, map};
+ghost use Rattle.std.specs.Prelude.{◌≡◌, ◌<◌, ◌++◌, IfOk, OnOk, false, length, map, slice_get, string_bytes};
 ghost use Rattle.tetri_trace.specs.Scenario.{job_names, submission};
-ghost use Rattle.tetri_cluster.specs.Names.{is_among};
+ghost use Rattle.tetri_cluster.specs.Names.{is_among, number_of};
 ghost use Rattle.tetri_logs.specs.Options.{AreGood};
 ghost use Rattle.tetri_logs.specs.Placing.{IsPlaced};
-ghost use Rattle.tetri_workload.specs.Taking.{end_of, left_out, nothing_taken, so_far, taken, taken_all, with_logged};
+ghost use Rattle.tetri_workload.specs.Taking.{again, again_mark, again_name, end_of, is_second, kept, left_out, named, nothing_taken, rounded_of, so_far, taken, taken_all, with_logged};
 
 use std::alloc::{AllocError, Global};
-use tetri_cluster::Name;
-use tetri_logs::{Cause, LoggedJob, Placing, Settings, place};
+use tetri_cluster::{Name, NameFault};
+use tetri_logs::{Cause, LoggedJob, Placing, Reject, Settings, place};
 use tetri_trace::{Event, Happening, Job, Jobs, Work};
 
 /// The jobs that are taken, with what happens to each, and why others are not.
@@ -16,11 +16,15 @@ use tetri_trace::{Event, Happening, Job, Jobs, Work};
 pub struct Taken {
     /// In order of submission.
     pub jobs: Jobs,
+    /// The second of the log's clock at which each was submitted.
+    pub submits: Vec<u32>,
     /// The arrival of each job and, if it is cancelled while it waits, its cancellation.
     pub events: Vec<Event>,
-    pub left: Vec<Cause>,
+    pub left: Vec<Reject>,
     /// One more than the last slot in which something happens or a job must have ended, at most 10,000.
     pub until: u32,
+    /// On which lines jobs stand that take a whole node for fewer processors.
+    pub rounded: Vec<usize>,
 }
 
 // The jobs that a trace has at most.
@@ -46,26 +50,34 @@ impl Taken {
     {
         Taken {
             jobs: Jobs::new(alloc),
+            submits: Vec::new(alloc),
             events: Vec::new(alloc),
             left: Vec::new(alloc),
             until: 1,
+            rounded: Vec::new(alloc),
         }
     }
 
     // A job that is left out.
-    fn leave(&mut self, cause: Cause) -> Result<(), AllocError>
-        ensures { OnOk result (so_far self.new ≡ left_out (so_far self.old) cause) }
+    fn leave(&mut self, line: usize, cause: Cause) -> Result<(), AllocError>
+        ensures { OnOk result (so_far self.new ≡ left_out (so_far self.old) line cause) }
     {
-        self.left.push(cause)?;
+        self.left.push(Reject { line, cause })?;
         Ok(())
     }
 
     // A job that is taken.
-    fn take(&mut self, name: Name, placing: &Placing) -> Result<(), AllocError>
+    fn take(
+        &mut self,
+        line: usize,
+        submit: u32,
+        name: Name,
+        placing: &Placing,
+    ) -> Result<(), AllocError>
         requires few { length self.old.jobs < 100000 }
         requires new { is_among name (job_names (map submission self.old.jobs)) ≡ false }
         requires placed { IsPlaced placing.now }
-        ensures { OnOk result (so_far self.new ≡ taken (so_far self.old) name placing.now) }
+        ensures { OnOk result (so_far self.new ≡ taken (so_far self.old) line submit name placing.now) }
     {
         let number = self.jobs.len() as u32;
         self.jobs.push(Job {
@@ -74,6 +86,7 @@ impl Taken {
             late: placing.late,
             work: Work::Asked(placing.ask),
         })?;
+        self.submits.push(submit)?;
         self.events.push(Event {
             at: placing.arrival,
             what: Happening::Arrive(number),
@@ -85,29 +98,130 @@ impl Taken {
             })?;
         }
         self.until = self.until.max(end_of(placing));
-        Ok(())
+        add_rounded(&mut self.rounded, line, placing)
+    }
+
+    // A job that is taken unless so many are there as are wanted or possible.
+    fn keep(
+        &mut self,
+        settings: &Settings,
+        line: usize,
+        submit: u32,
+        name: Name,
+        placing: &Placing,
+    ) -> Result<(), AllocError>
+        requires new { is_among name (job_names (map submission self.old.jobs)) ≡ false }
+        requires placed { IsPlaced placing.now }
+        ensures { OnOk result (so_far self.new ≡ kept settings.now (so_far self.old) line submit name placing.now) }
+    {
+        if settings.most as usize <= self.jobs.len() {
+            return self.leave(line, Cause::Outside);
+        }
+        if MOST_JOBS <= self.jobs.len() {
+            return self.leave(line, Cause::Beyond);
+        }
+        self.take(line, submit, name, placing)
+    }
+
+    // A job that was submitted again, under this name.
+    fn add_again(
+        &mut self,
+        alloc: Global,
+        settings: &Settings,
+        line: usize,
+        submit: u32,
+        name: &str,
+        placing: &Placing,
+    ) -> Result<(), AllocError>
+        requires { IsPlaced placing.now }
+        ensures { OnOk result (so_far self.new ≡ again settings.now (so_far self.old) line submit name.now placing.now) }
+    {
+        let name = match Name::read(alloc, name.as_bytes()) {
+            Ok(name) => name,
+            Err(NameFault::NotName) => return self.leave(line, Cause::Beyond),
+            Err(NameFault::NoMemory) => return Err(AllocError),
+        };
+        if self.jobs.find(name.bytes()).is_some() {
+            return self.leave(line, Cause::Repeated);
+        }
+        self.keep(settings, line, submit, name, placing)
+    }
+
+    // Whether a job was submitted in this second.
+    fn is_second(&self, number: u32, submit: u32) -> bool
+        ensures { result ≡ is_second (slice_get self.now.submits.items number) submit }
+    {
+        match self.submits.get(number as usize) {
+            Some(second) => *second == submit,
+            None => false,
+        }
+    }
+
+    // A job with a place.
+    fn add_placed(
+        &mut self,
+        alloc: Global,
+        settings: &Settings,
+        job: LoggedJob,
+        placing: &Placing,
+    ) -> Result<(), AllocError>
+        requires { IsPlaced placing.now }
+        ensures { OnOk result (so_far self.new ≡ named settings.now (so_far self.old) job.line job.account.submit job.name placing.now (number_of job.name (job_names (map submission self.old.jobs)))) }
+    {
+        let LoggedJob {
+            line,
+            name,
+            account,
+        } = job;
+        let submit = account.submit;
+        match self.jobs.find(name.bytes()) {
+            None => self.keep(settings, line, submit, name, placing),
+            Some(number) => {
+                if self.is_second(number, submit) {
+                    return self.leave(line, Cause::Repeated);
+                }
+                let again = again_name(alloc, name.text(), submit)?;
+                self.add_again(alloc, settings, line, submit, again.as_str(), placing)
+            }
+        }
     }
 
     // A job of the log, after those that were submitted before it.
-    fn add(&mut self, settings: &Settings, job: LoggedJob) -> Result<(), AllocError>
+    fn add(&mut self, alloc: Global, settings: &Settings, job: LoggedJob) -> Result<(), AllocError>
         requires { AreGood settings.now }
         ensures { OnOk result (so_far self.new ≡ with_logged settings.now (so_far self.old) job) }
     {
-        let placing = match place(settings, job.account) {
-            Ok(placing) => placing,
-            Err(cause) => return self.leave(cause),
-        };
-        if self.jobs.find(job.name.bytes()).is_some() {
-            return self.leave(Cause::Repeated);
+        match place(settings, job.account) {
+            Ok(placing) => self.add_placed(alloc, settings, job, &placing),
+            Err(cause) => self.leave(job.line, cause),
         }
-        if settings.most as usize <= self.jobs.len() {
-            return self.leave(Cause::Outside);
-        }
-        if MOST_JOBS <= self.jobs.len() {
-            return self.leave(Cause::Beyond);
-        }
-        self.take(job.name, &placing)
     }
+}
+
+// With the line of a job, where it takes a whole node for fewer processors.
+fn add_rounded(rounded: &mut Vec<usize>, line: usize, placing: &Placing) -> Result<(), AllocError>
+    ensures { OnOk result (rounded.new.items ≡ rounded.old.items ++ rounded_of line placing.now) }
+{
+    if placing.part_node {
+        rounded.push(line)?;
+    }
+    Ok(())
+}
+
+// The mark of a job that was submitted again: when that was.
+fn add_mark(text: &mut String, submit: u32) -> Result<(), AllocError>
+    ensures { OnOk result (string_bytes text.new ≡ string_bytes text.old ++ again_mark submit) }
+{
+    write!(text, ":{submit}")
+}
+
+// What a job is called that was submitted again: its name, and when that was.
+fn again_name(alloc: Global, name: &str, submit: u32) -> Result<String, AllocError>
+    ensures { IfOk result (λ text. string_bytes text ≡ again_name name.now submit) }
+{
+    let mut text = String::from_str(alloc, name)?;
+    add_mark(&mut text, submit)?;
+    Ok(text)
 }
 
 /// The jobs that are taken of those of a log, in order of submission. Its only error is want of memory.
@@ -121,7 +235,7 @@ pub(crate) fn take_all(
 {
     let mut taken = Taken::new(alloc);
     for job in jobs {
-        taken.add(settings, job)?;
+        taken.add(alloc, settings, job)?;
     }
     Ok(taken)
 }

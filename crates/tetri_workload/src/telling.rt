@@ -1,75 +1,190 @@
 // What is told of an import.
-ghost use Rattle.std.specs.Prelude.{◌≡◌, ◌++◌, IfOk, OnOk, string_bytes};
-ghost use Rattle.tetri_workload.specs.Telling.{cause_line, cause_word, count_of, counts_text, fault_words, is_cause, option_words};
+ghost use Rattle.std.specs.Prelude.{◌≡◌, ◌-◌, ◌++◌, [], IfOk, OnOk, flat_map, map, slice_index_or, string_bytes};
+ghost use Rattle.tetri_workload.specs.Telling.{cause_line, cause_number, cause_word, column_text, count_line, count_of, counts_text, fault_words, first_causes, from_words, gap_words, is_for, last_causes, option_words, reason_text, reject_text, rejects_text, to_words};
 
 use crate::importing::{ImportFault, Imported};
 use std::alloc::{AllocError, Global};
-use tetri_logs::{Cause, OptionFault};
+use tetri_logs::{Cause, OptionFault, Reject, log_lines};
 
-// Whether two causes are the same.
-fn is_cause(one: Cause, other: Cause) -> bool
-    ensures { result ≡ is_cause one other }
+fn cause_number(cause: Cause) -> u8
+    ensures { result ≡ cause_number cause }
 {
-    one == other
+    match cause {
+        Cause::Unreadable(_) => 0,
+        Cause::Step => 1,
+        Cause::NoNodes => 2,
+        Cause::Backwards => 3,
+        Cause::TooLarge => 4,
+        Cause::PartNode => 5,
+        Cause::Outside => 6,
+        Cause::Repeated => 7,
+        Cause::Beyond => 8,
+    }
+}
+
+// Whether a line is left out for a cause, in whatever column.
+fn is_for(cause: Cause, reject: Reject) -> bool
+    ensures { result ≡ is_for cause reject }
+{
+    cause_number(reject.cause) == cause_number(cause)
 }
 
 // How many lines were left out for a cause.
-fn count_of(cause: Cause, left: &[Cause]) -> usize
+fn count_of(cause: Cause, left: &[Reject]) -> usize
     ensures { result ≡ count_of cause left.now }
 {
-    left.iter().filter(|other| is_cause(cause, **other)).count()
+    left.iter().filter(|reject| is_for(cause, **reject)).count()
 }
 
 fn cause_word(cause: Cause) -> &'static str
     ensures { result.now ≡ cause_word cause }
 {
     match cause {
-        Cause::Unreadable => "unreadable",
+        Cause::Unreadable(_) => "unreadable",
         Cause::Step => "steps",
         Cause::NoNodes => "no-nodes",
+        Cause::Backwards => "backwards",
         Cause::TooLarge => "too-large",
+        Cause::PartNode => "part-nodes",
         Cause::Outside => "outside",
         Cause::Repeated => "repeated",
         Cause::Beyond => "beyond",
     }
 }
 
-// A line that says how many lines were left out for a cause.
-fn add_cause(text: &mut String, cause: Cause, left: &[Cause]) -> Result<(), AllocError>
-    ensures { OnOk result (string_bytes text.new ≡ string_bytes text.old ++ cause_line left.now cause) }
+// A line with a word and a number.
+fn add_count(text: &mut String, word: &str, count: usize) -> Result<(), AllocError>
+    ensures { OnOk result (string_bytes text.new ≡ string_bytes text.old ++ count_line word.now count) }
 {
-    let word = cause_word(cause);
-    let count = count_of(cause, left);
     writeln!(text, "{word} {count}")
 }
 
-/// How many jobs are taken, how many comments there are, and how many lines are left out for each cause, a line each. Its only
-/// error is want of memory.
+// A line that says how many lines were left out for a cause.
+fn add_cause(text: &mut String, cause: Cause, left: &[Reject]) -> Result<(), AllocError>
+    ensures { OnOk result (string_bytes text.new ≡ string_bytes text.old ++ cause_line left.now cause) }
+{
+    add_count(text, cause_word(cause), count_of(cause, left))
+}
+
+// How many lines are left out for what they say themselves.
+fn add_first_causes(text: &mut String, left: &[Reject]) -> Result<(), AllocError>
+    ensures { OnOk result (string_bytes text.new ≡ string_bytes text.old ++ first_causes left.now) }
+{
+    add_cause(text, Cause::Unreadable(0), left)?;
+    add_cause(text, Cause::Step, left)?;
+    add_cause(text, Cause::NoNodes, left)?;
+    add_cause(text, Cause::Backwards, left)
+}
+
+// How many lines are left out for what they ask for.
+fn add_last_causes(text: &mut String, left: &[Reject]) -> Result<(), AllocError>
+    ensures { OnOk result (string_bytes text.new ≡ string_bytes text.old ++ last_causes left.now) }
+{
+    add_cause(text, Cause::TooLarge, left)?;
+    add_cause(text, Cause::PartNode, left)?;
+    add_cause(text, Cause::Outside, left)?;
+    add_cause(text, Cause::Repeated, left)?;
+    add_cause(text, Cause::Beyond, left)
+}
+
+/// How many jobs are taken, how many of them take a whole node for fewer processors, how many comments there are, and how many lines are
+/// left out for each cause, a line each. Its only error is want of memory.
 pub fn counts_text(alloc: Global, imported: &Imported) -> Result<String, AllocError>
     ensures { IfOk result (λ text. string_bytes text ≡ counts_text imported.now) }
 {
-    let jobs = imported.jobs;
-    let comments = imported.comments;
     let left = imported.left.as_slice();
-    let mut text = format!(in alloc; "taken {jobs}\ncomments {comments}\n")?;
-    add_cause(&mut text, Cause::Unreadable, left)?;
-    add_cause(&mut text, Cause::Step, left)?;
-    add_cause(&mut text, Cause::NoNodes, left)?;
-    add_cause(&mut text, Cause::TooLarge, left)?;
-    add_cause(&mut text, Cause::Outside, left)?;
-    add_cause(&mut text, Cause::Repeated, left)?;
-    add_cause(&mut text, Cause::Beyond, left)?;
+    let mut text = String::new(alloc);
+    add_count(&mut text, "taken", imported.jobs)?;
+    add_count(&mut text, "rounded-up", imported.rounded)?;
+    add_count(&mut text, "comments", imported.comments)?;
+    add_first_causes(&mut text, left)?;
+    add_last_causes(&mut text, left)?;
     Ok(text)
 }
 
-/// Why there is no trace, in words.
-pub fn fault_text(fault: ImportFault) -> &'static str
-    ensures { result.now ≡ fault_words fault }
+// The column at which a line stops being one.
+fn add_column(text: &mut String, cause: Cause) -> Result<(), AllocError>
+    ensures { OnOk result (string_bytes text.new ≡ string_bytes text.old ++ column_text cause) }
+{
+    match cause {
+        Cause::Unreadable(column) => write!(text, " column {column}"),
+        _ => Ok(()),
+    }
+}
+
+/// The number of a line that is left out, and why. Its only error is want of memory.
+pub fn reason_text(alloc: Global, reject: Reject) -> Result<String, AllocError>
+    ensures { IfOk result (λ text. string_bytes text ≡ reason_text reject) }
+{
+    let line = reject.line;
+    let word = cause_word(reject.cause);
+    let mut text = format!(in alloc; "{line} {word}")?;
+    add_column(&mut text, reject.cause)?;
+    Ok(text)
+}
+
+// A line by its number.
+fn line_at<'a>(lines: &[&'a [u8]], number: usize) -> &'a [u8]
+    ensures { result.now ≡ slice_index_or (map (λ x. x.now) lines.now) (number - 1) [] }
+{
+    match lines.get(number.saturating_sub(1)) {
+        Some(line) => line,
+        None => b"",
+    }
+}
+
+// The number of a line that is left out, why, and the line.
+fn add_reject(
+    alloc: Global,
+    text: &mut Vec<u8>,
+    lines: &[&[u8]],
+    reject: Reject,
+) -> Result<(), AllocError>
+    ensures { OnOk result (text.new.items ≡ text.old.items ++ reject_text (map (λ x. x.now) lines.now) reject) }
+{
+    let reason = reason_text(alloc, reject)?;
+    text.extend_from_slice(reason.as_bytes())?;
+    text.extend_from_slice(b": ")?;
+    text.extend_from_slice(line_at(lines, reject.line))?;
+    text.extend_from_slice(b"\n")?;
+    Ok(())
+}
+
+fn add_rejects(
+    alloc: Global,
+    text: &mut Vec<u8>,
+    lines: &[&[u8]],
+    left: &[Reject],
+) -> Result<(), AllocError>
+    ensures { OnOk result (text.new.items ≡ text.old.items ++ flat_map (reject_text (map (λ x. x.now) lines.now)) left.now) }
+{
+    for reject in left {
+        add_reject(alloc, text, lines, *reject)?;
+    }
+    Ok(())
+}
+
+/// Each line of a log that is left out: its number, why, and the line itself. Its only error is want of memory.
+pub fn rejects_text(alloc: Global, log: &[u8], left: &[Reject]) -> Result<Vec<u8>, AllocError>
+    ensures { IfOk result (λ text. text.items ≡ rejects_text log.now left.now) }
+{
+    let lines = log_lines(alloc, log)?;
+    let mut text = Vec::new(alloc);
+    add_rejects(alloc, &mut text, &lines, left)?;
+    Ok(text)
+}
+
+/// Why there is no trace, in words. Its only error is want of memory.
+pub fn fault_text(alloc: Global, fault: ImportFault) -> Result<String, AllocError>
+    ensures { IfOk result (λ text. string_bytes text ≡ fault_words fault) }
 {
     match fault {
-        ImportFault::Options(fault) => option_text(fault),
-        ImportFault::Unlike => "the trace that was made is not read as it should be",
-        ImportFault::NoMemory => "out of memory",
+        ImportFault::Options(fault) => String::from_str(alloc, option_text(fault)),
+        ImportFault::Apart(second) => gap_text(alloc, second),
+        ImportFault::Unlike => {
+            String::from_str(alloc, "the trace that was made is not read as it should be")
+        }
+        ImportFault::NoMemory => String::from_str(alloc, "out of memory"),
     }
 }
 
@@ -83,6 +198,30 @@ fn option_text(fault: OptionFault) -> &'static str
         OptionFault::Budget => "the budget is 1 to 10000",
         OptionFault::Unit => "the unit is 1 to 1000000",
         OptionFault::Slack => "the slack is 0 to 10000",
-        OptionFault::Nodes => "give --nodes: the log does not say that there are 1 to 4096",
+        OptionFault::Nodes => "there are 1 to 4096 nodes",
+        OptionFault::LogNodes => "give --nodes: the log does not say that there are 1 to 4096",
     }
+}
+
+// With the second that parts the first jobs from the others.
+fn add_from(text: &mut String, second: u64) -> Result<(), AllocError>
+    ensures { OnOk result (string_bytes text.new ≡ string_bytes text.old ++ from_words second) }
+{
+    write!(text, "give --from {second}")
+}
+
+fn add_to(text: &mut String, second: u64) -> Result<(), AllocError>
+    ensures { OnOk result (string_bytes text.new ≡ string_bytes text.old ++ to_words second) }
+{
+    write!(text, " or --to {second}")
+}
+
+fn gap_text(alloc: Global, second: u64) -> Result<String, AllocError>
+    ensures { IfOk result (λ text. string_bytes text ≡ gap_words second) }
+{
+    let mut text = String::new(alloc);
+    add_from(&mut text, second)?;
+    add_to(&mut text, second)?;
+    text.push_str(": the first jobs lie 10000 slots or more before the others")?;
+    Ok(text)
 }

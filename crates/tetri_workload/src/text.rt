@@ -3,7 +3,7 @@ ghost use Rattle.std.specs.Prelude.{◌≡◌, ◌≤◌, ◌<◌, ◌++◌, IfO
 ghost use Rattle.tetri_logs.specs.Options.{AreGood};
 ghost use Rattle.tetri_trace.specs.Scenario.{demand_of, submission};
 ghost use Rattle.tetri_workload.specs.Taking.{so_far};
-ghost use Rattle.tetri_workload.specs.Text.{arrival_text, ask_text, cancel_text, class_name, closing_text, demand_text, due_text, event_text, header_text, late_text, limits_text, named_arrival_text, named_cancel_text, named_text, node_text, nodes_text, opening_text, run_text, text_of, wanted_text};
+ghost use Rattle.tetri_workload.specs.Text.{arrival_text, ask_text, cancel_text, class_name, clock_text, closing_text, demand_text, due_text, event_text, header_text, late_text, limits_text, named_arrival_text, named_cancel_text, named_text, node_text, nodes_text, opening_text, run_text, text_of, wanted_text};
 
 use crate::taking::Taken;
 use std::alloc::{AllocError, Global};
@@ -58,7 +58,14 @@ fn write_limits(text: &mut String, window: u32, budget: u32) -> Result<(), Alloc
 fn write_run(text: &mut String, until: u32, unit: u32) -> Result<(), AllocError>
     ensures { OnOk result (string_bytes text.new ≡ string_bytes text.old ++ run_text until unit) }
 {
-    writeln!(text, ",\"until\":{until},\"unit\":{unit}}}")
+    write!(text, ",\"until\":{until},\"unit\":{unit}")
+}
+
+#[tactic(auto, unfolding(crate::specs::Text::clock_text))]
+fn write_clock(text: &mut String, epoch: u64, slot: u32) -> Result<(), AllocError>
+    ensures { OnOk result (string_bytes text.new ≡ string_bytes text.old ++ clock_text epoch slot) }
+{
+    writeln!(text, ",\"epoch\":{epoch},\"slot_seconds\":{slot}}}")
 }
 
 // The nodes `n1`, `n2`, .. and the limits of the run.
@@ -69,7 +76,8 @@ fn write_header(text: &mut String, settings: &Settings, until: u32) -> Result<()
     write_opening(text)?;
     write_nodes(text, settings.nodes)?;
     write_limits(text, settings.window, settings.budget)?;
-    write_run(text, until, settings.unit)
+    write_run(text, until, settings.unit)?;
+    write_clock(text, settings.origin, settings.slot)
 }
 
 fn class_name(class: Class) -> &'static str

@@ -16,6 +16,7 @@ const PLAIN: Options = Options {
     worth: Worth::NodeSlots,
     slack: 288,
     class: Class::Steady,
+    whole_nodes_only: false,
 };
 
 // With one word more, as `slot=60`.
@@ -35,6 +36,7 @@ fn with_word(options: Options, word: &str) -> Options {
         "jobs" => options.jobs = Some(number),
         "slack" => options.slack = number,
         "worth" => options.worth = Worth::Job,
+        "whole-nodes-only" => options.whole_nodes_only = true,
         _ => options.class = Class::Decay,
     }
     options

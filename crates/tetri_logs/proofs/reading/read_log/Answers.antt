@@ -1,57 +1,50 @@
-use Rattle.std.proofs.Common.{◌≡◌, ◌+◌, ◌∙◌, ◌++◌, ◌∷◌, [], ℕ, List, map, take, length, ap, sym, arith, Bor}
+use Rattle.std.proofs.Common.{◌≡◌, ◌+◌, ◌≤◌, ◌∙◌, ℕ, List, map, length, ap, sym, arith, Bor}
 use Rattle.std.proofs.lemmas.List.{length-map}
-use Rattle.tetri_logs.specs.Entry.{entry_of}
+use Rattle.tetri_base.specs.Lists.{count}
+use Rattle.tetri_logs.specs.Layout.{first_layout}
 use Rattle.tetri_logs.specs.Lines.{log_lines}
 use Rattle.tetri_logs.specs.declared.entry.Format.{Format}
-use Rattle.tetri_logs.specs.Reading.{entries, facts_in, jobs_in, left_in, no_facts}
-use Rattle.tetri_logs.proofs.ReadingLemmas.{all_entries, all_seen, facts_in-more, jobs_in-more, left_in-more, more_entries}
+use Rattle.tetri_logs.specs.declared.entry.LoggedJob.{LoggedJob}
+use Rattle.tetri_logs.specs.declared.entry.Reject.{Reject}
+use Rattle.tetri_logs.specs.Reading.{entries, entries_of, is_comment, jobs_in, left_in}
+use Rattle.tetri_logs.proofs.ReadingLemmas.{all_entries, length-entries_from}
 use Rattle.tetri_logs.proofs.reading.read_log.Goals as goal
+
+-- the jobs, the lines that are left out and the comments of a log are as many as its lines
+all_lines : (f : Format) (items : List (Bor (List ℕ))) (log : List ℕ) (jobs : List LoggedJob) (left : List Reject)
+    → map (λ x. x.now) items ≡ log_lines log
+    → jobs ≡ jobs_in (entries_of f (map (λ x. x.now) items))
+    → left ≡ left_in (entries_of f (map (λ x. x.now) items))
+    → length jobs + length left + count is_comment (entries f log) ≡ length items
+all_lines f items log jobs left lines j l =
+    let es = entries f log in
+    let same = ap (entries_of f) lines in
+    let size : length es ≡ length items = length-entries_from (first_layout f) 1 (log_lines log) ∙ ap length (sym lines) ∙ length-map items (λ x. x.now) in
+    let jobs_are : length jobs ≡ length (jobs_in es) = ap length (j ∙ ap jobs_in same) in
+    let left_are : length left ≡ length (left_in es) = ap length (l ∙ ap left_in same) in
+    omega (arith, size, jobs_are, left_are, all_entries es)
 
 -- as many entries as lines
 entry_count : (f : Format) (items : List (Bor (List ℕ))) (log : List ℕ) → map (λ x. x.now) items ≡ log_lines log → length (entries f log) ≡ length items
-entry_count f items log e = length-map (log_lines log) (entry_of f) ∙ ap length (sym e) ∙ length-map items (λ x. x.now)
-
-pub loop-line-preserved : goal.loop-line-preserved
-loop-line-preserved c =
-    let items = c.deref-line-items.result.now in
-    let i = c.loop-line.line-index in
-    let seen = map (λ x. entry_of c.args.format x.now) (take i items) in
-    let e = c.in_ok-entry.entry in
-    let more : map (λ x. entry_of c.args.format x.now) (take (i + 1) items) ≡ seen ++ e ∷ [] =
-    more_entries (λ x. entry_of c.args.format x.now) items i (record { ref_ptr = (0, 0); now = [] }) c.loop-line-test.true
-    ∙ ap (λ d. seen ++ d ∷ []) (sym c.in_ok-entry.ensures) in
-    let inv = c.loop-line.invariant in
-    record {
-      jobs = c.in_ok-add.ensures.jobs ∙ ap (λ js. js ++ jobs_in (e ∷ [])) inv.jobs ∙ sym (jobs_in-more seen e) ∙ ap jobs_in (sym more);
-      left = c.in_ok-add.ensures.left ∙ ap (λ cs. cs ++ left_in (e ∷ [])) inv.left ∙ sym (left_in-more seen e) ∙ ap left_in (sym more);
-      facts = c.in_ok-add.ensures.facts ∙ ap (λ f. facts_in f (e ∷ [])) inv.facts ∙ sym (facts_in-more no_facts seen e) ∙ ap (facts_in no_facts) (sym more);
-    }
+entry_count f items log lines = length-entries_from (first_layout f) 1 (log_lines log) ∙ ap length (sym lines) ∙ length-map items (λ x. x.now)
 
 pub rest_of-requires : goal.rest_of-requires
 rest_of-requires c =
-    let items = c.deref-line-items.result.now in
-    let es = entries c.args.format c.args.log.now in
-    let lines : map (λ x. x.now) items ≡ log_lines c.args.log.now = ap (map (λ x. x.now)) c.deref-line-items.ensures.value ∙ c.in_ok-lines.ensures in
-    let all = all_seen c.args.format items c.loop-line.line-index c.args.log.now c.loop-line-test.false lines in
-    let inv = c.loop-line.invariant in
-    let jobs : length c.loop-line.read.jobs.items ≡ length (jobs_in es) = ap length inv.jobs ∙ ap (λ ds. length (jobs_in ds)) all in
-    let left : length c.loop-line.read.left.items ≡ length (left_in es) = ap length inv.left ∙ ap (λ ds. length (left_in ds)) all in
-    omega (arith, jobs, left, all_entries es, entry_count c.args.format items c.args.log.now lines, c.deref-line-items.ensures.len, c.len.ensures, c.len-2.ensures, c.len-3.ensures)
+    let items = c.deref.result.now in
+    let lines : map (λ x. x.now) items ≡ log_lines c.args.log.now = ap (map (λ x. x.now)) c.deref.ensures.value ∙ c.in_ok-lines.ensures in
+    let all = all_lines c.args.format items c.args.log.now c.in_ok-read.read.jobs.items c.in_ok-read.read.left.items lines c.in_ok-read.ensures.jobs c.in_ok-read.ensures.left in
+    omega (arith, all, c.deref.ensures.len, c.len.ensures, c.len-2.ensures, c.len-3.ensures)
 
-pub returns : goal.returns
-returns c =
-    let items = c.deref-line-items.result.now in
-    let es = entries c.args.format c.args.log.now in
-    let lines : map (λ x. x.now) items ≡ log_lines c.args.log.now = ap (map (λ x. x.now)) c.deref-line-items.ensures.value ∙ c.in_ok-lines.ensures in
-    let all = all_seen c.args.format items c.loop-line.line-index c.args.log.now c.loop-line-test.false lines in
-    let inv = c.loop-line.invariant in
-    let jobs : length c.loop-line.read.jobs.items ≡ length (jobs_in es) = ap length inv.jobs ∙ ap (λ ds. length (jobs_in ds)) all in
-    let left : length c.loop-line.read.left.items ≡ length (left_in es) = ap length inv.left ∙ ap (λ ds. length (left_in ds)) all in
+pub returns-clause-comments : goal.returns-clause-comments
+returns-clause-comments c =
+    let items = c.deref.result.now in
+    let lines : map (λ x. x.now) items ≡ log_lines c.args.log.now = ap (map (λ x. x.now)) c.deref.ensures.value ∙ c.in_ok-lines.ensures in
+    let all = all_lines c.args.format items c.args.log.now c.in_ok-read.read.jobs.items c.in_ok-read.read.left.items lines c.in_ok-read.ensures.jobs c.in_ok-read.ensures.left in
+    omega (arith, all, c.rest_of.ensures, c.deref.ensures.len, c.len.ensures, c.len-2.ensures, c.len-3.ensures)
+
+pub returns-clause-whole : goal.returns-clause-whole
+returns-clause-whole c =
+    let items = c.deref.result.now in
+    let lines : map (λ x. x.now) items ≡ log_lines c.args.log.now = ap (map (λ x. x.now)) c.deref.ensures.value ∙ c.in_ok-lines.ensures in
     let size = entry_count c.args.format items c.args.log.now lines in
-    record {
-      jobs = inv.jobs ∙ ap jobs_in all;
-      left = inv.left ∙ ap left_in all;
-      facts = inv.facts ∙ ap (facts_in no_facts) all;
-      comments = omega (arith, jobs, left, all_entries es, size, c.rest_of.ensures, c.deref-line-items.ensures.len, c.len.ensures, c.len-2.ensures, c.len-3.ensures);
-      whole = omega (arith, jobs, left, all_entries es, size, c.rest_of.ensures, c.deref-line-items.ensures.len, c.len.ensures, c.len-2.ensures, c.len-3.ensures);
-    }
+    omega (arith, size, c.rest_of.ensures, c.deref.ensures.len, c.len.ensures, c.len-2.ensures, c.len-3.ensures)

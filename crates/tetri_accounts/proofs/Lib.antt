@@ -1,0 +1,9 @@
+pub mod AccountLemmas
+pub mod FromLemmas
+pub mod IdleLemmas
+pub mod LaunchLemmas
+pub mod PartLemmas
+pub mod RunLemmas
+pub mod SearchLemmas
+pub mod SlotLemmas
+pub mod WorthLemmas

@@ -1,0 +1,129 @@
+// Accounts of reports as text, over memory. A table gives traces and reports, and below them wants what is told of them: by a section
+// `jobs FORMAT`, `stats FORMAT BY` or `compare FORMAT`, which has the text, or the words of what refuses the report.
+use std::alloc::{AllocError, Global};
+use std::fmt::Write;
+use tetri_accounts::{Account, account_report};
+use tetri_figures::{By, Compared, Format, compare_text, jobs_text, stats_text, tags_of};
+use tetri_io::{MemShelf, MemSink};
+use tetri_run::{Status, conclude};
+use tetri_tables::{Given, Tally, sections_of, text_in};
+
+fn format_of(word: &str) -> Format {
+    match word {
+        "csv" => Format::Csv,
+        "jsonl" => Format::Lines,
+        _ => Format::Table,
+    }
+}
+
+fn by_of(word: &str) -> By {
+    match word {
+        "tag" => By::Tag,
+        "class" => By::Class,
+        _ => By::Nothing,
+    }
+}
+
+// What is said of a call that ends so.
+fn said(alloc: Global, status: &Status) -> Result<Vec<u8>, AllocError> {
+    let mut sink = MemSink::new(alloc, 4000, 4000, &[])?;
+    let _number = conclude(alloc, status, &mut sink);
+    Vec::from_slice(alloc, sink.written())
+}
+
+fn put(
+    alloc: Global,
+    name: &str,
+    account: Account,
+    runs: &mut Vec<Compared>,
+) -> Result<(), AllocError> {
+    let name = String::from_str(alloc, name)?;
+    runs.push(Compared { name, account })?;
+    Ok(())
+}
+
+// The shelf with the trace and the report.
+fn shelf_of(alloc: Global, given: &Given) -> Result<MemShelf, AllocError> {
+    let mut shelf = MemShelf::new(alloc, 4000, &[])?;
+    shelf.put("trace", given.trace.as_bytes())?;
+    shelf.put("report", given.report.as_bytes())?;
+    Ok(shelf)
+}
+
+// A trace and a report in which the first of so many jobs runs on the only node and the others wait, too many to be searched.
+fn crowd(alloc: Global, jobs: u32) -> Result<Given, AllocError> {
+    let mut given = Given::new(alloc);
+    let header = "{\"nodes\":[{\"name\":\"n1\"}],\"window\":1,\"budget\":1,\"until\":1}\n";
+    given.trace.push_str(header)?;
+    for job in 0..jobs {
+        write!(
+            given.trace,
+            "{{\"at\":0,\"arrive\":\"j{job}\",\"strl\":\"nCk(*,1,0,1,1)\"}}\n"
+        )?;
+    }
+    let columns = u64::from(jobs) * 2;
+    let rows = columns + 1;
+    write!(
+        given.report,
+        "cycle 0\nplan 1 {jobs} wide 0\ngrant j0 0 0 n1\ntops {columns} {rows}\nlaunch j0\n"
+    )?;
+    let summary = "summary cycles=1 launched=1 ended=0 cancelled=0 expired=0 worth=1 optimal=0\n";
+    given.report.push_str(summary)?;
+    Ok(given)
+}
+
+// How many lines and bytes the rows of such a crowd take.
+fn crowd_told(alloc: Global, jobs: u32) -> Result<String, AllocError> {
+    let given = crowd(alloc, jobs)?;
+    let text = told(alloc, &given, "jobs jsonl")?;
+    let lines = text.iter().filter(|b| **b == b'\n').count();
+    let bytes = text.len();
+    format!(in alloc; "{lines} lines, {bytes} bytes")
+}
+
+// What is told of a report, by these words.
+fn told(alloc: Global, given: &Given, kind: &str) -> Result<Vec<u8>, AllocError> {
+    let mut words = kind.split(' ');
+    let what = words.next().unwrap_or("");
+    let format = format_of(words.next().unwrap_or(""));
+    let by = by_of(words.next().unwrap_or(""));
+    let mut shelf = shelf_of(alloc, given)?;
+    let (trace, first) = match account_report(alloc, "trace", "report", &mut shelf) {
+        Ok(both) => both,
+        Err(status) => return said(alloc, &status),
+    };
+    match what {
+        "jobs" => jobs_text(alloc, &trace, first.rows.as_slice(), format),
+        "stats" => {
+            let tags = tags_of(alloc, &mut shelf, "trace")?;
+            stats_text(alloc, &trace, &first, by, &tags, format)
+        }
+        _ => {
+            let second = match account_report(alloc, "trace", "report", &mut shelf) {
+                Ok((_trace, second)) => second,
+                Err(status) => return said(alloc, &status),
+            };
+            let mut runs = Vec::new(alloc);
+            put(alloc, "one", first, &mut runs)?;
+            put(alloc, "two", second, &mut runs)?;
+            compare_text(alloc, &trace, &runs, format)
+        }
+    }
+}
+
+/// Tells of each report of a table what it asks for.
+pub fn judge(alloc: Global, table: &str) -> Result<Tally, AllocError> {
+    let mut tally = Tally::new(alloc);
+    let mut given = Given::new(alloc);
+    for (kind, body) in sections_of(alloc, table)?.as_slice() {
+        if let Some(jobs) = kind.strip_prefix("crowd ") {
+            let found = crowd_told(alloc, jobs.parse::<u32>().unwrap_or(0))?;
+            tally.expect(kind, found.as_str(), body)?;
+        } else if !given.take(alloc, kind, body)? {
+            let found = told(alloc, &given, kind)?;
+            let text = text_in(alloc, &found)?;
+            tally.expect(kind, text.as_str().trim_end_matches('\n'), body)?;
+        }
+    }
+    Ok(tally)
+}

@@ -1,0 +1,19 @@
+//! Accounts of runs as text: rows of jobs, figures of a run, and figures of several runs beside one another, as tables, as
+//! comma-separated values and as lines of JSON.
+#![tactic(auto)]
+
+mod cells;
+mod columns;
+mod compare;
+mod figures;
+mod format;
+mod groups;
+mod jobs;
+mod stats;
+mod tags;
+
+pub use compare::{Compared, compare_text};
+pub use format::Format;
+pub use jobs::jobs_text;
+pub use stats::{By, stats_text};
+pub use tags::tags_of;

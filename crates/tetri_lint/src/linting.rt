@@ -1,0 +1,59 @@
+// All that is to be said of a trace.
+ghost use Rattle.std.specs.Prelude.{◌≡◌, ◌≤◌, List, ℕ, Some, IfOk, IsErrOf, option_map};
+ghost use Rattle.tetri_algebra.specs.Counts.{Rose};
+ghost use Rattle.tetri_lint.specs.Lint.{cause, refused};
+ghost use Rattle.tetri_trace.specs.Lines.{scenario_in};
+
+use crate::explaining::told_of;
+use crate::fault::LintFault;
+use crate::finding::{Linted, Refusal};
+use crate::jobs::findings_in;
+use crate::whole::text_of;
+use std::alloc::Global;
+use tetri_io::Shelf;
+use tetri_notice::{TraceFault, TraceWhy};
+use tetri_trace::read_trace;
+
+/// What is told of a trace that was refused for this cause at this line. `Read` comes only where the count of the name's faults rose.
+pub fn explain<S: Shelf>(
+    alloc: Global,
+    shelf: &mut S,
+    name: &str,
+    line: u64,
+    why: TraceWhy,
+) -> Result<Refusal, LintFault>
+    ensures cause { IfOk result (λ r. cause r ≡ (line, why)) }
+    ensures same { S.told shelf.new ≡ S.told shelf.old }
+    ensures read { IsErrOf result LintFault.Read
+        → Rose (S.faults shelf.old name.now) (S.faults shelf.new name.now) }
+    ensures later { (other : List ℕ) → S.faults shelf.old other ≤ S.faults shelf.new other }
+{
+    let text = text_of(alloc, shelf, name)?;
+    let told = told_of(alloc, &text, line, why)?;
+    Ok(Refusal { line, why, told })
+}
+
+/// All that is to be said of the trace that a name holds. A refusal is told exactly where the trace is refused, with the line and the cause
+/// that `read_trace` gives. `Read` comes only where the count of the name's faults rose.
+pub fn lint<S: Shelf>(alloc: Global, shelf: &mut S, name: &str) -> Result<Linted, LintFault>
+    ensures exact { (content : List ℕ) → S.told shelf.old name.now ≡ Some content
+        → IfOk result (λ l. option_map cause l.refusal ≡ refused (scenario_in content)) }
+    ensures same { S.told shelf.new ≡ S.told shelf.old }
+    ensures read { IsErrOf result LintFault.Read
+        → Rose (S.faults shelf.old name.now) (S.faults shelf.new name.now) }
+    ensures later { (other : List ℕ) → S.faults shelf.old other ≤ S.faults shelf.new other }
+{
+    let mut linted = Linted::new(alloc);
+    match read_trace(alloc, shelf, name) {
+        Ok(trace) => {
+            let text = text_of(alloc, shelf, name)?;
+            findings_in(alloc, &trace, &text, &mut linted)?;
+        }
+        Err(TraceFault::Bad { line, why }) => {
+            linted.refusal = Some(explain(alloc, shelf, name, line, why)?);
+        }
+        Err(TraceFault::Read) => return Err(LintFault::Read),
+        Err(TraceFault::NoMemory) => return Err(LintFault::NoMemory),
+    }
+    Ok(linted)
+}

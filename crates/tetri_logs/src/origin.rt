@@ -1,0 +1,93 @@
+// The second with which slot 0 begins.
+ghost use Rattle.std.specs.Prelude.{◌≡◌, ◌<◌, ◌^◌};
+ghost use Rattle.tetri_logs.specs.Options.{AreGood};
+ghost use Rattle.tetri_logs.specs.Origin.{begun, begun_at, first_second, gap_after, gap_of, may_begin};
+
+use crate::account::Account;
+use crate::entry::LoggedJob;
+use crate::options::{Options, Settings};
+use crate::placing::place;
+use crate::scale::moment_of;
+
+// With slot 0 at this second.
+fn begun_at(settings: &Settings, second: u64) -> Settings
+    requires { AreGood settings.now }
+    ensures value { result ≡ begun_at settings.now second }
+    ensures good { AreGood result }
+{
+    Settings {
+        origin: second,
+        ..*settings
+    }
+}
+
+// Whether a job would have a place if slot 0 began with it.
+fn may_begin(settings: &Settings, account: Account) -> bool
+    requires { AreGood settings.now }
+    ensures { result ≡ may_begin settings.now account }
+{
+    let begun = begun_at(settings, moment_of(settings, account));
+    place(&begun, account).is_ok()
+}
+
+// When the first of these jobs was submitted that may begin.
+fn first_second(settings: &Settings, jobs: &[LoggedJob]) -> u64
+    requires { AreGood settings.now }
+    ensures value { result ≡ first_second settings.now jobs.now }
+    ensures small { result < 2 ^ 33 }
+{
+    for job in jobs {
+        if may_begin(settings, job.account) {
+            return moment_of(settings, job.account);
+        }
+    }
+    0
+}
+
+/// With slot 0 at the first submission of a job that may begin. The jobs are in order of submission.
+pub fn begun(settings: &Settings, jobs: &[LoggedJob]) -> Settings
+    requires { AreGood settings.now }
+    ensures value { result ≡ begun settings.now jobs.now }
+    ensures good { AreGood result }
+    ensures small { result.origin < 2 ^ 33 }
+{
+    begun_at(settings, first_second(settings, jobs))
+}
+
+fn gap_after(settings: &Settings, last: u64, jobs: &[LoggedJob]) -> Option<u64>
+    requires good { AreGood settings.now }
+    requires small { settings.now.origin < 2 ^ 33 }
+    requires before { last < 2 ^ 33 }
+    ensures { result ≡ gap_after settings.now last jobs.now }
+{
+    let run = 10_000 * u64::from(settings.slot);
+    let mut last = last;
+    for job in jobs {
+        if may_begin(settings, job.account) {
+            let moment = moment_of(settings, job.account);
+            if settings.origin + run <= moment {
+                return if last + run <= moment {
+                    Some(moment)
+                } else {
+                    None
+                };
+            }
+            last = moment;
+        }
+    }
+    None
+}
+
+/// When the first job was submitted that comes too late for the trace, if it comes so long behind the one before it as a trace is long.
+/// Nothing where the caller says when the wanted part begins. The jobs are in order of submission.
+pub fn gap_of(options: &Options, settings: &Settings, jobs: &[LoggedJob]) -> Option<u64>
+    requires good { AreGood settings.now }
+    requires small { settings.now.origin < 2 ^ 33 }
+    ensures { result ≡ gap_of options.now settings.now jobs.now }
+{
+    if options.from.is_some() {
+        None
+    } else {
+        gap_after(settings, settings.origin, jobs)
+    }
+}

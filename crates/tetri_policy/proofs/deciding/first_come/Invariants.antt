@@ -1,0 +1,16 @@
+use Rattle.std.proofs.Common.{◌≡◌, ◌++◌, List, [], drop, length, map}
+use Rattle.tetri_advice.specs.Fit.{Placement}
+use Rattle.tetri_greedy.specs.Held.{TellsOf}
+use Rattle.tetri_space.specs.Space.{bid, space}
+use Rattle.tetri_policy.specs.Policies.{first_come}
+use Rattle.tetri_policy.proofs.deciding.first_come.Given as goal
+
+abbrev pub invariant-loop-offer : goal.invariant-loop-offer
+invariant-loop-offer l =
+    let s = space l.inst in
+    record {
+      as_many : length l.held ≡ s.nodes;
+      so_far :
+          (before : List Placement) × TellsOf s before l.held
+          × (l.grants.items ++ first_come s before (map bid (drop l.offer-index l.offer-items)) ≡ first_come s [] s.bids);
+    }

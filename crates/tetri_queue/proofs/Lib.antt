@@ -1,0 +1,4 @@
+mod FromLemmas
+mod SameLemmas
+mod MoreLemmas
+pub mod CountLemmas

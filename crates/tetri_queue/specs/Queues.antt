@@ -1,0 +1,67 @@
+-- The trace of one cycle of a queue.
+use Rattle.std.specs.Prelude.{◌≡◌, ℕ, ℤ, pos, Bool, true, false, List, [], length, map, slice_index_or, string_bytes, Option, Some, None, Ok}
+use Rattle.tetri_base.specs.Lists.{count}
+use Rattle.tetri_cluster.specs.Cluster.{names_of}
+use Rattle.tetri_io.specs.Words.{parts_at}
+use Rattle.tetri_notice.specs.declared.header.Header.{Header}
+use Rattle.tetri_request.specs.declared.ask.Ask.{Ask}
+use Rattle.tetri_trace.specs.Lines.{scenario_in}
+use Rattle.tetri_trace.specs.Scenario.{Demand, Scenario, Submission, asks, strl}
+use Rattle.tetri_queue.specs.declared.cause.Cause.{Cause}
+use Rattle.tetri_queue.specs.declared.cause.Fate.{Fate}
+use Rattle.tetri_queue.specs.declared.cause.Fate.TheVariants.{Taken, Running, Released, Blank, Left}
+use Rattle.tetri_queue.specs.declared.gathering.Cycle.{Cycle}
+use Rattle.tetri_queue.specs.declared.gathering.TakenJob.{TakenJob}
+use Rattle.tetri_queue.specs.declared.queueing.Queue.{Queue}
+
+abbrev pub is_taken : Fate → Bool
+is_taken Taken = true
+is_taken Running = false
+is_taken Released = false
+is_taken Blank = false
+is_taken (Left cause) = false
+
+-- a job and what it asks for, with its set as the nodes of it
+pub record Wish : Type 0 where
+  pub name : List ℕ
+  pub arrival : ℕ
+  pub late : ℤ
+  pub ask : Ask
+  pub nodes : List ℕ
+
+abbrev pub wish_by : List (List ℕ) → Submission → Demand → Option Wish
+wish_by sets u (strl tree) = None
+wish_by sets u (asks a) = Some (record { name = u.name; arrival = u.arrival; late = u.late; ask = record a { set = 0 }; nodes = slice_index_or sets a.set [] })
+
+-- what a job of a trace with these sets asks for, if that is no expression
+abbrev pub wanted_of : List (List ℕ) → Submission → Option Wish
+wanted_of sets u = wish_by sets u u.demand
+
+-- what a job that is taken asks for: it arrives in slot 0
+abbrev pub wanted : TakenJob → Option Wish
+wanted j = Some (record { name = j.name; arrival = 0; late = pos 0; ask = j.ask; nodes = j.nodes })
+
+-- one cycle, with worths as they are written
+abbrev pub header_of : Cycle → Header
+header_of c = record { window = c.window; budget = c.budget; until = 1; unit = 1 }
+
+-- A trace is that of a cycle.
+pub record IsCycle (c : Cycle) (said : Scenario) : Type 0 where
+  pub header : said.header ≡ header_of c
+  pub nodes : names_of said.nodes ≡ names_of c.cluster
+  pub closures : said.closures ≡ c.closures.items
+  pub jobs : map (wanted_of said.sets) said.submissions ≡ map wanted c.jobs.items
+  pub events : said.events ≡ c.events.items
+
+-- a text is read as the trace of a cycle
+abbrev pub IsReadAs : Cycle → List ℕ → Type 0
+IsReadAs c text = (said : Scenario) × (scenario_in text ≡ Ok said) × IsCycle c said
+
+-- What is handed out of these lines: a text that is read as the trace of a cycle; each line has its fate, and those of jobs that are taken
+-- are as many as the jobs.
+pub record IsQueue (job_lines node_lines reserved_lines : List ℕ) (q : Queue) : Type 0 where
+  pub trace : IsReadAs q.cycle (string_bytes q.trace)
+  pub fates : length q.fates.items ≡ length (parts_at 10 job_lines)
+  pub taken : count is_taken q.fates.items ≡ length q.cycle.jobs.items
+  pub nodes : length q.nodes.items ≡ length (parts_at 10 node_lines)
+  pub reservations : length q.reservations.items ≡ length (parts_at 10 reserved_lines)

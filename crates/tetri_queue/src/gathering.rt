@@ -1,0 +1,393 @@
+// What is gathered of a queue for one cycle.
+ghost use Rattle.std.specs.Prelude.{◌≡◌, ◌+◌, IfOk, OnOk, length};
+ghost use Rattle.tetri_base.specs.Lists.{bit};
+ghost use Rattle.tetri_queue.specs.Queues.{is_taken};
+
+use crate::asked::{Asked, QueueWorth};
+use crate::cause::{Cause, Fate, ReservationFate};
+use crate::constraint::{Shape, key_of, mark_hosts, shape_of};
+use crate::line::{Said, Waiting, said_of};
+use crate::reserved::{Reserved, reserved_of};
+use crate::span::slots_of;
+use std::alloc::{AllocError, Global};
+use tetri_cluster::{Cluster, Name, NameTable, NodeSet};
+use tetri_hosts::{NodeState, columns_of};
+use tetri_request::Ask;
+use tetri_space::Closure;
+use tetri_trace::{Event, Happening};
+
+// The jobs, the sets and the closures that a trace has at most, and the greatest worth.
+const MOST_JOBS: usize = 100_000;
+
+const MOST_SETS: usize = 4096;
+
+const MOST_CLOSURES: usize = 4096;
+
+const PEAK: u64 = 1_000_000_000_000;
+
+/// A job that is taken: its name, what it asks for, where set 0 stands for its own, and the nodes that it may use.
+#[derive(Drop)]
+pub struct TakenJob {
+    pub name: Name,
+    pub ask: Ask,
+    pub nodes: NodeSet,
+    /// The text of the set of these nodes.
+    pub set: String,
+}
+
+/// What one cycle plans for: the nodes, the slots in which they are closed, the jobs, and what happens in its slot.
+#[derive(Drop)]
+pub struct Cycle {
+    pub window: u32,
+    pub budget: u32,
+    pub cluster: Cluster,
+    pub closures: Vec<Closure>,
+    pub jobs: Vec<TakenJob>,
+    /// Nodes that take no jobs are drained, and each job arrives.
+    pub events: Vec<Event>,
+}
+
+/// What is gathered so far.
+#[derive(Drop)]
+pub(crate) struct Gathering {
+    asked: Asked,
+    // For each node in how many slots from slot 0 on it is closed, and whether it takes no jobs.
+    closed: Vec<u32>,
+    shut: Vec<bool>,
+    later: Vec<Closure>,
+    keys: NameTable,
+    shapes: Vec<Result<Shape, Cause>>,
+    names: NameTable,
+    pub(crate) jobs: Vec<TakenJob>,
+}
+
+// What a job asks for.
+fn ask_of(asked: &Asked, job: &Waiting<'_>) -> Ask {
+    let slots = slots_of(job.limit, asked.slot);
+    let value = match asked.worth {
+        QueueWorth::Priority => u64::from(job.priority.max(1)),
+        QueueWorth::NodeSlots => worth_of(asked, job, slots),
+    };
+    Ask {
+        k: job.width,
+        set: 0,
+        dur: slots,
+        value: value.min(PEAK),
+        deadline: slots.saturating_add(asked.slack),
+        prefer: None,
+        class: asked.class,
+        elastic: false,
+    }
+}
+
+// Its nodes times its slots, and as much again for each slot that it has waited, times the weight.
+fn worth_of(asked: &Asked, job: &Waiting<'_>, slots: u32) -> u64 {
+    let waited = match (asked.now, job.submitted) {
+        (Some(now), Some(submitted)) => now.saturating_sub(submitted) / asked.slot.max(1),
+        _ => 0,
+    };
+    let times = u64::from(asked.waiting)
+        .saturating_mul(u64::from(waited))
+        .saturating_add(1);
+    u64::from(job.width)
+        .saturating_mul(u64::from(slots))
+        .saturating_mul(times)
+}
+
+impl Gathering {
+    /// Nothing but the nodes, which have these states.
+    pub(crate) fn new(
+        alloc: Global,
+        asked: Asked,
+        states: &[NodeState],
+    ) -> Result<Gathering, AllocError>
+        ensures { IfOk result (λ g. length g.jobs.items ≡ 0) }
+    {
+        let mut closed = Vec::new(alloc);
+        let mut shut = Vec::new(alloc);
+        for state in states {
+            closed.push(if *state == NodeState::Taken { 1 } else { 0 })?;
+            shut.push(*state == NodeState::Shut)?;
+        }
+        Ok(Gathering {
+            asked,
+            closed,
+            shut,
+            later: Vec::new(alloc),
+            keys: NameTable::new(alloc),
+            shapes: Vec::new(alloc),
+            names: NameTable::new(alloc),
+            jobs: Vec::new(alloc),
+        })
+    }
+
+    // Closes a node for so many slots from slot 0 on.
+    fn close(&mut self, node: usize, slots: u32)
+        ensures { self.new.jobs.items ≡ self.old.jobs.items }
+    {
+        if node < self.closed.len() {
+            self.closed[node] = self.closed[node].max(slots);
+        }
+    }
+
+    // Closes hosts for so many seconds. False where this is no list of hosts.
+    fn close_hosts(
+        &mut self,
+        alloc: Global,
+        cluster: &Cluster,
+        hosts: &[u8],
+        seconds: u64,
+    ) -> Result<bool, AllocError>
+        ensures { OnOk result (self.new.jobs.items ≡ self.old.jobs.items) }
+    {
+        let slots = slots_of(seconds, self.asked.slot);
+        let mut marked = vec![in alloc; false; self.closed.len()]?;
+        if !mark_hosts(alloc, cluster, hosts, &mut marked)? {
+            return Ok(false);
+        }
+        for node in 0..marked.len() {
+            if marked[node] {
+                self.close(node, slots);
+            }
+        }
+        Ok(true)
+    }
+
+    // The number of the shape of a kind, which is made where it is new. None where there are as many as can be.
+    fn shape_number(
+        &mut self,
+        alloc: Global,
+        cluster: &Cluster,
+        job: &Waiting<'_>,
+    ) -> Result<Option<usize>, AllocError>
+        ensures { OnOk result (self.new.jobs.items ≡ self.old.jobs.items) }
+    {
+        let key = key_of(alloc, job.kind)?;
+        if let Some(number) = self.keys.number(&key) {
+            return Ok(Some(number));
+        }
+        if MOST_SETS <= self.shapes.len() {
+            return Ok(None);
+        }
+        let shape = shape_of(alloc, cluster, job.kind)?;
+        let number = self.shapes.len();
+        self.shapes.push(shape)?;
+        self.keys.add(&key)?;
+        Ok(Some(number))
+    }
+
+    // What becomes of a job that waits for an order.
+    fn take(
+        &mut self,
+        alloc: Global,
+        cluster: &Cluster,
+        job: Waiting<'_>,
+    ) -> Result<Fate, AllocError>
+        ensures { IfOk result (λ fate. length self.new.jobs.items ≡ length self.old.jobs.items + bit (is_taken fate)) }
+    {
+        let number = match self.shape_number(alloc, cluster, &job)? {
+            Some(number) if number < self.shapes.len() => number,
+            _ => return Ok(Fate::Left(Cause::Beyond)),
+        };
+        let (nodes, set) = match &self.shapes[number] {
+            Ok(shape) => (shape.nodes.as_slice(), shape.text.as_str()),
+            Err(cause) => return Ok(Fate::Left(*cause)),
+        };
+        if nodes.len() < job.width as usize {
+            return Ok(Fate::Left(Cause::TooLarge));
+        }
+        if MOST_JOBS <= self.jobs.len() {
+            return Ok(Fate::Left(Cause::Beyond));
+        }
+        if !self.names.add(job.name.bytes())? {
+            return Ok(Fate::Left(Cause::Repeated));
+        }
+        let ask = ask_of(&self.asked, &job);
+        let nodes = NodeSet::of_slice(alloc, nodes)?;
+        let set = String::from_str(alloc, set)?;
+        self.jobs.push(TakenJob {
+            name: job.name,
+            ask,
+            nodes,
+            set,
+        })?;
+        Ok(Fate::Taken)
+    }
+
+    // What becomes of what a line says.
+    fn fate_of(
+        &mut self,
+        alloc: Global,
+        cluster: &Cluster,
+        said: Said<'_>,
+    ) -> Result<Fate, AllocError>
+        ensures { IfOk result (λ fate. length self.new.jobs.items ≡ length self.old.jobs.items + bit (is_taken fate)) }
+    {
+        match said {
+            Said::Asks(job) => self.take(alloc, cluster, job),
+            Said::Holds(hosts, seconds, runs) => {
+                if !self.close_hosts(alloc, cluster, hosts, seconds)? {
+                    return Ok(Fate::Left(Cause::Unreadable));
+                }
+                Ok(if runs { Fate::Running } else { Fate::Released })
+            }
+            Said::Left(cause) => Ok(Fate::Left(cause)),
+        }
+    }
+
+    /// What becomes of one line of the queue more.
+    pub(crate) fn add_line(
+        &mut self,
+        alloc: Global,
+        cluster: &Cluster,
+        line: &[u8],
+    ) -> Result<Fate, AllocError>
+        ensures { IfOk result (λ fate. length self.new.jobs.items ≡ length self.old.jobs.items + bit (is_taken fate)) }
+    {
+        if line.is_empty() {
+            return Ok(Fate::Blank);
+        }
+        let columns = columns_of(alloc, line)?;
+        let said = said_of(alloc, &columns, self.asked.whole)?;
+        self.fate_of(alloc, cluster, said)
+    }
+
+    // Closes hosts in these slots. False where this is no list of hosts.
+    fn close_later(
+        &mut self,
+        alloc: Global,
+        cluster: &Cluster,
+        reserved: &Reserved<'_>,
+    ) -> Result<bool, AllocError>
+        ensures { OnOk result (self.new.jobs.items ≡ self.old.jobs.items) }
+    {
+        let mut marked = vec![in alloc; false; self.closed.len()]?;
+        if !mark_hosts(alloc, cluster, reserved.hosts, &mut marked)? {
+            return Ok(false);
+        }
+        for node in 0..marked.len() {
+            if marked[node] && node < MOST_CLOSURES {
+                if reserved.from == 0 {
+                    self.close(node, reserved.to.saturating_add(1));
+                } else {
+                    self.later.push(Closure {
+                        node: node as u32,
+                        from: reserved.from,
+                        to: reserved.to,
+                    })?;
+                }
+            }
+        }
+        Ok(true)
+    }
+
+    /// What becomes of one line more that tells of a reservation.
+    pub(crate) fn add_reservation(
+        &mut self,
+        alloc: Global,
+        cluster: &Cluster,
+        line: &[u8],
+    ) -> Result<ReservationFate, AllocError>
+        ensures { OnOk result (self.new.jobs.items ≡ self.old.jobs.items) }
+    {
+        match reserved_of(alloc, line, &self.asked)? {
+            Ok(reserved) => {
+                if self.close_later(alloc, cluster, &reserved)? {
+                    Ok(ReservationFate::Closed)
+                } else {
+                    Ok(ReservationFate::Unread)
+                }
+            }
+            Err(fate) => Ok(fate),
+        }
+    }
+
+    /// What is planned for of all this: the closures, by node those from slot 0 on first, and how many nodes are drained since there are
+    /// more of them than a trace may have; what happens; and the jobs.
+    pub(crate) fn finish(self, alloc: Global) -> Result<Gathered, AllocError>
+        ensures { IfOk result (λ g. g.jobs.items ≡ self.jobs.items) }
+    {
+        let Gathering {
+            closed,
+            mut shut,
+            later,
+            jobs,
+            asked: _,
+            keys: _,
+            shapes: _,
+            names: _,
+        } = self;
+        let mut closures = closures_of(alloc, &closed)?;
+        let crowded = add_later(&later, &mut closures, &mut shut)?;
+        let events = events_of(alloc, &shut, jobs.len())?;
+        Ok(Gathered {
+            closures,
+            events,
+            jobs,
+            crowded,
+        })
+    }
+}
+
+/// What was gathered.
+#[derive(Drop)]
+pub(crate) struct Gathered {
+    pub(crate) closures: Vec<Closure>,
+    pub(crate) events: Vec<Event>,
+    pub(crate) jobs: Vec<TakenJob>,
+    pub(crate) crowded: usize,
+}
+
+// A closure from slot 0 on of each node that is closed then.
+fn closures_of(alloc: Global, closed: &[u32]) -> Result<Vec<Closure>, AllocError> {
+    let mut closures = Vec::new(alloc);
+    for (node, slots) in closed.iter().enumerate() {
+        if *slots != 0 && node < MOST_CLOSURES {
+            closures.push(Closure {
+                node: node as u32,
+                from: 0,
+                to: *slots - 1,
+            })?;
+        }
+    }
+    Ok(closures)
+}
+
+// Adds closures while there may be more; the nodes of the others take no jobs. Says how many these are.
+fn add_later(
+    later: &[Closure],
+    closures: &mut Vec<Closure>,
+    shut: &mut [bool],
+) -> Result<usize, AllocError> {
+    let mut crowded = 0usize;
+    for closure in later {
+        let node = closure.node as usize;
+        if closures.len() < MOST_CLOSURES {
+            closures.push(*closure)?;
+        } else if node < shut.len() && !shut[node] {
+            shut[node] = true;
+            crowded = crowded.saturating_add(1);
+        }
+    }
+    Ok(crowded)
+}
+
+// Nodes that take no jobs are drained, and then the jobs arrive.
+fn events_of(alloc: Global, shut: &[bool], jobs: usize) -> Result<Vec<Event>, AllocError> {
+    let mut events = Vec::new(alloc);
+    for (node, is_shut) in shut.iter().enumerate() {
+        if *is_shut && node < MOST_CLOSURES {
+            events.push(Event {
+                at: 0,
+                what: Happening::Drain(node as u32),
+            })?;
+        }
+    }
+    for job in 0..jobs.min(MOST_JOBS) {
+        events.push(Event {
+            at: 0,
+            what: Happening::Arrive(job as u32),
+        })?;
+    }
+    Ok(events)
+}

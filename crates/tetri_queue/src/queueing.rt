@@ -1,0 +1,187 @@
+// From a queue to the trace of one cycle.
+ghost use Rattle.std.specs.Prelude.{◌≡◌, ◌+◌, IfOk, OnOk, length};
+ghost use Rattle.tetri_base.specs.Lists.{count};
+ghost use Rattle.tetri_io.specs.Words.{parts_at};
+ghost use Rattle.tetri_queue.specs.Queues.{IsQueue, is_taken};
+
+use crate::asked::{Asked, AskedFault};
+use crate::cause::{Fate, ReservationFate};
+use crate::confirming::is_read_as;
+use crate::gathering::{Cycle, Gathered, Gathering};
+use crate::text::{nodes_text, trace_text};
+use std::alloc::{AllocError, Global};
+use tetri_cluster::{Cluster, ClusterFault, NodeText};
+use tetri_hosts::{NodeFate, NodeState, Nodes, read_nodes};
+use tetri_io::parts_at;
+
+/// Why a queue does not become a trace.
+#[derive(Clone, Copy, Debug, PartialEq, Eq)]
+pub enum QueueFault {
+    /// What is asked for cannot be.
+    Asked(AskedFault),
+    /// There is no node, or there are more than 4,096.
+    Nodes,
+    /// The trace that was made is not read as it should be.
+    Unlike,
+    NoMemory,
+}
+
+impl From<AllocError> for QueueFault {
+    ghost use Rattle.std.specs.Prelude.{◌≡◌};
+    ghost use Rattle.tetri_queue.specs.declared.queueing.QueueFault.TheVariants as fault;
+
+    ghost from_gives = { λ _ e. e ≡ fault.NoMemory };
+
+    fn from(_: AllocError) -> Self {
+        QueueFault::NoMemory
+    }
+}
+
+/// A trace that was made of a queue.
+#[derive(Drop)]
+pub struct Queue {
+    pub trace: String,
+    /// What the trace says.
+    pub cycle: Cycle,
+    /// What becomes of each line of the queue, and of what stands behind its last line feed.
+    pub fates: Vec<Fate>,
+    /// The same of each line that tells of a node.
+    pub nodes: Vec<NodeFate>,
+    /// The same of each line that tells of a reservation.
+    pub reservations: Vec<ReservationFate>,
+    /// How many nodes are drained since there are more closures than a trace may have.
+    pub crowded: usize,
+}
+
+// What becomes of the lines of a queue.
+#[tactic(auto, using(crate::proofs::CountLemmas::count_push))]
+fn add_lines(
+    alloc: Global,
+    cluster: &Cluster,
+    gathering: &mut Gathering,
+    text: &[u8],
+) -> Result<Vec<Fate>, AllocError>
+    ensures lines { IfOk result (λ fates. length fates.items ≡ length (parts_at 10 text.now)) }
+    ensures taken { IfOk result (λ fates. length gathering.new.jobs.items ≡ length gathering.old.jobs.items + count is_taken fates.items) }
+{
+    let lines = parts_at(alloc, b'\n', text)?;
+    let mut fates = Vec::new(alloc);
+    for line in &lines {
+        fates.push(gathering.add_line(alloc, cluster, line)?)?;
+    }
+    Ok(fates)
+}
+
+// What becomes of the lines that tell of reservations.
+fn add_reservations(
+    alloc: Global,
+    cluster: &Cluster,
+    gathering: &mut Gathering,
+    text: &[u8],
+) -> Result<Vec<ReservationFate>, AllocError>
+    ensures lines { IfOk result (λ fates. length fates.items ≡ length (parts_at 10 text.now)) }
+    ensures same { OnOk result (gathering.new.jobs.items ≡ gathering.old.jobs.items) }
+{
+    let lines = parts_at(alloc, b'\n', text)?;
+    let mut fates = Vec::new(alloc);
+    for line in &lines {
+        fates.push(gathering.add_reservation(alloc, cluster, line)?)?;
+    }
+    Ok(fates)
+}
+
+// What is gathered, and what becomes of each line.
+#[derive(Drop)]
+struct Whole {
+    gathered: Gathered,
+    fates: Vec<Fate>,
+    reservations: Vec<ReservationFate>,
+}
+
+// What is gathered of all lines, on these nodes in these states.
+fn gather(
+    alloc: Global,
+    asked: &Asked,
+    cluster: &Cluster,
+    states: &[NodeState],
+    jobs: &[u8],
+    reservations: &[u8],
+) -> Result<Whole, AllocError>
+    ensures lines { IfOk result (λ w. length w.fates.items ≡ length (parts_at 10 jobs.now)) }
+    ensures taken { IfOk result (λ w. count is_taken w.fates.items ≡ length w.gathered.jobs.items) }
+    ensures reservations { IfOk result (λ w. length w.reservations.items ≡ length (parts_at 10 reservations.now)) }
+{
+    let mut gathering = Gathering::new(alloc, *asked, states)?;
+    let fates = add_lines(alloc, cluster, &mut gathering, jobs)?;
+    let reservations = add_reservations(alloc, cluster, &mut gathering, reservations)?;
+    let gathered = gathering.finish(alloc)?;
+    Ok(Whole {
+        gathered,
+        fates,
+        reservations,
+    })
+}
+
+fn cluster_of(alloc: Global, nodes: Vec<NodeText>) -> Result<Cluster, QueueFault> {
+    match Cluster::build(alloc, nodes) {
+        Ok(cluster) if cluster.count() != 0 => Ok(cluster),
+        Err(ClusterFault::NoMemory) => Err(QueueFault::NoMemory),
+        Ok(_) | Err(ClusterFault::TooManyNodes(_) | ClusterFault::NameTaken(_)) => {
+            Err(QueueFault::Nodes)
+        }
+    }
+}
+
+/// The trace of one cycle of a queue, of the lines that tell of its jobs, its nodes and its reservations, and what becomes of each line. The trace is read back before it is handed out, and `Unlike` says that it
+/// is not read as it should be.
+pub fn queue_trace(
+    alloc: Global,
+    asked: &Asked,
+    jobs: &[u8],
+    nodes: &[u8],
+    reservations: &[u8],
+) -> Result<Queue, QueueFault>
+    ensures { IfOk result (IsQueue jobs.now nodes.now reservations.now) }
+{
+    if let Some(fault) = asked.fault(!reservations.is_empty()) {
+        return Err(QueueFault::Asked(fault));
+    }
+    let Nodes {
+        nodes: told,
+        states,
+        fates: node_fates,
+    } = read_nodes(alloc, nodes)?;
+    let list = nodes_text(alloc, &told)?;
+    let cluster = cluster_of(alloc, told)?;
+    let Whole {
+        gathered,
+        fates,
+        reservations: reserved,
+    } = gather(alloc, asked, &cluster, &states, jobs, reservations)?;
+    let Gathered {
+        closures,
+        events,
+        jobs: taken,
+        crowded,
+    } = gathered;
+    let cycle = Cycle {
+        window: asked.window,
+        budget: asked.budget,
+        cluster,
+        closures,
+        jobs: taken,
+        events,
+    };
+    let trace = trace_text(alloc, &cycle, &list)?;
+    if !is_read_as(alloc, &cycle, &trace)? {
+        return Err(QueueFault::Unlike);
+    }
+    Ok(Queue {
+        trace,
+        cycle,
+        fates,
+        nodes: node_fates,
+        reservations: reserved,
+        crowded,
+    })
+}

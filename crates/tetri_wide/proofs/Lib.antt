@@ -1,0 +1,9 @@
+mod ListSteps
+mod SketchLemmas
+mod WalkedLemmas
+mod ByPartLemmas
+mod SupplyLemmas
+mod EntryLemmas
+mod SmallLemmas
+mod FlatLemmas
+mod DraftLemmas

@@ -1,0 +1,8 @@
+use Rattle.std.proofs.Common.{◌≡◌, ◌++◌, drop, map}
+use Rattle.tetri_wide.specs.Entries.{on_left, on_right}
+use Rattle.tetri_wide.specs.Sketch.{form_of}
+use Rattle.tetri_wide.proofs.terms.entries_in.Given as goal
+
+abbrev pub invariant-loop-one : goal.invariant-loop-one
+invariant-loop-one l = l.entries.items ++ map on_right (form_of (drop l.one-index l.under))
+    ≡ map on_left (form_of l.most) ++ map on_right (form_of l.under)

@@ -1,0 +1,2 @@
+pub mod Sketch
+pub mod Entries
