@@ -18,8 +18,8 @@ loop-place-init c =
           ∙ ap (find (λ (d : Departure). d.job == job)) (sym (drop_all (length gone) gone (omega arith)));
     }
 
-pub index_mut-requires-in-Some : goal.index_mut-requires-in-Some
-index_mut-requires-in-Some c =
+pub index_mut-requires : goal.index_mut-requires
+index_mut-requires c =
     let l = c.loop-place in
     omega (arith, c.in-Some.ensures.some.0, c.in-Some.ensures.some.1, l.invariant.len, l.first.ok.0)
 
@@ -39,8 +39,8 @@ loop-place-preserved-in-Some c =
           ∙ ap (find (λ (x : Departure). x.job == job)) (sym (next_back gone l.place none c.loop-place-test.true inv.within));
     }
 
-pub loop-place-preserved-in-None : goal.loop-place-preserved-in-None
-loop-place-preserved-in-None c =
+pub loop-place-preserved : goal.loop-place-preserved
+loop-place-preserved c =
     let l = c.loop-place in
     let inv = l.invariant in
     let gone = c.args.gone.now in

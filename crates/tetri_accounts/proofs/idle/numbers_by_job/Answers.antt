@@ -17,8 +17,8 @@ loop-place-init c =
           ∙ ap (λ ns. has ns job) (sym (drop_all (length numbers) numbers (omega arith)));
     }
 
-pub index_mut-requires-in-Some : goal.index_mut-requires-in-Some
-index_mut-requires-in-Some c =
+pub index_mut-requires : goal.index_mut-requires
+index_mut-requires c =
     let l = c.loop-place in
     omega (arith, c.in-Some.ensures.some.0, c.in-Some.ensures.some.1, l.invariant.len, l.have.ok.0)
 
@@ -37,8 +37,8 @@ loop-place-preserved-in-Some c =
           ∙ ap (λ ns. has ns job) (sym (next_back numbers l.place 0 c.loop-place-test.true inv.within));
     }
 
-pub loop-place-preserved-in-None : goal.loop-place-preserved-in-None
-loop-place-preserved-in-None c =
+pub loop-place-preserved : goal.loop-place-preserved
+loop-place-preserved c =
     let l = c.loop-place in
     let inv = l.invariant in
     let numbers = c.args.numbers.now in

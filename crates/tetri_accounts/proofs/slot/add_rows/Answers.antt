@@ -8,8 +8,8 @@ use Rattle.tetri_accounts.specs.declared.row.Row.{Row}
 use Rattle.tetri_accounts.proofs.LaunchLemmas.{told_first}
 use Rattle.tetri_accounts.proofs.slot.add_rows.Goals as goal
 
-pub add_row-requires-sound : goal.add_row-requires-sound
-add_row-requires-sound c =
+pub add_row-requires-clause-sound : goal.add_row-requires-clause-sound
+add_row-requires-clause-sound c =
     let all = subst (λ os. All (IsSoundBid (space c.args.inst.now)) (map bid os)) (sym c.deref-offer-items.ensures.value) c.requires.sound.sound_bids in
     (bid_has (IsSoundBid (space c.args.inst.now)) _ _ c.offer-item.result all c.loop-offer-test.true c.offer-item.is).well_made.sound
 
