@@ -1,7 +1,7 @@
 -- What an account says of a run that a ledger saw.
-use Rattle.std.proofs.Common.{◌≡◌, ℕ, ◌==◌, Bool, cond, List, [], ◌∷◌, ◌++◌, length, map, refl, sym, ap, ◌∙◌, subst}
+use Rattle.std.proofs.Common.{◌≡◌, ℕ, ◌==◌, cond, List, [], ◌∷◌, ◌++◌, length, refl, sym, ap, ◌∙◌, subst}
 use Rattle.std.specs.Prelude.{flat_map, find}
-use Rattle.std.specs.List.{list_any, range_with_len}
+use Rattle.std.specs.List.{range_with_len}
 use Rattle.std.specs.List.Sorted.{IsNonDecreasingBy, IsPermutation}
 use Rattle.std.proofs.lemmas.List.Sorted.{IsPermutation-append, IsPermutation-refl, IsPermutation-trans, list_any-IsPermutation}
 use Rattle.tetri_report.specs.Block.{Block}
@@ -12,7 +12,7 @@ use Rattle.tetri_trace.specs.Scenario.{Scenario}
 use Rattle.tetri_cycles.specs.Observed.{Observed}
 use Rattle.tetri_accounts.specs.Accounted.{TellsReport, TellsRun}
 use Rattle.tetri_accounts.specs.Rows.{has_row, idle_by, idle_row, idle_rows}
-use Rattle.tetri_accounts.specs.Runs.{AreRows, departures, launch_rows, notes, place_of, rows_in}
+use Rattle.tetri_accounts.specs.Runs.{AreRows, departures, launch_rows, notes, place_of}
 use Rattle.tetri_accounts.specs.Taken.{IsFresh, IsTaken}
 use Rattle.tetri_accounts.specs.declared.account.Account.{Account}
 use Rattle.tetri_accounts.specs.declared.ledger.Ledger.{Ledger}

@@ -1,5 +1,5 @@
 -- What a ledger holds of the launches of a run.
-use Rattle.std.proofs.Common.{◌≡◌, ℕ, ◌+◌, Bool, true, false, cond, List, [], ◌∷◌, ◌++◌, map, filter, not, refl, sym, ap, ◌∙◌, subst, append_assoc}
+use Rattle.std.proofs.Common.{◌≡◌, Bool, true, false, cond, List, [], ◌∷◌, ◌++◌, map, filter, not, refl, sym, ap, ◌∙◌, subst, append_assoc}
 use Rattle.std.specs.List.Sorted.{IsPermutation}
 use Rattle.std.proofs.lemmas.List.{append-nil, map-append}
 use Rattle.std.proofs.lemmas.List.Sorted.{IsPermutation-refl, IsPermutation-trans, IsPermutation-append_comm, IsPermutation-append_left, IsPermutation-append_right, IsPermutation-map, IsPermutation-filter_both}
@@ -12,8 +12,6 @@ use Rattle.tetri_accounts.specs.Rows.{closed_as, departing, goes_on, leaving, ou
 use Rattle.tetri_accounts.specs.Runs.{departures, finished, launch_rows, launches, note_of, notes}
 use Rattle.tetri_accounts.specs.Taken.{IsTaken}
 use Rattle.tetri_accounts.specs.declared.ledger.Ledger.{Ledger}
-use Rattle.tetri_accounts.specs.declared.row.Departure.{Departure}
-use Rattle.tetri_accounts.specs.declared.row.CycleNote.{CycleNote}
 use Rattle.tetri_accounts.specs.declared.row.Row.{Row}
 
 module _ (t : Scenario) where

@@ -1,5 +1,5 @@
 -- How a slot that is shown is taken into a ledger.
-use Rattle.std.proofs.Common.{◌≡◌, ℕ, List, [], ◌∷◌, ◌++◌, length, drop, map, filter, ap, sym, ◌∙◌}
+use Rattle.std.proofs.Common.{◌≡◌, ℕ, List, [], ◌∷◌, ◌++◌, length, drop, map, filter, ap, ◌∙◌}
 use Rattle.std.proofs.Math.Seq.{drop-append_seam}
 use Rattle.tetri_base.specs.Lists.{has}
 use Rattle.tetri_cycles.specs.Observed.{IsShown}
@@ -18,7 +18,6 @@ use Rattle.tetri_accounts.specs.Rows.{departing, leaving, row_of, staying}
 use Rattle.tetri_accounts.specs.Runs.{launches}
 use Rattle.tetri_accounts.specs.Taken.{IsTaken}
 use Rattle.tetri_accounts.specs.declared.ledger.Ledger.{Ledger}
-use Rattle.tetri_accounts.specs.declared.row.CycleNote.{CycleNote}
 use Rattle.tetri_accounts.specs.declared.row.Row.{Row}
 use Rattle.tetri_accounts.proofs.LaunchLemmas.{passing_same}
 

@@ -1,5 +1,5 @@
 -- What a job's own grants are worth to it.
-use Rattle.std.proofs.Common.{◌≡◌, ℕ, ◌+◌, ◌==◌, ◌&&◌, Bool, true, false, cond, List, [], ◌∷◌, length, filter, refl, sym, ap, ◌∙◌, arith}
+use Rattle.std.proofs.Common.{◌≡◌, ℕ, ◌+◌, ◌==◌, ◌&&◌, Bool, true, false, cond, List, [], ◌∷◌, length, filter, refl, ap, ◌∙◌, arith}
 use Rattle.tetri_strl.specs.Tree.{Tree}
 use Rattle.tetri_strl.specs.Worth.{granted, leaf_worth, worth_at, worth_of}
 use Rattle.tetri_strl.specs.declared.grants.Grant.{Grant}

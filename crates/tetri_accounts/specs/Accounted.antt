@@ -1,5 +1,5 @@
 -- What an account says of a run.
-use Rattle.std.specs.Prelude.{◌≡◌, ℕ, List, All}
+use Rattle.std.specs.Prelude.{◌≡◌, ℕ, List}
 use Rattle.tetri_report.specs.Block.{Block}
 use Rattle.tetri_run.specs.Check.{IsAccepted}
 use Rattle.tetri_run.specs.Run.{in_order}

@@ -1,5 +1,5 @@
 -- The rows of launches, slot by slot.
-use Rattle.std.specs.Prelude.{ℕ, List, [], ◌∷◌, ◌++◌, ◌==◌, Bool, true, false, not, nat_le, nat_lt, if◌then◌else◌, map, filter, find, flat_map, slice_index_or, Option, Some, None}
+use Rattle.std.specs.Prelude.{ℕ, List, [], ◌∷◌, ◌++◌, ◌==◌, Bool, true, false, not, nat_lt, if◌then◌else◌, map, filter, find, flat_map, slice_index_or, Option, Some, None}
 use Rattle.std.specs.List.{list_all, list_any, range_with_len}
 use Rattle.tetri_base.specs.Lists.{has}
 use Rattle.tetri_space.specs.Space.{Bid}

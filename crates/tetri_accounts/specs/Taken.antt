@@ -1,5 +1,5 @@
 -- What a ledger makes of a cycle.
-use Rattle.std.specs.Prelude.{◌≡◌, List, [], ◌∷◌, ◌++◌}
+use Rattle.std.specs.Prelude.{◌≡◌, [], ◌∷◌, ◌++◌}
 use Rattle.tetri_report.specs.Block.{Block}
 use Rattle.tetri_state.specs.Begin.{occurring}
 use Rattle.tetri_state.specs.Snapshot.{Snapshot}

@@ -1,5 +1,5 @@
 -- Rows as lines of JSON.
-use Rattle.std.specs.Prelude.{ℕ, ◌+◌, ◌-◌, List, [], ◌∷◌, ◌++◌, map, flat_map, length, Option, Some, None, codes, decimal, unwrap_or}
+use Rattle.std.specs.Prelude.{ℕ, ◌-◌, List, ◌++◌, map, flat_map, Option, Some, None, codes, decimal, unwrap_or}
 use Rattle.tetri_cluster.specs.Cluster.{name_at}
 use Rattle.tetri_report.specs.Text.{job_name, joined}
 use Rattle.tetri_state.specs.Snapshot.{offered}

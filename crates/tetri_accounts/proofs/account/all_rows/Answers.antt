@@ -1,9 +1,8 @@
-use Rattle.std.proofs.Common.{◌≡◌, ◌++◌, ◌∙◌, ℕ, List, ap, length, subst, sym}
+use Rattle.std.proofs.Common.{◌≡◌, ◌++◌, ◌∙◌, List, ap, length, subst, sym}
 use Rattle.std.specs.List.Sorted.{IsPermutation}
 use Rattle.std.proofs.lemmas.List.{length-map}
 use Rattle.tetri_trace.specs.Scenario.{scenario, submission}
 use Rattle.tetri_accounts.specs.Rows.{idle_rows}
-use Rattle.tetri_accounts.specs.declared.row.Departure.{Departure}
 use Rattle.tetri_accounts.specs.declared.row.Row.{Row}
 use Rattle.tetri_accounts.proofs.account.all_rows.Goals as goal
 

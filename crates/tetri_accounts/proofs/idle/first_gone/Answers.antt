@@ -1,4 +1,4 @@
-use Rattle.std.proofs.Common.{◌≡◌, ◌∙◌, ◌+◌, ◌-◌, ◌∷◌, ◌==◌, ap, arith, drop, get_or, length, replicate, rules, sym, refl}
+use Rattle.std.proofs.Common.{◌≡◌, ◌∙◌, ◌-◌, ◌==◌, ap, arith, drop, get_or, length, replicate, rules, sym, refl}
 use Rattle.std.specs.Prelude.{None, Some, find, slice_set}
 use Rattle.std.proofs.lemmas.List.{drop_all, get_or-replicate, length-replicate}
 use Rattle.tetri_accounts.specs.declared.row.Departure.{Departure}

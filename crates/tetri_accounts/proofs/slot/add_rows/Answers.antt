@@ -1,4 +1,4 @@
-use Rattle.std.proofs.Common.{◌+◌, ◌++◌, ◌∷◌, [], ◌∙◌, ℕ, Bool, List, ap, append_assoc, drop, filter, map, All, subst, sym}
+use Rattle.std.proofs.Common.{◌+◌, ◌++◌, ◌∷◌, [], ◌∙◌, Bool, List, ap, append_assoc, drop, filter, map, All, subst, sym}
 use Rattle.tetri_base.specs.Lists.{has}
 use Rattle.tetri_space.proofs.InstanceLaws.{bid_has, next_bid}
 use Rattle.tetri_space.specs.Sound.{IsSoundBid}
