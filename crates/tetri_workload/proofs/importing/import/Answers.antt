@@ -64,9 +64,13 @@ returns-then-not-alike-clause-refused c =
     let turn : Tally → Tally = λ u. record u { events = events } in
     let happened : Tally → List Event = λ u. u.events in
     let tallied : turn (so_far t) ≡ turn (taken_all (begun draft order) order) = ap turn tally in
-    let in_order : IsOrderBy (λ e. e.at) t.events.items events = c.in_ok-by_slot.ensures in
-    (draft, order, events, record {
-      drafted = drafted;
-      timed = subst (λ xs. IsOrderBy (λ e. e.at) xs events) (ap happened tally) in_order;
-      unlike = λ read. let wrong = subst IsTrue c.if-not-alike.true (c.in_ok-alike.ensures.1 (same_reading s (begun draft order) (turn (so_far t)) (turn (taken_all (begun draft order) order)) c.deref-3.result.now is tallied (c.deref-3.ensures ∙ c.in_ok-trace.ensures) read)) in cc;
-    })
+    let in_order : IsOrderBy (λ e. e.at) t.events.items events = c.in_ok-by_slot.ensures in (
+      draft,
+      order,
+      events,
+      record {
+        drafted = drafted;
+        timed = subst (λ xs. IsOrderBy (λ e. e.at) xs events) (ap happened tally) in_order;
+        unlike = λ read. let wrong = subst IsTrue c.if-not-alike.true (c.in_ok-alike.ensures.1 (same_reading s (begun draft order) (turn (so_far t)) (turn (taken_all (begun draft order) order)) c.deref-3.result.now is tallied (c.deref-3.ensures ∙ c.in_ok-trace.ensures) read)) in cc;
+      },
+    )
