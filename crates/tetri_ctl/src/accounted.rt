@@ -5,14 +5,15 @@ ghost use Rattle.std.specs.Prelude.{IfOk};
 
 use crate::named::{Shelf, open_report, open_trace};
 use crate::refusals::end_of;
-use crate::said::end;
+use crate::said::{USAGE, complain, end, no_memory};
 use clap::{Arg, ArgMatches};
 use std::alloc::{AllocError, Global};
-use tetri_accounts::{Account, account_report};
+use tetri_accounts::{Account, Ledger, account_report};
 use tetri_figures::Format;
 use tetri_io::{StdSink, send_all};
-use tetri_run::Status;
-use tetri_trace::Trace;
+use tetri_policy::{Policy, observe_policy};
+use tetri_run::{Status, status_of};
+use tetri_trace::{Trace, read_trace};
 
 /// A run with its trace.
 #[derive(Drop)]
@@ -39,6 +40,63 @@ pub fn format_of(words: &ArgMatches<'_>) -> Format {
     }
 }
 
+/// The option that names a policy, whose run of the trace is told in the place of a report.
+pub fn policy_word<'a>(alloc: Global) -> Arg<'a> {
+    Arg::new(alloc, "policy")
+        .long("policy")
+        .value_name("POLICY")
+        .value_parser(["fcfs", "easy"].as_slice())
+        .help("the run of the trace by a policy, in the place of a report")
+}
+
+/// The policy of a word.
+pub fn policy_of(word: &str) -> Policy {
+    if word == "fcfs" {
+        Policy::FirstCome
+    } else {
+        Policy::Backfill
+    }
+}
+
+/// The account of the run of a trace by a policy.
+pub fn account_by(alloc: Global, trace: &Trace, policy: Policy) -> Result<Account, AllocError>
+    requires { IsSound (scenario trace.now) }
+{
+    let mut ledger = Ledger::new(alloc);
+    observe_policy(alloc, trace, policy, &mut ledger)?;
+    ledger.close(alloc, trace)
+}
+
+/// The trace that is ready to be read. Where it is refused, that is said, and the error is the exit number.
+pub fn kept_trace(rt: &HostRuntime, shelf: &mut Shelf<'_>, trace: &str) -> Result<Trace, u8>
+    ensures { IfOk result (λ t. IsSound (scenario t)) }
+{
+    match read_trace(rt.alloc(), shelf, trace) {
+        Ok(kept) => Ok(kept),
+        Err(fault) => Err(end_of(rt, shelf, &status_of(fault), trace, "")),
+    }
+}
+
+// The run of a trace by a policy.
+fn policy_run(
+    rt: &HostRuntime,
+    shelf: &mut Shelf<'_>,
+    trace: &str,
+    policy: Policy,
+) -> Result<Run, u8>
+    ensures { IfOk result (λ r. IsSound (scenario r.trace)) }
+{
+    open_trace(rt, shelf, trace)?;
+    let kept = kept_trace(rt, shelf, trace)?;
+    match account_by(rt.alloc(), &kept, policy) {
+        Ok(account) => Ok(Run {
+            trace: kept,
+            account,
+        }),
+        Err(AllocError) => Err(no_memory(rt)),
+    }
+}
+
 /// The account of a report that is accepted, of a trace that is ready to be read. Where there is none, that is said, and the error is the
 /// exit number.
 pub fn report_account(
@@ -56,17 +114,31 @@ pub fn report_account(
     }
 }
 
-/// The account of a report that is accepted. Where there is none, that is said, and the error is the exit number.
-pub fn account_of(
-    rt: &HostRuntime,
-    shelf: &mut Shelf<'_>,
-    trace: &str,
-    report: &str,
-) -> Result<Run, u8>
+// The account of a report that is accepted. Where there is none, that is said, and the error is the exit number.
+fn account_of(rt: &HostRuntime, shelf: &mut Shelf<'_>, trace: &str, report: &str) -> Result<Run, u8>
     ensures { IfOk result (λ r. IsSound (scenario r.trace)) }
 {
     open_trace(rt, shelf, trace)?;
     report_account(rt, shelf, trace, report)
+}
+
+/// The account of the report or of the policy that the words name. Where there is none, that is said, and the error is the exit number.
+pub fn account_in(
+    rt: &HostRuntime,
+    shelf: &mut Shelf<'_>,
+    words: &ArgMatches<'_>,
+) -> Result<Run, u8>
+    ensures { IfOk result (λ r. IsSound (scenario r.trace)) }
+{
+    let trace = words.get_str("TRACE").unwrap_or("");
+    match (words.get_str("REPORT"), words.get_str("policy")) {
+        (Some(report), None) => account_of(rt, shelf, trace, report),
+        (None, Some(word)) => policy_run(rt, shelf, trace, policy_of(word)),
+        _ => {
+            complain(rt, trace, "either a report or a policy is told of");
+            Err(USAGE)
+        }
+    }
 }
 
 /// Writes a text to standard output, and gives the exit number.

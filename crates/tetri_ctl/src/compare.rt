@@ -3,10 +3,12 @@ ghost use Rattle.std.specs.Prelude.{IfOk};
 ghost use Rattle.tetri_trace.specs.Scenario.{scenario};
 ghost use Rattle.tetri_trace.specs.Sound.{IsSound};
 
-use crate::accounted::{Run, format_of, format_word, report_account, send};
+use crate::accounted::{
+    account_by, format_of, format_word, kept_trace, policy_of, policy_word, report_account, send,
+};
 use crate::named::{Shelf, open_trace, trace_word};
-use crate::said::{USAGE, no_memory};
-use clap::{Arg, ArgMatches, Command};
+use crate::said::{USAGE, complain, no_memory};
+use clap::{Arg, ArgAction, ArgMatches, Command};
 use std::alloc::{AllocError, Global};
 use tetri_accounts::Account;
 use tetri_figures::{Compared, compare_text};
@@ -15,16 +17,14 @@ use tetri_trace::Trace;
 /// The words of the command.
 pub fn command<'a>(alloc: Global) -> Result<Command<'a>, AllocError> {
     let reports = Arg::new(alloc, "REPORT")
-        .required(true)
         .num_args(1..)
         .help("reports of the trace, files, one perhaps -");
     Command::new(alloc, "compare")
-        .about(
-            "Tells figures of several accepted reports of one trace, and which jobs start at other times",
-        )
-        .after_help("Example: tetri_ctl compare day.jsonl day.report other.report")
+        .about("Tells figures of several runs of one trace, and which jobs start at other times")
+        .after_help("Example: tetri_ctl compare day.jsonl day.report --policy fcfs --policy easy")
         .arg(trace_word(alloc))?
         .arg(reports)?
+        .arg(policy_word(alloc).action(ArgAction::Append))?
         .arg(format_word(alloc))
 }
 
@@ -40,52 +40,81 @@ fn put(
     Ok(())
 }
 
-// Puts the account of a report to the others, and gives its trace.
+// Puts the account of a report to the others.
 fn put_report(
     rt: &HostRuntime,
     shelf: &mut Shelf<'_>,
     trace: &str,
     report: &str,
     runs: &mut Vec<Compared>,
-) -> Result<Trace, u8>
-    ensures { IfOk result (λ t. IsSound (scenario t)) }
-{
-    let Run {
-        trace: kept,
-        account,
-    } = report_account(rt, shelf, trace, report)?;
-    match put(rt.alloc(), report, account, runs) {
-        Ok(()) => Ok(kept),
+) -> Result<(), u8> {
+    let run = report_account(rt, shelf, trace, report)?;
+    match put(rt.alloc(), report, run.account, runs) {
+        Ok(()) => Ok(()),
         Err(AllocError) => Err(no_memory(rt)),
     }
 }
 
-// The accounts of the reports, and their trace, which is read with each of them.
+// Puts the account of the run by a policy to the others.
+fn put_policy(
+    alloc: Global,
+    trace: &Trace,
+    word: &str,
+    runs: &mut Vec<Compared>,
+) -> Result<(), AllocError>
+    requires { IsSound (scenario trace.now) }
+{
+    let account = account_by(alloc, trace, policy_of(word))?;
+    put(alloc, word, account, runs)
+}
+
+// Puts the accounts of the runs by policies to the others.
+fn put_policies(
+    alloc: Global,
+    trace: &Trace,
+    words: &[&str],
+    runs: &mut Vec<Compared>,
+) -> Result<(), AllocError>
+    requires { IsSound (scenario trace.now) }
+{
+    for word in words {
+        put_policy(alloc, trace, word, runs)?;
+    }
+    Ok(())
+}
+
+// The accounts of the reports and of the runs by policies, and their trace, which is read with each report.
 fn accounts_of(
     rt: &HostRuntime,
     trace: &str,
     reports: &[&str],
+    policies: &[&str],
 ) -> Result<(Trace, Vec<Compared>), u8>
     ensures { IfOk result (λ r. IsSound (scenario r.0)) }
 {
     let mut shelf = Shelf::new(rt.alloc(), rt);
     open_trace(rt, &mut shelf, trace)?;
+    let kept = kept_trace(rt, &mut shelf, trace)?;
     let mut runs = Vec::new(rt.alloc());
-    let Some((first, others)) = reports.split_first() else {
-        return Err(USAGE);
-    };
-    let kept = put_report(rt, &mut shelf, trace, first, &mut runs)?;
-    for report in others {
-        let _kept = put_report(rt, &mut shelf, trace, report, &mut runs)?;
+    for report in reports {
+        put_report(rt, &mut shelf, trace, report, &mut runs)?;
     }
-    Ok((kept, runs))
+    match put_policies(rt.alloc(), &kept, policies, &mut runs) {
+        Ok(()) => Ok((kept, runs)),
+        Err(AllocError) => Err(no_memory(rt)),
+    }
 }
 
 /// Tells of what the words name, and gives the exit number.
 pub fn run(rt: &HostRuntime, words: &ArgMatches<'_>) -> u8 {
     let trace = words.get_str("TRACE").unwrap_or("");
     let reports = words.get_strs("REPORT").unwrap_or(&[]);
-    match accounts_of(rt, trace, reports) {
+    let policies = words.get_strs("policy").unwrap_or(&[]);
+    if reports.is_empty() && policies.is_empty() {
+        complain(rt, trace, "neither a report nor a policy is named");
+        return USAGE;
+    }
+    match accounts_of(rt, trace, reports, policies) {
         Ok((kept, runs)) => {
             let text = compare_text(rt.alloc(), &kept, &runs, format_of(words));
             send(rt, text)

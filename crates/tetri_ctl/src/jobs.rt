@@ -1,5 +1,5 @@
 // `tetri_ctl jobs TRACE REPORT`
-use crate::accounted::{Run, account_of, format_of, format_word, send};
+use crate::accounted::{Run, account_in, format_of, format_word, policy_word, send};
 use crate::named::{Shelf, report_word, trace_word};
 use clap::{ArgMatches, Command};
 use std::alloc::{AllocError, Global};
@@ -8,21 +8,18 @@ use tetri_figures::jobs_text;
 /// The words of the command.
 pub fn command<'a>(alloc: Global) -> Result<Command<'a>, AllocError> {
     Command::new(alloc, "jobs")
-        .about(
-            "Tells of each job of an accepted report: when it started, how long it waited, where it ran",
-        )
+        .about("Tells of each job of a run: when it started, how long it waited, where it ran")
         .after_help("Example: tetri_ctl jobs day.jsonl day.report --format csv > day.csv")
         .arg(trace_word(alloc))?
-        .arg(report_word(alloc))?
+        .arg(report_word(alloc).required(false))?
+        .arg(policy_word(alloc))?
         .arg(format_word(alloc))
 }
 
 /// Tells of what the words name, and gives the exit number.
 pub fn run(rt: &HostRuntime, words: &ArgMatches<'_>) -> u8 {
-    let trace = words.get_str("TRACE").unwrap_or("");
-    let report = words.get_str("REPORT").unwrap_or("");
     let mut shelf = Shelf::new(rt.alloc(), rt);
-    match account_of(rt, &mut shelf, trace, report) {
+    match account_in(rt, &mut shelf, words) {
         Ok(
             Run {
                 trace: kept,

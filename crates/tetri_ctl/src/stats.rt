@@ -1,5 +1,5 @@
 // `tetri_ctl stats TRACE REPORT`
-use crate::accounted::{Run, account_of, format_of, format_word, send};
+use crate::accounted::{Run, account_in, format_of, format_word, policy_word, send};
 use crate::named::{Shelf, report_word, trace_word};
 use clap::{Arg, ArgMatches, Command};
 use std::alloc::{AllocError, Global};
@@ -13,10 +13,11 @@ pub fn command<'a>(alloc: Global) -> Result<Command<'a>, AllocError> {
         .value_parser(["tag", "class"].as_slice())
         .help("a column for each tag of nodes, or for each class of jobs, too");
     Command::new(alloc, "stats")
-        .about("Tells figures of an accepted report: waits, use of nodes, worth, cycles")
+        .about("Tells figures of a run: waits, use of nodes, worth, cycles")
         .after_help("Example: tetri_ctl stats day.jsonl day.report --by tag")
         .arg(trace_word(alloc))?
-        .arg(report_word(alloc))?
+        .arg(report_word(alloc).required(false))?
+        .arg(policy_word(alloc))?
         .arg(by)?
         .arg(format_word(alloc))
 }
@@ -45,9 +46,8 @@ fn text_of(
 /// Tells of what the words name, and gives the exit number.
 pub fn run(rt: &HostRuntime, words: &ArgMatches<'_>) -> u8 {
     let trace = words.get_str("TRACE").unwrap_or("");
-    let report = words.get_str("REPORT").unwrap_or("");
     let mut shelf = Shelf::new(rt.alloc(), rt);
-    match account_of(rt, &mut shelf, trace, report) {
+    match account_in(rt, &mut shelf, words) {
         Ok(run) => send(rt, text_of(rt.alloc(), &mut shelf, &run, trace, words)),
         Err(number) => number,
     }
