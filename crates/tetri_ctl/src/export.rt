@@ -1,13 +1,13 @@
 // `tetri_ctl export TRACE [REPORT] --cycle N`
 use crate::named::{Shelf, open_report, open_trace, report_word, trace_word};
 use crate::refusals::end_of;
-use crate::said::{REFUSED, USAGE, complain, end, too_large};
+use crate::said::{REFUSED, USAGE, complain, end, shown, too_large};
 use clap::{Arg, ArgMatches, Command, value_parser};
 use std::alloc::{AllocError, Global};
 use tetri_advice::{Advisor, Panel};
 use tetri_export::Format;
 use tetri_greedy::{ByDeadline, ByWorth};
-use tetri_io::{Failed, StdSink, send_all};
+use tetri_io::{StdSink, send_all};
 use tetri_notice::TraceFault;
 use tetri_programs::{Exported, export_cycle, export_report};
 use tetri_run::{Status, status_of};
@@ -81,19 +81,45 @@ fn planned(
     }
 }
 
-// Writes a program.
-fn write_text(rt: &HostRuntime, text: &str) -> Status {
-    let mut sink = StdSink::new(rt.stdout());
-    match send_all(&mut sink, text.as_bytes()) {
-        Ok(()) => Status::Done,
-        Err(Failed) => Status::WriteFault,
+// The letters at most of a name in a comment, since readers limit the length of a line.
+const NAME_MOST: usize = 200;
+
+// A comment that names the trace. What is no letter, digit or mark of ASCII in its name is a question mark.
+fn head_of(alloc: Global, format: Format, trace: &str) -> Result<String, AllocError> {
+    let mark = match format {
+        Format::Lp => '\\',
+        Format::Mps => '*',
+    };
+    let mut head = format!(in alloc; "{mark} trace ")?;
+    for letter in shown(trace).chars().take(NAME_MOST) {
+        let is_plain = letter.is_ascii_graphic() || letter == ' ';
+        head.push(if is_plain { letter } else { '?' })?;
     }
+    head.push('\n')?;
+    Ok(head)
+}
+
+// Writes a program behind a comment that names its trace.
+fn write_text(rt: &HostRuntime, format: Format, trace: &str, text: &str) -> Status {
+    let Ok(head) = head_of(rt.alloc(), format, trace) else {
+        return Status::NoMemory;
+    };
+    let mut sink = StdSink::new(rt.stdout());
+    for part in [head.as_str(), text] {
+        if send_all(&mut sink, part.as_bytes()).is_err() {
+            return Status::WriteFault;
+        }
+    }
+    Status::Done
 }
 
 // Writes what there is of a cycle of the run that a name tells, or says why there is nothing, and gives the exit number.
-fn written(rt: &HostRuntime, name: &str, exported: &Exported) -> u8 {
+fn written(rt: &HostRuntime, format: Format, trace: &str, name: &str, exported: &Exported) -> u8 {
     match exported {
-        Exported::Text(text) => end(rt, &write_text(rt, text.as_str()), name, ""),
+        Exported::Text(text) => {
+            let status = write_text(rt, format, trace, text.as_str());
+            end(rt, &status, name, "")
+        }
         Exported::Wide { columns, rows } => {
             too_large(rt, name, *columns, *rows);
             REFUSED
@@ -112,7 +138,7 @@ fn run_plan(rt: &HostRuntime, trace: &str, cycle: u32, format: Format) -> u8 {
         return number;
     }
     match planned(rt, &mut shelf, trace, cycle, format) {
-        Ok(exported) => written(rt, trace, &exported),
+        Ok(exported) => written(rt, format, trace, trace, &exported),
         Err(status) => end_of(rt, &mut shelf, &status, trace, ""),
     }
 }
@@ -127,7 +153,7 @@ fn run_report(rt: &HostRuntime, trace: &str, report: &str, cycle: u32, format: F
         return number;
     }
     match export_report(rt.alloc(), trace, report, cycle, format, &mut shelf) {
-        Ok(exported) => written(rt, report, &exported),
+        Ok(exported) => written(rt, format, trace, report, &exported),
         Err(status) => end_of(rt, &mut shelf, &status, trace, report),
     }
 }
