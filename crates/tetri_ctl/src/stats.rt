@@ -1,4 +1,7 @@
 // `tetri_ctl stats TRACE REPORT`
+ghost use Rattle.tetri_trace.specs.Scenario.{scenario};
+ghost use Rattle.tetri_trace.specs.Sound.{IsSound};
+
 use crate::accounted::{Run, account_in, format_of, format_word, policy_word, send};
 use crate::named::{Shelf, report_word, trace_word};
 use clap::{Arg, ArgMatches, Command};
@@ -37,7 +40,9 @@ fn text_of(
     run: &Run,
     trace: &str,
     words: &ArgMatches<'_>,
-) -> Result<Vec<u8>, AllocError> {
+) -> Result<Vec<u8>, AllocError>
+    requires { IsSound (scenario run.now.trace) }
+{
     let tags = tags_of(alloc, shelf, trace)?;
     let (by, format) = (by_of(words), format_of(words));
     stats_text(alloc, &run.trace, &run.account, by, &tags, format)

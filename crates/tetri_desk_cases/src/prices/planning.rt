@@ -12,21 +12,16 @@ const PIECE: usize = 65_536;
 
 const ROOM: usize = 16_000_000;
 
-// The two shipped advisors. Its only error is want of memory for a seat.
-fn seated(alloc: Global) -> Result<Panel, AllocError> {
+// The report of the run by prices, with the two shipped advisors.
+fn report_of(alloc: Global, trace: &str) -> Result<String, AllocError> {
     let by_deadline: Box<dyn Advisor> = Box::new(alloc, ByDeadline::new())?;
     let by_worth: Box<dyn Advisor> = Box::new(alloc, ByWorth::new())?;
     let mut panel = Panel::new(alloc);
     if panel.seat(by_deadline).is_err() || panel.seat(by_worth).is_err() {
         return Err(AllocError);
     }
-    Ok(panel)
-}
-
-// The report of the run by prices.
-fn report_of(alloc: Global, trace: &str) -> Result<String, AllocError> {
     let mut planner = ByChooser {
-        chooser: ByPrice::new(seated(alloc)?),
+        chooser: ByPrice::new(panel),
     };
     let mut shelf = MemShelf::new(alloc, PIECE, &[])?;
     shelf.put("trace", trace.as_bytes())?;
