@@ -1,6 +1,6 @@
-// The column at which a point that is not whole is split.
+// What counts for a column that is not whole.
 
-use crate::programs::{Branch, Frac, Program};
+use crate::programs::{Frac, Program};
 
 const MOST: i128 = 1 << 60;
 const PARTS: i128 = 1 << 20;
@@ -32,23 +32,7 @@ fn number(numbers: &[i128], j: usize) -> i128 {
     }
 }
 
-/// Of the columns that are not whole the one with the greatest factor times distance, the least such
-/// one, and the floor of its number; none where the point is whole.
-pub fn choose(p: &Program, point: &[Frac]) -> Option<Branch> {
-    let mut best = -1;
-    let mut found = None;
-    for (j, x) in point.iter().enumerate() {
-        if x.den == 1 {
-            continue;
-        }
-        let score = factor(p, j).saturating_mul(distance(*x));
-        if best < score {
-            best = score;
-            found = Some(Branch {
-                column: u32::try_from(j).unwrap_or(0),
-                at: x.floor(),
-            });
-        }
-    }
-    found
+/// What a column's number counts: its factor times its distance from a whole number.
+pub fn urgency(p: &Program, j: usize, x: Frac) -> i128 {
+    factor(p, j).saturating_mul(distance(x))
 }

@@ -1,12 +1,13 @@
 // The search by an engine that goes on from the dictionary of the node above, in plain Rust: the same
 // rules as tetri_swift. It reads a program of numbers from standard input, whose lower bounds are 0.
-// It prints the best objective, the nodes and the nanoseconds, and where LOW is given, which is known at first, the last whole point.
+// It prints the best objective, the nodes and the nanoseconds of the processor, and where LOW is given, which is known at first, the last whole point.
 // usage: plain BUDGET BYTES [LOW]
 
 mod columns;
 mod dictionary;
 mod goal;
 mod lines;
+mod losses;
 mod numbers;
 mod programs;
 mod proposing;
@@ -15,7 +16,6 @@ mod swift;
 
 use programs::{Engine, Mark, Program, Proposal, Region, Row, Term};
 use std::io::Read;
-use std::time::Instant;
 use swift::Swift;
 
 fn read() -> Program {
@@ -110,16 +110,36 @@ fn search(p: &Program, budget: u32, keep: usize, low: u64) -> (u64, u32, Vec<i12
     (best, used, last)
 }
 
+#[repr(C)]
+struct Time {
+    seconds: i64,
+    nanoseconds: i64,
+}
+
+extern "C" {
+    fn clock_gettime(clock: i32, time: *mut Time) -> i32;
+}
+
+// The nanoseconds of the processor that the process took (CLOCK_PROCESS_CPUTIME_ID of Linux).
+fn processor() -> i64 {
+    let mut time = Time {
+        seconds: 0,
+        nanoseconds: 0,
+    };
+    unsafe { clock_gettime(2, &mut time) };
+    time.seconds * 1_000_000_000 + time.nanoseconds
+}
+
 fn main() {
     let words: Vec<usize> = std::env::args()
         .skip(1)
         .map(|word| word.parse().unwrap())
         .collect();
     let p = read();
-    let begun = Instant::now();
+    let begun = processor();
     let low = words.get(2).copied();
     let (best, nodes, last) = search(&p, words[0] as u32, words[1], low.unwrap_or(0) as u64);
-    println!("{best} {nodes} {}", begun.elapsed().as_nanos());
+    println!("{best} {nodes} {}", processor() - begun);
     if low.is_some() {
         let point: Vec<String> = last.iter().map(|x| x.to_string()).collect();
         println!("{}", point.join(" "));

@@ -1,6 +1,5 @@
 // Programs, regions, fractions and marks as the engine sees them, and the tests of what it proposes.
 
-use crate::columns::choose;
 
 pub struct Term {
     pub column: u32,
@@ -100,8 +99,8 @@ impl Frac {
     }
 }
 
-pub fn of_point(p: &Program, q: i128, weights: Vec<Weight>, point: Vec<Frac>) -> Proposal {
-    match choose(p, &point) {
+pub fn of_point(branch: Option<Branch>, q: i128, weights: Vec<Weight>, point: Vec<Frac>) -> Proposal {
+    match branch {
         Some(branch) => Proposal::Split {
             column: branch.column,
             at: branch.at,

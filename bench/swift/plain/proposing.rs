@@ -2,6 +2,7 @@
 
 use crate::dictionary::{is_mirrored, Dictionary};
 use crate::goal::{divide_all, divisor, part};
+use crate::losses::choose_by_loss;
 use crate::numbers::{at, name_at, wide_at};
 use crate::programs::{add_product, of_point, Frac, Program, Proposal, Region, Weight};
 use crate::repair::End;
@@ -70,8 +71,8 @@ fn line_weights(p: &Program, d: &Dictionary, row: usize) -> (i128, Vec<Weight>) 
     lowest(0, &numbers)
 }
 
-// A column's number, whose variable is a constant over a denominator.
-fn number_of(r: &Region, mirrored: bool, column: usize, constant: i64, over: i64) -> Option<Frac> {
+/// A column's number, whose variable is a constant over a denominator.
+pub fn number_of(r: &Region, mirrored: bool, column: usize, constant: i64, over: i64) -> Option<Frac> {
     let over = over as i128;
     let number = if mirrored {
         add_product(
@@ -119,7 +120,13 @@ fn point_of(p: &Program, r: &Region, d: &Dictionary) -> Option<Vec<Frac>> {
 }
 
 /// What an end proposes, if anything.
-pub fn of_end(p: &Program, r: &Region, d: &Dictionary, end: End) -> Option<Proposal> {
+pub fn of_end(
+    p: &Program,
+    r: &Region,
+    d: &Dictionary,
+    end: End,
+    best: u64,
+) -> Option<Proposal> {
     match end {
         End::Cut => {
             let (q, weights) = goal_weights(p, d);
@@ -134,7 +141,7 @@ pub fn of_end(p: &Program, r: &Region, d: &Dictionary, end: End) -> Option<Propo
             let Some(point) = point_of(p, r, d) else {
                 return None;
             };
-            Some(of_point(p, q, weights, point))
+            Some(of_point(choose_by_loss(p, r, d, best), q, weights, point))
         }
         End::Spent => None,
     }

@@ -86,7 +86,7 @@ impl Engine for Swift {
             return None;
         };
         let end = repair(&mut d, r, best);
-        let proposal = of_end(p, r, &d, end);
+        let proposal = of_end(p, r, &d, end, best);
         if end != End::Spent {
             self.current = Some(d);
         }

@@ -1,19 +1,18 @@
-// Plans by a panel, by prices and by a swift search.
+// Plans by a panel, by a swift search and by prices.
 ghost use Rattle.tetri_space.specs.Sound.{IsSound};
 ghost use Rattle.tetri_space.specs.Space.{space};
 
-use crate::planning::choose_by;
+use crate::turns::plan_in_turns;
 use std::alloc::{AllocError, Global};
 use tetri_advice::{Advice, Advisor, PanelOf};
-use tetri_by_price::add_priced;
 use tetri_plan::{Chooser, Plan};
 use tetri_space::Instance;
 use tetri_strl::Allotment;
-use tetri_swift::Swift;
 
-/// Asks a panel of advisors, and looks for prices and for a plan that they lead to. A search by
-/// branch and bound follows where the cycle is not too wide, with the engine [`Swift`], which goes
-/// on at each node from the dictionary of the node above.
+/// Asks a panel of advisors, and searches by branch and bound where the cycle is not too wide, with
+/// the engine `Swift` of tetri_swift, which goes on at each node from the dictionary of the node
+/// above: first some nodes, and where these do not settle the plan it looks for prices and for a plan
+/// that they lead to, and searches with the whole budget.
 #[derive(Drop)]
 pub struct BySwift<A: Advisor> {
     panel: PanelOf<A>,
@@ -35,10 +34,8 @@ impl<A: Advisor> Chooser for BySwift<A> {
         carry: &Allotment,
         budget: u32,
     ) -> Result<Plan, AllocError> {
-        let Advice { mut given, heard } = self.panel.consult(alloc, inst)?;
-        add_priced(alloc, inst, carry, &mut given)?;
-        let mut engine = Swift::new(alloc, self.keep_bytes);
-        let mut plan = choose_by(alloc, inst, carry, &given, budget, &mut engine)?;
+        let Advice { given, heard } = self.panel.consult(alloc, inst)?;
+        let mut plan = plan_in_turns(alloc, inst, carry, given, budget, self.keep_bytes)?;
         self.panel.teach(alloc, inst, &plan.grants);
         plan.heard = heard;
         Ok(plan)

@@ -5,6 +5,7 @@ ghost use Rattle.tetri_ip.specs.Points.{IsFit, IsInBox, bounds_of};
 
 use crate::columns::choose;
 use crate::engine::Proposal;
+use crate::single::Branch;
 use std::alloc::{AllocError, Global};
 use tetri_ip::{Program, Region, Weight};
 use tetri_num::{Frac, Place};
@@ -27,15 +28,15 @@ fn numerators(alloc: Global, point: &[Frac]) -> Result<Vec<i128>, AllocError> {
     Ok(numbers)
 }
 
-/// What a best point with its weights proposes: a split where it is not whole.
+/// What a best point with its weights proposes: a split at a branch, or else that it is whole.
 pub(crate) fn of_point(
     alloc: Global,
-    p: &Program,
+    branch: Option<Branch>,
     q: i128,
     weights: Vec<Weight>,
     point: Vec<Frac>,
 ) -> Result<Proposal, AllocError> {
-    match choose(p, &point) {
+    match branch {
         Some(branch) => Ok(Proposal::Split {
             q,
             weights,
@@ -65,7 +66,8 @@ pub(crate) fn run_anew(
 {
     match dual_run_over(alloc, p, r, factors, best)? {
         Outcome::Best { point, q, weights } => {
-            Ok(Said::Proposed(of_point(alloc, p, q, weights, point)?))
+            let branch = choose(p, &point);
+            Ok(Said::Proposed(of_point(alloc, branch, q, weights, point)?))
         }
         Outcome::Cut { q, weights } => Ok(Said::Proposed(Proposal::Close { q, weights })),
         Outcome::Empty { weights } => Ok(Said::Proposed(Proposal::Close { q: 0, weights })),

@@ -35,6 +35,11 @@ fn number(numbers: &[i128], j: usize) -> i128 {
     }
 }
 
+/// What a column's number counts: its factor times its distance from a whole number.
+pub(crate) fn urgency(p: &Program, j: usize, x: Frac) -> i128 {
+    factor(p, j).saturating_mul(distance(x))
+}
+
 /// Of the columns that are not whole the one with the greatest factor times distance, the least
 /// such one, and the floor of its number; none where the point is whole.
 pub(crate) fn choose(p: &Program, point: &[Frac]) -> Option<Branch> {
@@ -44,7 +49,7 @@ pub(crate) fn choose(p: &Program, point: &[Frac]) -> Option<Branch> {
         if x.den == 1 {
             continue;
         }
-        let score = factor(p, j).saturating_mul(distance(*x));
+        let score = urgency(p, j, *x);
         if best < score {
             best = score;
             found = Some(Branch {

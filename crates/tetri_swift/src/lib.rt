@@ -8,6 +8,7 @@ mod dictionary;
 mod engine;
 mod goal;
 mod lines;
+mod losses;
 mod nodes;
 mod numbers;
 mod proposing;

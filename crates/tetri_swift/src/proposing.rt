@@ -4,6 +4,7 @@ use crate::anew::of_point;
 use crate::dictionary::{Dictionary, is_mirrored};
 use crate::engine::Proposal;
 use crate::goal::{divide_all, divisor, part};
+use crate::losses::choose_by_loss;
 use crate::numbers::{at, name_at, wide_at};
 use crate::repair::End;
 use std::alloc::{AllocError, Global};
@@ -84,8 +85,14 @@ fn line_weights(
     lowest(alloc, 0, &numbers)
 }
 
-// A column's number, whose variable is a constant over a denominator.
-fn number_of(r: &Region, mirrored: bool, column: usize, constant: i64, over: i64) -> Option<Frac> {
+/// A column's number, whose variable is a constant over a denominator.
+pub(crate) fn number_of(
+    r: &Region,
+    mirrored: bool,
+    column: usize,
+    constant: i64,
+    over: i64,
+) -> Option<Frac> {
     let over = over as i128;
     let number = if mirrored {
         add_product(
@@ -137,13 +144,15 @@ fn point_of(
     Ok(Some(point))
 }
 
-/// What an end proposes, if anything. Its only error is want of memory.
+/// What an end proposes, if anything, where this is the best objective known. Its only error is want
+/// of memory.
 pub(crate) fn of_end(
     alloc: Global,
     p: &Program,
     r: &Region,
     d: &Dictionary,
     end: End,
+    best: u64,
 ) -> Result<Option<Proposal>, AllocError> {
     match end {
         End::Cut => {
@@ -159,7 +168,8 @@ pub(crate) fn of_end(
             let Some(point) = point_of(alloc, p, r, d)? else {
                 return Ok(None);
             };
-            Ok(Some(of_point(alloc, p, q, weights, point)?))
+            let branch = choose_by_loss(p, r, d, best);
+            Ok(Some(of_point(alloc, branch, q, weights, point)?))
         }
         End::Spent => Ok(None),
     }

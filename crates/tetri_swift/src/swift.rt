@@ -110,7 +110,7 @@ impl Engine for Swift {
             return Ok(None);
         };
         let end = repair(alloc, &mut d, r, best)?;
-        let proposal = of_end(alloc, p, r, &d, end)?;
+        let proposal = of_end(alloc, p, r, &d, end, best)?;
         if end != End::Spent {
             self.current = Some(d);
         }
