@@ -30,7 +30,7 @@ pub fn command<'a>(alloc: Global) -> Result<Command<'a>, AllocError> {
         .help("the report whose run it is, a file or -");
     Command::new(alloc, "export")
         .about("Writes the integer program of a cycle of a run, for other solvers")
-        .after_help("Example: tetri_ctl export day.jsonl --cycle 8 > day8.lp")
+        .after_help("Example: tetri_ctl export day.jsonl --cycle 7 > day7.lp")
         .arg(trace_word(alloc))?
         .arg(report)?
         .arg(cycle)?

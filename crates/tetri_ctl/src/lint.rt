@@ -1,6 +1,6 @@
 // `tetri_ctl lint TRACE`
 use crate::named::{Shelf, open_trace, trace_word};
-use crate::said::{BAD_INPUT, NO_MEMORY, READ_FAULT, REFUSED, WRITE_FAULT, complain, shown};
+use crate::said::{BAD_INPUT, NO_MEMORY, REFUSED, WRITE_FAULT, complain, read_fault, shown};
 use clap::{Arg, ArgAction, ArgMatches, Command};
 use std::alloc::{AllocError, Global};
 use std::fmt::Write;
@@ -82,10 +82,7 @@ pub fn run(rt: &HostRuntime, words: &ArgMatches<'_>) -> u8 {
     }
     match lint(rt.alloc(), &mut shelf, name) {
         Ok(linted) => write_out(rt, name, &linted, words.get_flag("strict")),
-        Err(LintFault::Read) => {
-            complain(rt, name, "read fault");
-            READ_FAULT
-        }
+        Err(LintFault::Read) => read_fault(rt, name),
         Err(LintFault::NoMemory) => {
             complain(rt, name, "out of memory");
             NO_MEMORY

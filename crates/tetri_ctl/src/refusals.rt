@@ -1,6 +1,6 @@
 // How a call on a trace ended, and what is told of a trace that is refused.
 use crate::named::Shelf;
-use crate::said::{end, shown};
+use crate::said::{end, read_fault, shown};
 use std::alloc::{AllocError, Global};
 use tetri_lint::{Refusal, add_refusal, explain};
 use tetri_run::Status;
@@ -23,7 +23,7 @@ fn tell(rt: &HostRuntime, shelf: &mut Shelf<'_>, status: &Status, trace: &str) {
     }
 }
 
-/// Says how a call on a trace and a report ended, and why a trace is refused, and gives the exit number.
+/// Says how a call on a trace and a report ended, which name was not read, and why a trace is refused, and gives the exit number.
 pub fn end_of(
     rt: &HostRuntime,
     shelf: &mut Shelf<'_>,
@@ -31,6 +31,11 @@ pub fn end_of(
     trace: &str,
     report: &str,
 ) -> u8 {
+    if *status == Status::ReadFault
+        && let Some(name) = shelf.failed()
+    {
+        return read_fault(rt, name);
+    }
     let number = end(rt, status, trace, report);
     tell(rt, shelf, status, trace);
     number

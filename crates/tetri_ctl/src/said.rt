@@ -1,5 +1,5 @@
 // What is said of how a call ended, and the number with which the program exits.
-use std::io;
+use std::{fs, io};
 use tetri_io::StdSink;
 use tetri_pipes::Unread;
 use tetri_run::{Status, conclude};
@@ -44,6 +44,15 @@ pub fn too_large(rt: &HostRuntime, name: &str, columns: u64, rows: u64) {
 fn complain_of_system(rt: &HostRuntime, name: &str, error: &io::Error) {
     let name = shown(name);
     let _said = eprintln!(rt; "tetri_ctl: {name}: {error}");
+}
+
+/// Says that a read of a file failed, with the reason of the system where the file cannot be opened any more, and gives the exit number.
+pub fn read_fault(rt: &HostRuntime, name: &str) -> u8 {
+    match fs::open(rt, name) {
+        Err(error) => complain_of_system(rt, name, &error),
+        Ok(_file) => complain(rt, name, "read fault"),
+    }
+    READ_FAULT
 }
 
 /// Says why a name is not read, and gives the exit number. `too_long` is that of what is too long.

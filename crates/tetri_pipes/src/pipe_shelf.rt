@@ -1,5 +1,5 @@
 // Pipes, standard input and files.
-ghost use Rattle.std.specs.Prelude.{◌≡◌, ◌≢◌, ◌↔◌, ◌+◌, ◌-◌, ◌<◌, ◌≤◌, ◌⊎◌, ◌^◌, min, List, ℕ, None, Some, length, IfOk, OnOk, OnErr, IfSome, IsOk, IsSome, IsErrAnd};
+ghost use Rattle.std.specs.Prelude.{◌≡◌, ◌≢◌, ◌↔◌, ◌+◌, ◌-◌, ◌<◌, ◌≤◌, ◌⊎◌, ◌^◌, min, List, ℕ, None, Some, length, option_map, IfOk, OnOk, OnErr, IfSome, IsOk, IsSome, IsErrAnd};
 ghost use Rattle.std.specs.Io.{ReadsAtMost};
 ghost use Rattle.tetri_io.specs.Causes.{HasCause, count_after};
 ghost use Rattle.tetri_io.specs.Shelf.{IsReadAt};
@@ -15,28 +15,42 @@ use tetri_io::{Failed, FileShelf, Shelf};
 
 /// The files of a runtime, with pipes and standard input, which is the name `-`. What cannot be
 /// sought is read whole, once, as it is opened, and kept in memory: from then on it is told, and no
-/// read of it fails. Any other name is read as `FileShelf` reads it, and is not told.
+/// read of it fails. Any other name is read as `FileShelf` reads it, and is not told. Of the read that
+/// failed last the name is kept, as far as memory lasts.
 #[derive(Drop)]
 pub struct PipeShelf<'a, R: Files + Input> {
     alloc: Global,
     runtime: &'a R,
     files: FileShelf<'a, R>,
     names: BTreeMap<String, Vec<u8>>,
+    failed: Option<String>,
 }
 
 impl<'a, R: Files + Input> PipeShelf<'a, R> {
-    ghost use Rattle.tetri_pipes.specs.PipeShelf.{fault_count, kept};
+    ghost use Rattle.tetri_pipes.specs.PipeShelf.{failed_name, fault_count, kept};
 
     /// The files of this runtime. Nothing is kept, and there is no fault yet.
     pub fn new(alloc: Global, runtime: &'a R) -> PipeShelf<'a, R>
         ensures empty { (name : List ℕ) → kept result name ≡ None }
         ensures faults { fault_count result ≡ 0 }
+        ensures failed { failed_name result ≡ None }
     {
         PipeShelf {
             alloc,
             runtime,
             files: FileShelf::new(runtime),
             names: BTreeMap::new(alloc),
+            failed: None,
+        }
+    }
+
+    /// The name of which a read failed last, if there was memory to keep it.
+    pub fn failed(&self) -> Option<&str>
+        ensures { option_map (λ name. name.now) result ≡ failed_name self.now }
+    {
+        match &self.failed {
+            Some(name) => Some(name.as_str()),
+            None => None,
         }
     }
 
@@ -61,6 +75,25 @@ impl<'a, R: Files + Input> PipeShelf<'a, R> {
         let mut first = [0u8; 1];
         let _count = file.read(&mut first)?;
         Ok(())
+    }
+
+    // Reads bytes of a file, and keeps its name where that fails.
+    fn read_file(&mut self, name: &str, offset: u64, buf: &mut [u8]) -> Result<usize, Failed>
+        requires { offset < 2 ^ 63 }
+        ensures count { ReadsAtMost result buf.new }
+        ensures within { IfOk result (λ n. offset + n < 2 ^ 63) }
+        ensures same { self.new.names ≡ self.old.names }
+        ensures cause { HasCause (fault_count self.old) (fault_count self.new) result }
+        ensures later { (other : List ℕ) → fault_count self.old ≤ fault_count self.new }
+        ensures counted { fault_count self.new ≡ count_after (fault_count self.old) result }
+        ensures named { OnErr result (IfSome (failed_name self.new) (λ failed. failed ≡ name.now)) }
+        ensures unnamed { OnOk result (failed_name self.new ≡ failed_name self.old) }
+    {
+        let outcome = self.files.read_at(name, offset, buf);
+        if outcome.is_err() {
+            self.failed = String::from_str(self.alloc, name).ok();
+        }
+        outcome
     }
 
     /// Keeps under a name what a reader has left, of at most `limit` bytes.
@@ -101,7 +134,7 @@ fn copy_from(content: &[u8], offset: u64, buf: &mut [u8]) -> usize
 }
 
 impl<R: Files + Input> Shelf for PipeShelf<'_, R> {
-    ghost use Rattle.tetri_pipes.specs.PipeShelf.{fault_count, kept};
+    ghost use Rattle.tetri_pipes.specs.PipeShelf.{failed_name, fault_count, kept};
 
     ghost told = { kept };
 
@@ -122,10 +155,12 @@ impl<R: Files + Input> Shelf for PipeShelf<'_, R> {
         // What this one ensures besides.
         ensures sure { IsSome (kept self.old name.now) → IsOk result }
         ensures counted { fault_count self.new ≡ count_after (fault_count self.old) result }
+        ensures named { OnErr result (IfSome (failed_name self.new) (λ failed. failed ≡ name.now)) }
+        ensures unnamed { OnOk result (failed_name self.new ≡ failed_name self.old) }
     {
         match self.names.get(name) {
             Some(content) => Ok(copy_from(content, offset, buf)),
-            None => self.files.read_at(name, offset, buf),
+            None => self.read_file(name, offset, buf),
         }
     }
 }

@@ -8,7 +8,7 @@ use Rattle.tetri_programs.specs.Exported.{IsAtCycle, IsExport, IsExportOf}
 use Rattle.tetri_programs.specs.declared.instance.Exported.{Exported}
 use Rattle.tetri_programs.specs.declared.instance.Exported.TheVariants.{NoCycle, Text, Wide}
 
-pub export_at : (t : Scenario) (f : Format) (cycle : ℕ) (s : Snapshot) → IsAtCycle t cycle s → (e : Exported) → IsExportOf f (instance_of t s) e → IsExport t f cycle e
+pub export_at : (t : Scenario) (f : Format) (cycle : ℕ) (s : Snapshot) → IsAtCycle t cycle s → (e : Exported) → IsExportOf f t.nodes (instance_of t s) e → IsExport t f cycle e
 export_at t f cycle s at (Text text) of = (s, at, of)
 export_at t f cycle s at (Wide columns rows) of = (s, at, of)
 export_at t f cycle s at NoCycle of = absurd of

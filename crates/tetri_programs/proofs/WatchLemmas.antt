@@ -18,7 +18,7 @@ use Rattle.tetri_programs.specs.declared.instance.Exported.TheVariants.{NoCycle,
 use Rattle.tetri_programs.specs.declared.watching.Watching.{Watching}
 
 abbrev pub saw : Scenario → Snapshot → Block → Watching → Watching → Type 0
-saw t s b old new = IsTaken (instance_at t s) old new
+saw t s b old new = IsTaken t.nodes (instance_at t s) old new
 
 in_order_long : (xs : List Block) → length (in_order xs) ≡ length xs
 in_order_long [] = refl
@@ -50,18 +50,18 @@ module _ (t : Scenario) where
       ∙ seen.1.0.other (λ e. omega (arith, le, e, instance_now s))
 
   found : (k : ℕ) (s : Snapshot) (bs : List Block) (old new : Watching) → Observed saw t s bs old new → old.cycle ≡ s.now + k → k < length bs →
-      IsSomeAnd new.exported (IsExportOf old.format (instance_at t (behind t s (take k bs))))
+      IsSomeAnd new.exported (IsExportOf old.format t.nodes (instance_at t (behind t s (take k bs))))
   found k s [] old new seen e lt = absurd (omega (arith, lt))
   found zero s (b ∷ bs) old new seen e lt =
-      subst (λ (o : Option Exported). IsSomeAnd o (IsExportOf old.format (instance_at t s)))
+      subst (λ (o : Option Exported). IsSomeAnd o (IsExportOf old.format t.nodes (instance_at t s)))
       (sym (past (next t s b) bs seen.0 new seen.1.1 (omega (arith, e, seen.1.0.cycle, next_now s b))))
       (seen.1.0.here (omega (arith, e, instance_now s)))
   found (suc k) s (b ∷ bs) old new seen e lt =
-      subst (λ (f : Format). IsSomeAnd new.exported (IsExportOf f (instance_at t (behind t (next t s b) (take k bs))))) seen.1.0.format
+      subst (λ (f : Format). IsSomeAnd new.exported (IsExportOf f t.nodes (instance_at t (behind t (next t s b) (take k bs))))) seen.1.0.format
       (found k (next t s b) bs seen.0 new seen.1.1 (omega (arith, e, seen.1.0.cycle, next_now s b)) (omega (arith, lt)))
 
   given : (blocks : List Block) (f : Format) (cycle : ℕ) → cycle < t.header.until → (o : Option Exported) →
-      IsSomeAnd o (IsExportOf f (instance_at t (behind t (opening_state t) (take cycle blocks)))) → IsExportIn t blocks f cycle (unwrap_or o NoCycle)
+      IsSomeAnd o (IsExportOf f t.nodes (instance_at t (behind t (opening_state t) (take cycle blocks)))) → IsExportIn t blocks f cycle (unwrap_or o NoCycle)
   given blocks f cycle lt (Some (Text text)) h = (lt, h)
   given blocks f cycle lt (Some (Wide columns rows)) h = (lt, h)
   given blocks f cycle lt (Some NoCycle) h = absurd h
@@ -78,7 +78,7 @@ module _ (t : Scenario) where
             (elim (cases_lt cycle t.header.until) [
               | inl lt ↦
                   given blocks f cycle lt new.exported
-                  (subst (λ (g : Format). IsSomeAnd new.exported (IsExportOf g (instance_at t (behind t (opening_state t) (take cycle blocks))))) is_format
+                  (subst (λ (g : Format). IsSomeAnd new.exported (IsExportOf g t.nodes (instance_at t (behind t (opening_state t) (take cycle blocks))))) is_format
                   (found cycle (opening_state t) blocks old new seen.observed (omega (arith, is_cycle)) (omega (arith, lt, whole))))
               | inr le ↦
                   subst (λ (o : Option Exported). IsExportIn t blocks f cycle (unwrap_or o NoCycle))

@@ -1,3 +1,4 @@
+pub mod Head
 pub mod Text
 pub mod Exported
 pub mod Taken

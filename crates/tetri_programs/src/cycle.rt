@@ -56,5 +56,5 @@ pub fn export_cycle<A: Advisor>(
     }
     let _happened = state.begin_cycle(alloc, trace)?;
     let inst = state.instance(alloc, trace)?;
-    export_instance(alloc, &inst, format)
+    export_instance(alloc, &inst, &trace.cluster, format)
 }

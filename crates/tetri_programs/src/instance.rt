@@ -6,6 +6,7 @@ ghost use Rattle.tetri_space.specs.Space.{space};
 
 use crate::text::program_text;
 use std::alloc::{AllocError, Global};
+use tetri_cluster::Cluster;
 use tetri_compile::size;
 use tetri_export::Format;
 use tetri_space::{Instance, find_partitions};
@@ -29,20 +30,21 @@ pub enum Exported {
 // How many columns a program may have, and one more.
 const MOST: u64 = 2_147_483_648;
 
-/// What is exported of an instance. Its only error is want of memory.
+/// What is exported of an instance over the nodes of a cluster. Its only error is want of memory.
 pub fn export_instance(
     alloc: Global,
     inst: &Instance,
+    cluster: &Cluster,
     format: Format,
 ) -> Result<Exported, AllocError>
     requires { IsSound (space inst.now) }
-    ensures { IfOk result (IsExportOf format (space inst.entry.now)) }
+    ensures { IfOk result (IsExportOf format cluster.entry.now (space inst.entry.now)) }
 {
     let parts = find_partitions(alloc, inst)?;
     let (columns, rows) = size(inst, &parts);
     if columns >= MOST {
         return Ok(Exported::Wide { columns, rows });
     }
-    let text = program_text(alloc, inst, &parts, format)?;
+    let text = program_text(alloc, inst, &parts, cluster, format)?;
     Ok(Exported::Text(text))
 }

@@ -2,6 +2,7 @@
 #![tactic(auto)]
 
 mod cycle;
+mod head;
 mod instance;
 mod names;
 mod report;

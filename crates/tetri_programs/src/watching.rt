@@ -5,6 +5,7 @@ ghost use Rattle.tetri_space.specs.Space.{space};
 
 use crate::instance::{Exported, export_instance};
 use std::alloc::{AllocError, Global};
+use tetri_cluster::Cluster;
 use tetri_cycles::{Observer, SeenSlot};
 use tetri_export::Format;
 use tetri_report::Head;
@@ -49,14 +50,19 @@ impl Watching {
     }
 
     // Takes what is exported of this instance, where its cycle is the one that is asked for.
-    fn take(&mut self, alloc: Global, inst: &Instance) -> Result<(), AllocError>
+    fn take(
+        &mut self,
+        alloc: Global,
+        cluster: &Cluster,
+        inst: &Instance,
+    ) -> Result<(), AllocError>
         requires { IsSound (space inst.now) }
-        ensures { OnOk result (IsTaken (space inst.entry.now) self.old self.new) }
+        ensures { OnOk result (IsTaken cluster.entry.now (space inst.entry.now) self.old self.new) }
     {
         if inst.now != self.cycle {
             return Ok(());
         }
-        let exported = export_instance(alloc, inst, self.format)?;
+        let exported = export_instance(alloc, inst, cluster, self.format)?;
         self.exported = Some(exported);
         Ok(())
     }
@@ -66,16 +72,16 @@ impl Observer for Watching {
     ghost use Rattle.tetri_programs.specs.Taken.{IsTaken};
     ghost use Rattle.tetri_state.specs.Planning.{instance_at};
 
-    ghost saw = { λ t s b old new. IsTaken (instance_at t s) old new };
+    ghost saw = { λ t s b old new. IsTaken t.nodes (instance_at t s) old new };
 
     fn see(
         &mut self,
         alloc: Global,
-        _trace: &Trace,
+        trace: &Trace,
         _state: &State,
         slot: SeenSlot<'_>,
         _head: &Head,
     ) -> Result<(), AllocError> {
-        self.take(alloc, slot.inst)
+        self.take(alloc, &trace.cluster, slot.inst)
     }
 }

@@ -17,5 +17,5 @@ returns g c =
       now = omega (arith, as_before, v.invariant.now, v.auto.number-end, c.loop-number-test.false);
     } in
     IfOk-weaker c.export_instance.result _ (IsExport t c.args.format c.args.cycle)
-    (λ e of. export_at t c.args.format c.args.cycle c.begin_cycle.new.self at e (subst (λ (s : Space). IsExportOf c.args.format s e) c.in_ok-inst.ensures.instance of))
+    (λ e of. export_at t c.args.format c.args.cycle c.begin_cycle.new.self at e (subst (λ (s : Space). IsExportOf c.args.format t.nodes s e) c.in_ok-inst.ensures.instance of))
     c.export_instance.ensures
