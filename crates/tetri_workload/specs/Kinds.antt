@@ -1,0 +1,46 @@
+-- Nodes that differ, and which of them are in a set.
+use Rattle.std.specs.Prelude.{◌≡◌, ℕ, ◌+◌, ◌==◌, ◌&&◌, Bool, true, false, List, [], ◌∷◌, length, map, min, nat_lt, Option, Some, None, if◌then◌else◌}
+use Rattle.tetri_cluster.specs.Cluster.{names_of}
+use Rattle.tetri_cluster.specs.Names.{is_among}
+use Rattle.tetri_cluster.specs.declared.cluster.NodeText.{NodeText}
+use Rattle.tetri_io.specs.Words.{parts_at}
+use Rattle.tetri_logs.specs.declared.account.Account.{Account}
+use Rattle.tetri_logs.specs.declared.entry.LoggedJob.{LoggedJob}
+use Rattle.tetri_logs.specs.declared.options.Options.{Options}
+
+-- whether nodes differ: these are given
+abbrev pub are_mixed : List NodeText → Bool
+are_mixed [] = false
+are_mixed (node ∷ nodes) = true
+
+-- the tags of a set's text
+abbrev pub tags_in : List ℕ → List (List ℕ)
+tags_in set = if length set == 0 then [] else parts_at 38 set
+
+abbrev pub has_all : NodeText → List (List ℕ) → Bool
+has_all node [] = true
+has_all node (tag ∷ tags) = if is_among tag node.tags then has_all node tags else false
+
+-- the numbers of the nodes that have all of these tags, where the first node has this number; a trace has 4,096 nodes at most
+abbrev pub members_from : ℕ → List NodeText → List (List ℕ) → List ℕ
+members_from number [] tags = []
+members_from number (node ∷ nodes) tags =
+    if nat_lt number 4096 && has_all node tags then number ∷ members_from (number + 1) nodes tags else members_from (number + 1) nodes tags
+
+-- the nodes in a set
+abbrev pub members : List NodeText → List ℕ → List ℕ
+members nodes set = members_from 0 nodes (tags_in set)
+
+-- a job with how many nodes are in its set
+abbrev pub settled : List NodeText → LoggedJob → LoggedJob
+settled nodes job = record job { account = record job.account { room = Some (length (members nodes job.set)) } }
+
+-- the same of all jobs, where nodes differ
+abbrev pub settled_all : List NodeText → List LoggedJob → List LoggedJob
+settled_all [] jobs = jobs
+settled_all (node ∷ nodes) jobs = map (settled (node ∷ nodes)) jobs
+
+-- with as many nodes as are given, where these differ
+abbrev pub fitted : List NodeText → Options → Options
+fitted [] o = o
+fitted (node ∷ nodes) o = record o { nodes = Some (min (length (node ∷ nodes)) 4097) }
