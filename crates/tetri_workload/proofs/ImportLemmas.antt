@@ -1,5 +1,5 @@
 -- What follows of a trace that is read as what was taken.
-use Rattle.std.proofs.Common.{◌≡◌, ◌+◌, ◌∙◌, ◌++◌, [], ◌∷◌, ℕ, List, length, ap, refl, sym, subst, arith, length-append}
+use Rattle.std.proofs.Common.{◌≡◌, ◌+◌, ◌∙◌, ◌++◌, ℕ, Bool, true, false, cond, List, length, map, ap, refl, sym, subst, arith, length-append}
 use Rattle.std.specs.Prelude.{string_bytes, None}
 use Rattle.std.proofs.lemmas.List.{length-map}
 use Rattle.std.proofs.lemmas.List.Sorted.{length_permutation}
@@ -24,9 +24,12 @@ use Rattle.tetri_workload.specs.declared.taking.Taken.{Taken}
 use Rattle.tetri_workload.proofs.TakingLemmas.{all_taken_or_left}
 
 -- as many jobs as before
+length-either : (b : Bool) (nodes : List NodeText) (jobs : List LoggedJob) → length (cond b (map (settled nodes) jobs) jobs) ≡ length jobs
+length-either true nodes jobs = length-map jobs (settled nodes)
+length-either false nodes jobs = refl
+
 length-settled_all : (nodes : List NodeText) (jobs : List LoggedJob) → length (settled_all nodes jobs) ≡ length jobs
-length-settled_all [] jobs = refl
-length-settled_all (node ∷ nodes) jobs = length-map jobs (settled (node ∷ nodes))
+length-settled_all nodes jobs = length-either (are_mixed nodes) nodes jobs
 
 pub imported : (es : List Entry) (nodes : List NodeText) (o : Options) (i : Imported) (draft s : Settings) (order : List LoggedJob) (t : Taken) (events : List Event)
     → IsDraft es nodes o draft order

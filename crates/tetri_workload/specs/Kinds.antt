@@ -1,5 +1,5 @@
 -- Nodes that differ, and which of them are in a set.
-use Rattle.std.specs.Prelude.{◌≡◌, ℕ, ◌+◌, ◌==◌, ◌&&◌, Bool, true, false, List, [], ◌∷◌, length, map, min, nat_lt, Option, Some, None, if◌then◌else◌}
+use Rattle.std.specs.Prelude.{◌≡◌, ℕ, ◌+◌, ◌==◌, ◌&&◌, Bool, true, false, not, List, [], ◌∷◌, length, map, min, nat_lt, Option, Some, None, if◌then◌else◌}
 use Rattle.tetri_cluster.specs.Cluster.{names_of}
 use Rattle.tetri_cluster.specs.Names.{is_among}
 use Rattle.tetri_cluster.specs.declared.cluster.NodeText.{NodeText}
@@ -10,8 +10,7 @@ use Rattle.tetri_logs.specs.declared.options.Options.{Options}
 
 -- whether nodes differ: these are given
 abbrev pub are_mixed : List NodeText → Bool
-are_mixed [] = false
-are_mixed (node ∷ nodes) = true
+are_mixed nodes = not (length nodes == 0)
 
 -- the tags of a set's text
 abbrev pub tags_in : List ℕ → List (List ℕ)
@@ -37,10 +36,8 @@ settled nodes job = record job { account = record job.account { room = Some (len
 
 -- the same of all jobs, where nodes differ
 abbrev pub settled_all : List NodeText → List LoggedJob → List LoggedJob
-settled_all [] jobs = jobs
-settled_all (node ∷ nodes) jobs = map (settled (node ∷ nodes)) jobs
+settled_all nodes jobs = if are_mixed nodes then map (settled nodes) jobs else jobs
 
 -- with as many nodes as are given, where these differ
 abbrev pub fitted : List NodeText → Options → Options
-fitted [] o = o
-fitted (node ∷ nodes) o = record o { nodes = Some (min (length (node ∷ nodes)) 4097) }
+fitted nodes o = if are_mixed nodes then record o { nodes = Some (min (length nodes) 4097) } else o

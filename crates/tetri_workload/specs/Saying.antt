@@ -1,5 +1,5 @@
 -- What a trace says of the jobs that are taken.
-use Rattle.std.specs.Prelude.{◌≡◌, ℕ, Bool, true, false, List, [], ◌∷◌, length, map, nat_lt, slice_index_or, Option, Some, None, Ok, if◌then◌else◌}
+use Rattle.std.specs.Prelude.{◌≡◌, ℕ, Bool, true, false, List, [], length, map, nat_lt, slice_index_or, Option, Some, None, Ok, if◌then◌else◌}
 use Rattle.tetri_cluster.specs.Cluster.{names_of}
 use Rattle.tetri_cluster.specs.declared.cluster.NodeText.{NodeText}
 use Rattle.tetri_request.specs.declared.ask.Ask.{Ask}
@@ -45,9 +45,12 @@ pub record IsSeated (nodes : List NodeText) (sets : List (List ℕ)) (said : Sce
   pub seated : map (nodes_asked said.sets) said.submissions ≡ map (nodes_wanted nodes) sets
 
 -- the same where nodes differ
+abbrev pub SeatedIf : Bool → List NodeText → List (List ℕ) → Scenario → Type 0
+SeatedIf false nodes sets said = Unit {0}
+SeatedIf true nodes sets said = IsSeated nodes sets said
+
 abbrev pub AreSeated : List NodeText → List (List ℕ) → Scenario → Type 0
-AreSeated [] sets said = Unit {0}
-AreSeated (node ∷ nodes) sets said = IsSeated (node ∷ nodes) sets said
+AreSeated nodes sets said = SeatedIf (are_mixed nodes) nodes sets said
 
 -- A trace says what was taken: these jobs, and what happens to them, on so many nodes.
 pub record SaysMost (s : Settings) (mixed : Bool) (t : Tally) (said : Scenario) : Type 0 where

@@ -1,5 +1,5 @@
 -- The text of a trace in which jobs arrive and are cancelled.
-use Rattle.std.specs.Prelude.{ℕ, ◌+◌, ◌/◌, ◌==◌, List, [], ◌∷◌, ◌++◌, flat_map, length, slice_get, slice_index_or, Option, Some, None, if◌then◌else◌, codes, decimal}
+use Rattle.std.specs.Prelude.{ℕ, ◌+◌, ◌/◌, ◌==◌, List, [], ◌++◌, flat_map, length, slice_get, slice_index_or, Option, Some, None, if◌then◌else◌, codes, decimal}
 use Rattle.std.specs.Fmt.{signed_decimal}
 use lib.IntN.{ℤ}
 use Rattle.std.specs.List.{range_with_len}
@@ -12,6 +12,7 @@ use Rattle.tetri_trace.specs.declared.trace.Event.{Event}
 use Rattle.tetri_trace.specs.declared.trace.Happening.{Happening}
 use Rattle.tetri_trace.specs.declared.trace.Happening.TheVariants.{Arrive, Cancel, Drain, Undrain, Fail}
 use Rattle.tetri_logs.specs.declared.options.Settings.{Settings}
+use Rattle.tetri_workload.specs.Kinds.{are_mixed}
 use Rattle.tetri_workload.specs.Taking.{Tally}
 
 -- a node, named by its number from 1 on
@@ -32,27 +33,36 @@ quoted_text tag = codes "\"" ++ tag ++ codes "\""
 abbrev pub comma_text : ℕ → List ℕ
 comma_text place = if place == 0 then [] else codes ","
 
--- tags, where the first has this place
-abbrev pub tags_text : ℕ → List (List ℕ) → List ℕ
-tags_text place [] = []
-tags_text place (tag ∷ tags) = comma_text place ++ quoted_text tag ++ tags_text (place + 1) tags
+abbrev pub quoted_at : Option (List ℕ) → List ℕ
+quoted_at None = []
+quoted_at (Some tag) = quoted_text tag
+
+abbrev pub tag_text : List (List ℕ) → ℕ → List ℕ
+tag_text tags place = comma_text place ++ quoted_at (slice_get tags place)
+
+abbrev pub tags_text : List (List ℕ) → List ℕ
+tags_text tags = flat_map (tag_text tags) (range_with_len 0 (length tags))
 
 unfoldable pub node_name_text : List ℕ → List ℕ
 node_name_text name = codes "{\"name\":\"" ++ name ++ codes "\",\"tags\":["
 
 -- a node with its own name and its tags
 abbrev pub tagged_text : NodeText → List ℕ
-tagged_text n = node_name_text n.name ++ tags_text 0 n.tags ++ codes "]}"
+tagged_text n = node_name_text n.name ++ tags_text n.tags ++ codes "]}"
 
--- nodes, where the first has this place
-abbrev pub all_tagged_text : ℕ → List NodeText → List ℕ
-all_tagged_text place [] = []
-all_tagged_text place (node ∷ nodes) = comma_text place ++ tagged_text node ++ all_tagged_text (place + 1) nodes
+abbrev pub tagged_at : Option NodeText → List ℕ
+tagged_at None = []
+tagged_at (Some node) = tagged_text node
+
+abbrev pub given_text : List NodeText → ℕ → List ℕ
+given_text nodes place = comma_text place ++ tagged_at (slice_get nodes place)
+
+abbrev pub all_given_text : List NodeText → List ℕ
+all_given_text nodes = flat_map (given_text nodes) (range_with_len 0 (length nodes))
 
 -- the nodes that are given, or so many that are alike
 abbrev pub any_nodes_text : List NodeText → ℕ → List ℕ
-any_nodes_text [] count = nodes_text count
-any_nodes_text (node ∷ nodes) count = all_tagged_text 0 (node ∷ nodes)
+any_nodes_text nodes count = if are_mixed nodes then all_given_text nodes else nodes_text count
 
 -- the words around the nodes
 unfoldable pub opening_text : List ℕ

@@ -126,7 +126,7 @@ fn has_seat(
     ensures seat { IfOk result (λ alike. IsTrue alike ↔ (nodes_asked sets.now (submission job.now) ≡ nodes_wanted nodes.now set.now)) }
 {
     let number = kinds.number(alloc, nodes, set.text().as_bytes())?;
-    Ok(may_use(sets, &job.work, &kinds.members.as_slice()[number]))
+    Ok(may_use(sets, &job.work, kinds.nodes_of(number)))
 }
 
 // Whether each job may use the nodes of its set.
@@ -218,7 +218,7 @@ fn is_seated(
     requires { AreKnown nodes.now kinds.old }
     ensures { IfOk result (λ alike. IsTrue alike ↔ AreSeated nodes.now (so_far taken.now).sets (scenario trace.now)) }
 {
-    if nodes.is_empty() {
+    if !are_mixed(nodes) {
         return Ok(true);
     }
     if !same_names(&trace.cluster, nodes) {

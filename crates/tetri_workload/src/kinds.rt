@@ -30,7 +30,7 @@ pub(crate) fn are_mixed(nodes: &[NodeText]) -> bool
 pub(crate) fn fitted(options: &Options, nodes: &[NodeText]) -> Options
     ensures { result ≡ fitted nodes.now options.now }
 {
-    if nodes.is_empty() {
+    if !are_mixed(nodes) {
         return *options;
     }
     Options {
@@ -136,6 +136,14 @@ impl Kinds {
         Ok(number)
     }
 
+    /// The nodes of the set with a number.
+    pub(crate) fn nodes_of(&self, number: usize) -> &NodeSet
+        requires { number < length self.now.members }
+        ensures { result.now ≡ slice_index_or self.now.members number [] }
+    {
+        &self.members.as_slice()[number]
+    }
+
     // How many nodes are in a set.
     fn room(&mut self, alloc: Global, nodes: &[NodeText], set: &[u8]) -> Result<usize, AllocError>
         requires { AreKnown nodes.now self.old }
@@ -143,7 +151,7 @@ impl Kinds {
         ensures room { IfOk result (λ room. room ≡ length (members nodes.now set.now)) }
     {
         let number = self.number(alloc, nodes, set)?;
-        Ok(self.members.as_slice()[number].as_slice().len())
+        Ok(self.nodes_of(number).as_slice().len())
     }
 
     // A job with how many nodes are in its set.
@@ -194,7 +202,7 @@ impl Kinds {
         ensures known { OnOk result (AreKnown nodes.now self.new) }
         ensures jobs { IfOk result (λ all. all.items ≡ settled_all nodes.now jobs.items) }
     {
-        if nodes.is_empty() {
+        if !are_mixed(nodes) {
             return Ok(jobs);
         }
         self.settle_each(alloc, nodes, jobs)

@@ -3,8 +3,9 @@ ghost use Rattle.std.specs.Prelude.{◌≡◌, ◌≤◌, ◌<◌, ◌++◌, [],
 ghost use Rattle.tetri_logs.specs.Options.{AreGood};
 ghost use Rattle.tetri_trace.specs.Scenario.{demand_of, submission};
 ghost use Rattle.tetri_workload.specs.Taking.{so_far};
-ghost use Rattle.tetri_workload.specs.Text.{all_tagged_text, any_nodes_text, arrival_text, ask_text, cancel_text, class_name, clock_text, closing_text, comma_text, demand_text, due_text, event_text, header_text, late_text, limits_text, named_arrival_text, named_cancel_text, named_set_text, named_text, node_name_text, node_text, nodes_text, opening_text, quoted_text, run_text, set_text, tagged_text, tags_text, text_of, wanted_text};
+ghost use Rattle.tetri_workload.specs.Text.{all_given_text, any_nodes_text, arrival_text, ask_text, cancel_text, class_name, clock_text, closing_text, comma_text, demand_text, due_text, event_text, given_text, header_text, late_text, limits_text, named_arrival_text, named_cancel_text, named_set_text, named_text, node_name_text, node_text, nodes_text, opening_text, quoted_text, run_text, set_text, tag_text, tagged_text, tags_text, text_of, wanted_text};
 
+use crate::kinds::are_mixed;
 use crate::taking::Taken;
 use std::alloc::{AllocError, Global};
 use tetri_cluster::{Name, NodeText};
@@ -58,12 +59,21 @@ fn write_comma(text: &mut String, place: usize) -> Result<(), AllocError>
     text.push_str(",")
 }
 
-fn write_tags(text: &mut String, tags: &[Name]) -> Result<(), AllocError>
-    ensures { OnOk result (string_bytes text.new ≡ string_bytes text.old ++ tags_text 0 tags.now) }
+fn write_tag(text: &mut String, tags: &[Name], place: usize) -> Result<(), AllocError>
+    ensures { OnOk result (string_bytes text.new ≡ string_bytes text.old ++ tag_text tags.now place) }
 {
-    for (place, tag) in tags.iter().enumerate() {
-        write_comma(text, place)?;
-        write_quoted(text, tag.text())?;
+    write_comma(text, place)?;
+    match tags.get(place) {
+        Some(tag) => write_quoted(text, tag.text()),
+        None => Ok(()),
+    }
+}
+
+fn write_tags(text: &mut String, tags: &[Name]) -> Result<(), AllocError>
+    ensures { OnOk result (string_bytes text.new ≡ string_bytes text.old ++ tags_text tags.now) }
+{
+    for place in 0..tags.len() {
+        write_tag(text, tags, place)?;
     }
     Ok(())
 }
@@ -84,12 +94,21 @@ fn write_tagged(text: &mut String, node: &NodeText) -> Result<(), AllocError>
     text.push_str("]}")
 }
 
-fn write_all_tagged(text: &mut String, nodes: &[NodeText]) -> Result<(), AllocError>
-    ensures { OnOk result (string_bytes text.new ≡ string_bytes text.old ++ all_tagged_text 0 nodes.now) }
+fn write_given(text: &mut String, nodes: &[NodeText], place: usize) -> Result<(), AllocError>
+    ensures { OnOk result (string_bytes text.new ≡ string_bytes text.old ++ given_text nodes.now place) }
 {
-    for (place, node) in nodes.iter().enumerate() {
-        write_comma(text, place)?;
-        write_tagged(text, node)?;
+    write_comma(text, place)?;
+    match nodes.get(place) {
+        Some(node) => write_tagged(text, node),
+        None => Ok(()),
+    }
+}
+
+fn write_all_given(text: &mut String, nodes: &[NodeText]) -> Result<(), AllocError>
+    ensures { OnOk result (string_bytes text.new ≡ string_bytes text.old ++ all_given_text nodes.now) }
+{
+    for place in 0..nodes.len() {
+        write_given(text, nodes, place)?;
     }
     Ok(())
 }
@@ -99,10 +118,10 @@ fn write_any_nodes(text: &mut String, nodes: &[NodeText], count: u32) -> Result<
     requires { count ≤ 4096 }
     ensures { OnOk result (string_bytes text.new ≡ string_bytes text.old ++ any_nodes_text nodes.now count) }
 {
-    if nodes.is_empty() {
+    if !are_mixed(nodes) {
         return write_nodes(text, count);
     }
-    write_all_tagged(text, nodes)
+    write_all_given(text, nodes)
 }
 
 #[tactic(auto, unfolding(crate::specs::Text::opening_text))]
