@@ -1,7 +1,9 @@
 -- Lists that are the same item by item.
-use Rattle.std.proofs.Common.{◌≡◌, ◌+◌, ◌<◌, ◌≤◌, ◌∙◌, ◌++◌, ◌∷◌, [], ℕ, ℤ, List, length, map, take, get_or, ap, sym, subst}
+use Rattle.std.proofs.Common.{◌≡◌, ◌+◌, ◌<◌, ◌≤◌, ◌∙◌, ◌++◌, ◌∷◌, [], ℕ, ℤ, List, length, map, take, get_or, ap, refl, sym, subst}
 use Rattle.std.specs.Prelude.{All}
-use Rattle.std.proofs.lemmas.List.{get_or-map, length-map, take_all, take_more, map-append}
+use Rattle.std.proofs.lemmas.List.{get_or-map, length-map, take_all, take_more, take_more_same, map-append}
+use Rattle.tetri_cluster.specs.Cluster.{name_at, names_of}
+use Rattle.tetri_cluster.specs.declared.cluster.NodeText.{NodeText}
 use Rattle.tetri_trace.specs.Scenario.{Demand, Submission, demand_of, submission}
 use Rattle.tetri_trace.specs.declared.trace.Job.{Job}
 
@@ -28,3 +30,15 @@ image_at P f xs i d each inside = subst P (get_or-map f xs i d (f d) inside) (ea
 pub same_at : {X Y Z : Type 0} (f : X → Z) (g : Y → Z) (xs : List X) (ys : List Y) (i : ℕ) (d : X) (e : Y) → map f xs ≡ map g ys → i < length xs → i < length ys → f (get_or xs i d) ≡ g (get_or ys i e)
 same_at f g xs ys i d e same inside within =
     sym (get_or-map f xs i d (f d) inside) ∙ ap (λ zs. get_or zs i (f d)) same ∙ get_or-map g ys i e (f d) within
+
+-- the images of images
+pub twice : {X Y Z : Type 0} (f : Y → Z) (g : X → Y) (xs : List X) → map f (map g xs) ≡ map (λ x. f (g x)) xs
+twice f g [] = refl
+twice f g (x ∷ xs) = ap (λ ys. f (g x) ∷ ys) (twice f g xs)
+
+-- one name more
+pub name_more : (read meant : List NodeText) (i : ℕ) (d : NodeText) → take i (names_of read) ≡ take i (names_of meant) → i < length read → i < length meant → name_at read i ≡ (get_or meant i d).name
+    → take (i + 1) (names_of read) ≡ take (i + 1) (names_of meant)
+name_more read meant i d before inside within here =
+    take_more_same (names_of read) (names_of meant) i [] (subst (λ n. i < n) (sym (length-map read (λ n. n.name))) inside) (subst (λ n. i < n) (sym (length-map meant (λ n. n.name))) within) before
+    (here ∙ sym (get_or-map (λ n. n.name) meant i d [] within))

@@ -36,12 +36,12 @@ pub record IsTraceOf (s : Settings) (nodes : List NodeText) (order : List Logged
   pub seated : AreSeated nodes (taken_all s order).sets said
 
 -- Each line of a log is a job that is taken, a comment, or counted under the cause why it brings no job, in the order of the lines.
-pub record IsWhole (es : List Entry) (mixed : Bool) (s : Settings) (order : List LoggedJob) (i : Imported) : Type 0 where
+pub record IsWhole (es : List Entry) (differ : Bool) (s : Settings) (order : List LoggedJob) (i : Imported) : Type 0 where
   pub left : IsOrderBy (λ r. r.line) (left_in es ++ (taken_all s order).left) i.left.items
   pub jobs : i.jobs ≡ length (taken_all s order).jobs
   pub rounded : i.rounded ≡ length (taken_all s order).rounded
   pub comments : i.comments ≡ count is_comment es
-  pub mixed : i.mixed ≡ mixed
+  pub mixed : i.mixed ≡ differ
   pub lines : i.jobs + length i.left.items + i.comments ≡ length es
 
 -- what is asked for of a log with these entries, and its jobs in order of submission, each with how many nodes are in its set where nodes differ

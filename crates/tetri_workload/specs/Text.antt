@@ -47,7 +47,7 @@ unfoldable pub node_name_text : List ℕ → List ℕ
 node_name_text name = codes "{\"name\":\"" ++ name ++ codes "\",\"tags\":["
 
 -- a node with its own name and its tags
-abbrev pub tagged_text : NodeText → List ℕ
+unfoldable pub tagged_text : NodeText → List ℕ
 tagged_text n = node_name_text n.name ++ tags_text n.tags ++ codes "]}"
 
 abbrev pub tagged_at : Option NodeText → List ℕ

@@ -80,6 +80,7 @@ fn same_submissions(mixed: bool, read: &[Job], meant: &[Job]) -> bool
 }
 
 // Whether two clusters have the same nodes by their names.
+#[tactic(auto, using(crate::proofs::SameLemmas::name_more))]
 fn same_names(read: &Cluster, meant: &[NodeText]) -> bool
     ensures { IsTrue result ↔ (names_of read.now ≡ names_of meant.now) }
 {
@@ -145,7 +146,8 @@ fn have_seats(
         return Ok(false);
     }
     for (i, job) in jobs.iter().enumerate() {
-        if !has_seat(alloc, kinds, nodes, sets, job, &wanted[i])? {
+        let alike = has_seat(alloc, kinds, nodes, sets, job, &wanted[i])?;
+        if !alike {
             return Ok(false);
         }
     }

@@ -12,9 +12,10 @@ const MOST_HOSTS: usize = 4096;
 
 // The bytes behind which the digits at the end of a text begin, where there are some of both.
 fn stem_of(text: &[u8]) -> Option<&[u8]> {
+    let most = text.len().saturating_sub(1);
     let mut digits = 0usize;
     for b in text.iter().rev() {
-        if !b.is_ascii_digit() || text.len() <= digits + 1 {
+        if !b.is_ascii_digit() || most <= digits {
             break;
         }
         digits += 1;

@@ -86,6 +86,7 @@ fn write_node_name(text: &mut String, name: &str) -> Result<(), AllocError>
 }
 
 // A node with its own name and its tags.
+#[tactic(auto, unfolding(crate::specs::Text::tagged_text))]
 fn write_tagged(text: &mut String, node: &NodeText) -> Result<(), AllocError>
     ensures { OnOk result (string_bytes text.new ≡ string_bytes text.old ++ tagged_text node.now) }
 {
