@@ -1,11 +1,9 @@
 -- Lists that are the same item by item.
-use Rattle.std.proofs.Common.{◌≡◌, ◌+◌, ◌<◌, ◌≤◌, ◌∙◌, ◌++◌, ◌∷◌, [], ℕ, ℤ, List, length, map, take, get_or, ap, refl, sym, subst}
+use Rattle.std.proofs.Common.{◌≡◌, ◌+◌, ◌<◌, ◌≤◌, ◌∙◌, ◌++◌, ◌∷◌, [], ℕ, List, length, map, take, get_or, ap, refl, sym, subst}
 use Rattle.std.specs.Prelude.{All}
 use Rattle.std.proofs.lemmas.List.{get_or-map, length-map, take_all, take_more, take_more_same, map-append}
 use Rattle.tetri_cluster.specs.Cluster.{name_at, names_of}
 use Rattle.tetri_cluster.specs.declared.cluster.NodeText.{NodeText}
-use Rattle.tetri_trace.specs.Scenario.{Demand, Submission, demand_of, submission}
-use Rattle.tetri_trace.specs.declared.trace.Job.{Job}
 
 -- one item more
 pub same_more : {X Y Z : Type 0} (f : X → Z) (g : Y → Z) (xs : List X) (ys : List Y) (i : ℕ) (d : X) (e : Y) → map f (take i xs) ≡ map g (take i ys) → i < length xs → i < length ys → f (get_or xs i d) ≡ g (get_or ys i e)

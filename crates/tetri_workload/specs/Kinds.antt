@@ -1,10 +1,8 @@
 -- Nodes that differ, and which of them are in a set.
-use Rattle.std.specs.Prelude.{◌≡◌, ℕ, ◌+◌, ◌==◌, ◌&&◌, Bool, true, false, not, List, [], ◌∷◌, length, map, min, nat_lt, Option, Some, None, if◌then◌else◌}
-use Rattle.tetri_cluster.specs.Cluster.{names_of}
+use Rattle.std.specs.Prelude.{ℕ, ◌+◌, ◌==◌, ◌&&◌, Bool, true, false, not, List, [], ◌∷◌, length, map, min, nat_lt, Some, if◌then◌else◌}
 use Rattle.tetri_cluster.specs.Names.{is_among}
 use Rattle.tetri_cluster.specs.declared.cluster.NodeText.{NodeText}
 use Rattle.tetri_io.specs.Words.{parts_at}
-use Rattle.tetri_logs.specs.declared.account.Account.{Account}
 use Rattle.tetri_logs.specs.declared.entry.LoggedJob.{LoggedJob}
 use Rattle.tetri_logs.specs.declared.options.Options.{Options}
 

@@ -1,4 +1,4 @@
-use Rattle.std.proofs.Common.{◌≡◌, subst}
+use Rattle.std.proofs.Common.{subst}
 use Rattle.std.specs.Prelude.{IfErr, IfOk}
 use Rattle.tetri_logs.specs.Reading.{entries}
 use Rattle.tetri_workload.specs.Import.{IsImportOn, IsRefused}
