@@ -39,21 +39,27 @@ greatest_first f true x xs = refl
 greatest_first f false x xs = grind (arith, nat_tests)
 
 module _ {X : Type 0} (f : X → ℕ) (marks : List Bool) (xs : List X) (i sum total : ℕ) where
-  pub picked_sum_next : sum + sum_of f (picked (drop i marks) (drop i xs)) ≡ total → (d : X) → i < length xs →
-      sum + cond (get_or marks i false) (f (get_or xs i d)) 0 + sum_of f (picked (drop (i + 1) marks) (drop (i + 1) xs)) ≡ total
-  picked_sum_next so_far d lt =
-      omega (arith, so_far, ap (sum_of f) (picked_next marks xs i d lt), sum_first f (get_or marks i false) (get_or xs i d) (picked (drop (i + 1) marks) (drop (i + 1) xs)))
+  pub picked_sum_next : sum + sum_of f (picked (drop i marks) (drop i xs)) ≡ total → (x : X) → i < length xs → x ≡ get_or xs i x →
+      sum + cond (get_or marks i false) (f x) 0 + sum_of f (picked (drop (i + 1) marks) (drop (i + 1) xs)) ≡ total
+  picked_sum_next so_far x lt is =
+      omega (
+        arith,
+        so_far,
+        ap (sum_of f) (picked_next marks xs i x lt),
+        sum_first f (get_or marks i false) (get_or xs i x) (picked (drop (i + 1) marks) (drop (i + 1) xs)),
+        ap (λ y. cond (get_or marks i false) (f y) 0) is,
+      )
 
   pub picked_sum_all : sum + sum_of f (picked (drop i marks) (drop i xs)) ≡ total → length xs ≤ i → sum ≡ total
   picked_sum_all so_far over = omega (arith, so_far, ap (sum_of f) (none_behind marks xs i over))
 
-  pub picked_max_next : max sum (greatest_of f (picked (drop i marks) (drop i xs))) ≡ total → (d : X) → i < length xs → (more : ℕ) →
-      more ≡ cond (get_or marks i false) (f (get_or xs i d)) 0 → max (max sum more) (greatest_of f (picked (drop (i + 1) marks) (drop (i + 1) xs))) ≡ total
-  picked_max_next so_far d lt more is =
+  pub picked_max_next : max sum (greatest_of f (picked (drop i marks) (drop i xs))) ≡ total → (x : X) → i < length xs → x ≡ get_or xs i x → (more : ℕ) →
+      more ≡ cond (get_or marks i false) (f x) 0 → max (max sum more) (greatest_of f (picked (drop (i + 1) marks) (drop (i + 1) xs))) ≡ total
+  picked_max_next so_far x lt at more is =
       three sum more (greatest_of f (picked (drop (i + 1) marks) (drop (i + 1) xs)))
-      ∙ ap (λ m. max sum (max m (greatest_of f (picked (drop (i + 1) marks) (drop (i + 1) xs))))) is
-      ∙ ap (max sum) (sym (greatest_first f (get_or marks i false) (get_or xs i d) (picked (drop (i + 1) marks) (drop (i + 1) xs))))
-      ∙ ap (λ ys. max sum (greatest_of f ys)) (sym (picked_next marks xs i d lt)) ∙ so_far
+      ∙ ap (λ m. max sum (max m (greatest_of f (picked (drop (i + 1) marks) (drop (i + 1) xs))))) (is ∙ ap (λ y. cond (get_or marks i false) (f y) 0) at)
+      ∙ ap (max sum) (sym (greatest_first f (get_or marks i false) (get_or xs i x) (picked (drop (i + 1) marks) (drop (i + 1) xs))))
+      ∙ ap (λ ys. max sum (greatest_of f ys)) (sym (picked_next marks xs i x lt)) ∙ so_far
     where
       three : (a b c : ℕ) → max (max a b) c ≡ max a (max b c)
       three a b c = grind (arith, nat_tests)
@@ -72,19 +78,19 @@ capped_twice : (m x : ℕ) → min (min x m) m ≡ min x m
 capped_twice m x = grind (arith, nat_tests)
 
 module _ {X : Type 0} (f : X → ℕ) (m : ℕ) (marks : List Bool) (xs : List X) (i sum total : ℕ) where
-  pub capped_next : min (sum + sum_of f (picked (drop i marks) (drop i xs))) m ≡ min total m → (d : X) → i < length xs → (more : ℕ) →
-      more ≡ cond (get_or marks i false) (min (f (get_or xs i d)) m) 0 →
+  pub capped_next : min (sum + sum_of f (picked (drop i marks) (drop i xs))) m ≡ min total m → (x : X) → i < length xs → x ≡ get_or xs i x → (more : ℕ) →
+      more ≡ cond (get_or marks i false) (min (f x) m) 0 →
       min (min (sum + more) m + sum_of f (picked (drop (i + 1) marks) (drop (i + 1) xs))) m ≡ min total m
-  capped_next so_far d lt more is =
+  capped_next so_far x lt at more is =
       let rest : List X = picked (drop (i + 1) marks) (drop (i + 1) xs) in
-      ap (λ n. min (min (sum + n) m + sum_of f rest) m) (is ∙ inside (get_or marks i false))
-      ∙ capped_plus m sum (cond (get_or marks i false) (f (get_or xs i d)) 0) (sum_of f rest)
-      ∙ ap (λ n. min (sum + n) m) (sym (ap (sum_of f) (picked_next marks xs i d lt) ∙ sum_first f (get_or marks i false) (get_or xs i d) rest)) ∙ so_far
+      ap (λ n. min (min (sum + n) m + sum_of f rest) m) (is ∙ ap (λ y. cond (get_or marks i false) (min (f y) m) 0) at ∙ inside (get_or marks i false))
+      ∙ capped_plus m sum (cond (get_or marks i false) (f (get_or xs i x)) 0) (sum_of f rest)
+      ∙ ap (λ n. min (sum + n) m) (sym (ap (sum_of f) (picked_next marks xs i x lt) ∙ sum_first f (get_or marks i false) (get_or xs i x) rest)) ∙ so_far
     where
       least_zero : (n : ℕ) → min 0 n ≡ 0
       least_zero n = grind (arith, nat_tests)
 
-      inside : (b : Bool) → cond b (min (f (get_or xs i d)) m) 0 ≡ min (cond b (f (get_or xs i d)) 0) m
+      inside : (b : Bool) → cond b (min (f (get_or xs i x)) m) 0 ≡ min (cond b (f (get_or xs i x)) 0) m
       inside true = refl
       inside false = sym (least_zero m)
 

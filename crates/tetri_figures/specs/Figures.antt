@@ -59,7 +59,7 @@ slowdown_by wait ran = max 1000 ((wait + ran) * 1000 / max 10 ran)
 -- how many of the nodes are counted: those that are marked, and all without marks
 abbrev pub nodes_counted : Option (List Bool) → List ℕ → ℕ
 nodes_counted None nodes = length nodes
-nodes_counted (Some marks) nodes = length (filter (λ n. slice_index_or marks n false) nodes)
+nodes_counted (Some marks) nodes = count (λ n. slice_index_or marks n false) nodes
 
 -- the slots that a piece took on these nodes up to an end
 abbrev pub piece_slots : Option (List Bool) → ℕ → Piece → ℕ

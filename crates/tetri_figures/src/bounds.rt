@@ -26,6 +26,13 @@ pub enum Bounds {
     Priced(PricedSums),
 }
 
+// By how much the value of a cycle falls short of the bound that prices make.
+fn gap_of(cycle: &PricedCycle) -> u64
+    ensures { result ≡ cycle.now.priced - cycle.now.value }
+{
+    cycle.priced.saturating_sub(cycle.value)
+}
+
 impl PricedSums {
     /// The sums over these cycles.
     pub fn of(cycles: &[PricedCycle]) -> PricedSums
@@ -35,7 +42,7 @@ impl PricedSums {
         let mut sums = PricedSums { bound: 0, gap: 0 };
         for cycle in cycles {
             sums.bound = plus(sums.bound, cycle.priced);
-            sums.gap = plus(sums.gap, cycle.priced.saturating_sub(cycle.value));
+            sums.gap = plus(sums.gap, gap_of(cycle));
         }
         sums
     }

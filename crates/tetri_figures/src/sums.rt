@@ -1,7 +1,7 @@
 // Sums over rows and cycles of an account.
 ghost use Rattle.std.specs.Prelude.{◌≡◌, ◌+◌, ◌-◌, ◌*◌, ◌≤◌, ◌<◌, ◌^◌, ◌==◌, false, if◌then◌else◌, length, max, min, option_map, slice_index_or, unwrap_or};
 ghost use Rattle.tetri_accounts.specs.Text.{wait_of};
-ghost use Rattle.tetri_base.specs.Lists.{bit, sum_of};
+ghost use Rattle.tetri_base.specs.Lists.{bit, count, sum_of};
 ghost use Rattle.tetri_figures.specs.declared.sums.Part.TheVariants.{Waits};
 ghost use Rattle.tetri_figures.specs.Figures.{gaps, greatest_of, is_done, is_kept, most, nodes_counted, of_launch, offered, outcome_place, part_of, picked, piece_slots, ran_of, row_slots, slowdown_by};
 ghost use Rattle.tetri_trace.specs.Scenario.{scenario};
@@ -195,27 +195,42 @@ pub(crate) fn offered(jobs: &[bool], tops: &[u64]) -> u128
     sum
 }
 
+// By how much the value of a cycle falls short of its bound.
+fn gap_of(cycle: &CycleNote) -> u64
+    ensures { result ≡ cycle.now.bound - cycle.now.value }
+{
+    cycle.bound.saturating_sub(cycle.value)
+}
+
 /// By how much the values of the cycles fall short of their bounds, together.
 pub(crate) fn gaps(cycles: &[CycleNote]) -> u128
     ensures { result ≡ gaps cycles.entry.now }
 {
     let mut sum = 0;
     for cycle in cycles {
-        sum = plus(sum, cycle.bound.saturating_sub(cycle.value));
+        sum = plus(sum, gap_of(cycle));
     }
     sum
 }
 
+// How many of the nodes are marked.
+fn nodes_marked(marks: &[bool], nodes: &[u32]) -> u64
+    ensures { result ≡ count (λ n. slice_index_or marks.entry.now n false) nodes.entry.now }
+{
+    let mut marked: u64 = 0;
+    for place in 0..nodes.len() {
+        marked += bit(is_picked(marks, nodes[place] as usize));
+    }
+    marked
+}
+
 // How many of the nodes are counted.
-fn nodes_counted(counted: Option<&[bool]>, nodes: &[u32]) -> usize
+fn nodes_counted(counted: Option<&[bool]>, nodes: &[u32]) -> u64
     ensures { result ≡ nodes_counted (option_map (λ m. m.now) counted.entry) nodes.entry.now }
 {
     match counted {
-        None => nodes.len(),
-        Some(counted) => nodes
-            .iter()
-            .filter(|n| is_picked(counted, **n as usize))
-            .count(),
+        None => nodes.len() as u64,
+        Some(marks) => nodes_marked(marks, nodes),
     }
 }
 
@@ -225,7 +240,7 @@ fn piece_slots(counted: Option<&[bool]>, end: u32, piece: &Piece) -> u128
 {
     let slots = piece.real.min(end).saturating_sub(piece.started);
     let nodes = nodes_counted(counted, piece.nodes.as_slice());
-    nodes as u128 * u128::from(slots)
+    u128::from(nodes) * u128::from(slots)
 }
 
 // A sum with one number more, up to the most.

@@ -14,8 +14,8 @@ loop-place-preserved c =
     let f = part_of (scenario c.args.trace.now) Waits in
     let lt : l.place < length rows = omega (arith, c.loop-place-test.true, l.auto.place-end) in
     ap (λ n. max n (greatest_of f (picked (drop (l.place + 1) c.args.marks.now) (drop (l.place + 1) rows)))) c.max-greatest.ensures
-    ∙ picked_max_next f c.args.marks.now rows l.place l.greatest _ l.invariant row lt c.picked_part-wait.result
-    (c.picked_part-wait.ensures ∙ ap (λ b. cond b (f (get_or rows l.place row)) 0) c.is_picked.ensures)
+    ∙ picked_max_next f c.args.marks.now rows l.place l.greatest _ l.invariant row lt c.index-rows-place.is c.picked_part-wait.result
+    (c.picked_part-wait.ensures ∙ ap (λ b. cond b (f row) 0) c.is_picked.ensures)
 
 pub returns : goal.returns
 returns c =

@@ -17,8 +17,8 @@ loop-place-preserved c =
     record {
       told =
           ap (λ n. min (n + sum_of f (picked (drop (l.place + 1) c.args.marks.now) (drop (l.place + 1) rows))) most) c.plus_capped-sum.ensures.value
-          ∙ capped_next f most c.args.marks.now rows l.place l.sum _ l.invariant.told row lt c.picked_slots-more.result
-          (c.picked_slots-more.ensures ∙ ap (λ b. cond b (min (f (get_or rows l.place row)) most) 0) c.is_picked.ensures);
+          ∙ capped_next f most c.args.marks.now rows l.place l.sum _ l.invariant.told row lt c.index-rows-place.is c.picked_slots-more.result
+          (c.picked_slots-more.ensures ∙ ap (λ b. cond b (min (f row) most) 0) c.is_picked.ensures);
       few = c.plus_capped-sum.ensures.few;
     }
 

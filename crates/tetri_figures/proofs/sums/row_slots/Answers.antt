@@ -1,5 +1,5 @@
 use Rattle.std.proofs.Common.{◌≡◌, ◌+◌, ◌∙◌, ℕ, List, ap, drop, arith}
-use Rattle.std.specs.Prelude.{min, option_map}
+use Rattle.std.specs.Prelude.{min, option_map, unwrap_or}
 use Rattle.tetri_base.specs.Lists.{sum_of}
 use Rattle.tetri_state.specs.declared.pieces.Piece.{Piece}
 use Rattle.tetri_figures.specs.Figures.{most, piece_slots}
@@ -9,8 +9,8 @@ use Rattle.tetri_figures.proofs.sums.row_slots.Goals as goal
 pub loop-piece-preserved : goal.loop-piece-preserved
 loop-piece-preserved c =
     let l = c.loop-piece in
-    let f : Piece → ℕ = piece_slots (option_map (λ m. m.now) c.args.counted) l.end in
-    let pieces : List Piece = l.piece-items in
+    let f : Piece → ℕ = piece_slots (option_map (λ m. m.now) c.args.counted) c.unwrap_or-end.result in
+    let pieces : List Piece = c.as_slice-piece-items.result.now in
     record {
       told =
           ap (λ n. min (n + sum_of f (drop (l.piece-index + 1) pieces)) most) (c.plus_capped-sum.ensures.value ∙ ap (λ n. min (l.sum + n) most) c.piece_slots.ensures)
@@ -19,4 +19,10 @@ loop-piece-preserved c =
     }
 
 pub returns : goal.returns
-returns c = ?
+returns c =
+    let l = c.loop-piece in
+    let counted = option_map (λ m. m.now) c.args.counted in
+    let pieces : List Piece = c.as_slice-piece-items.result.now in
+    capped_sum_all (piece_slots counted c.unwrap_or-end.result) pieces l.piece-index l.sum _ most l.invariant.told c.loop-piece-test.false l.invariant.few
+    ∙ ap (λ (end : ℕ). min (sum_of (piece_slots counted end) pieces) most) c.unwrap_or-end.ensures
+    ∙ ap (λ (ps : List Piece). min (sum_of (piece_slots counted (unwrap_or c.args.row.now.end c.args.trace.now.header.until)) ps) most) c.as_slice-piece-items.ensures

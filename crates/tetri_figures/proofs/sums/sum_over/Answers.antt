@@ -12,7 +12,7 @@ loop-place-preserved c =
     let f = part_of (scenario c.args.trace.now) c.args.part in
     let lt : l.place < length rows = omega (arith, c.loop-place-test.true, l.auto.place-end) in
     record {
-      told = omega (arith, c.picked_part.ensures, ap (λ b. cond b (f (get_or rows l.place row)) 0) c.is_picked.ensures, picked_sum_next f c.args.marks.now rows l.place l.sum _ l.invariant.told row lt);
+      told = omega (arith, c.picked_part.ensures, ap (λ b. cond b (f row) 0) c.is_picked.ensures, picked_sum_next f c.args.marks.now rows l.place l.sum _ l.invariant.told row lt c.index-rows-place.is);
       small = omega arith;
     }
 
