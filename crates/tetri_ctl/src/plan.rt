@@ -13,11 +13,11 @@ use tetri_run::{ByChooser, Status, run_chosen, run_plan};
 // How the plan of a cycle is searched for.
 #[derive(Clone, Copy, Debug, PartialEq, Eq)]
 enum Search {
-    // By branch and bound, where the cycle is not too wide.
+    // By branch and bound as `tetri plan`, where the cycle is not too wide.
     Exact,
     // By prices of the nodes first.
     Prices,
-    // By prices of the nodes, and by branch and bound that goes on from the node above.
+    // By branch and bound that goes on from the node above, and by prices of the nodes. The default.
     Swift,
 }
 
@@ -30,9 +30,9 @@ pub fn command<'a>(alloc: Global) -> Result<Command<'a>, AllocError> {
         .long("search")
         .value_name("HOW")
         .value_parser(["exact", "prices", "swift"].as_slice())
-        .help("how plans are searched for [default: exact]");
+        .help("how plans are searched for; exact is tetri plan [default: swift]");
     Command::new(alloc, "plan")
-        .about("Plans a trace, and writes its report, as tetri plan does")
+        .about("Plans a trace, and writes its report")
         .after_help("Example: tetri_ctl import swf cluster.swf | tetri_ctl plan - > cluster.report")
         .arg(trace_word(alloc))?
         .arg(search)
@@ -40,9 +40,9 @@ pub fn command<'a>(alloc: Global) -> Result<Command<'a>, AllocError> {
 
 fn search_of(words: &ArgMatches<'_>) -> Search {
     match words.get_str("search") {
+        Some("exact") => Search::Exact,
         Some("prices") => Search::Prices,
-        Some("swift") => Search::Swift,
-        _ => Search::Exact,
+        _ => Search::Swift,
     }
 }
 
