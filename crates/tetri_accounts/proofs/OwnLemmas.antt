@@ -6,13 +6,11 @@ use Rattle.std.specs.List.Sorted.{IsPartitionPoint, IsStableBy, ties}
 use Rattle.std.specs.Ordering.{is_lt, nat_cmp}
 use Rattle.std.proofs.lemmas.Bool.Decides.{nat_tests}
 use Rattle.std.proofs.lemmas.List.{get_or-drop, length-drop}
-use Rattle.tetri_base.proofs.OrderLaws.{test_last}
 use Rattle.tetri_space.specs.Space.{Bid}
 use Rattle.tetri_state.specs.declared.pieces.Piece.{Piece}
 use Rattle.tetri_strl.specs.Worth.{worth_of}
 use Rattle.tetri_strl.specs.declared.grants.Grant.{Grant}
 use Rattle.tetri_accounts.specs.Rows.{row_of}
-use Rattle.tetri_accounts.specs.declared.row.Row.{Row}
 use Rattle.tetri_accounts.proofs.WorthLemmas.{own_worth}
 
 -- nothing passes before a place
