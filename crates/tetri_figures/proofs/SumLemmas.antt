@@ -1,8 +1,8 @@
 -- Sums over lists, item by item.
-use Rattle.std.proofs.Common.{◌≡◌, ℕ, zero, suc, ◌+◌, ◌<◌, ◌≤◌, Bool, true, false, cond, List, [], ◌∷◌, drop, get_or, length, refl, sym, ap, ◌∙◌, inl, inr, arith}
+use Rattle.std.proofs.Common.{◌≡◌, ℕ, zero, suc, ◌+◌, ◌<◌, ◌≤◌, Bool, true, false, cond, List, [], ◌∷◌, drop, get_or, length, refl, sym, ap, ◌∙◌, arith}
 use Rattle.std.specs.Prelude.{max, min}
 use Rattle.std.proofs.lemmas.Bool.Decides.{nat_tests}
-use Rattle.std.proofs.lemmas.List.{drop_all, drop_more}
+use Rattle.std.proofs.lemmas.List.{drop_all, drop_more, get_or_default}
 use Rattle.tetri_base.specs.Lists.{sum_of}
 use Rattle.tetri_figures.specs.Figures.{greatest_of, picked}
 
@@ -107,6 +107,11 @@ module _ {X : Type 0} (f : X → ℕ) (xs : List X) (i sum total : ℕ) where
   sum_next so_far x lt is =
       let next : drop i xs ≡ x ∷ drop (i + 1) xs = drop_more xs i x lt ∙ ap (λ y. y ∷ drop (i + 1) xs) (sym is) in
       omega (arith, so_far, ap (sum_of f) next)
+
+  pub sum_next_at : sum + sum_of f (drop i xs) ≡ total → i < length xs → (d : X) → (n : ℕ) → n ≡ f (get_or xs i d) → sum + n + sum_of f (drop (i + 1) xs) ≡ total
+  sum_next_at so_far lt d n is =
+      let x : X = get_or xs i d in
+      ap (λ m. sum + m + sum_of f (drop (i + 1) xs)) is ∙ sum_next so_far x lt (get_or_default xs i d x lt)
 
   pub sum_all : sum + sum_of f (drop i xs) ≡ total → length xs ≤ i → sum ≡ total
   sum_all so_far over = omega (arith, so_far, ap (sum_of f) (drop_all i xs over))

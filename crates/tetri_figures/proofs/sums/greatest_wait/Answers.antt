@@ -1,4 +1,4 @@
-use Rattle.std.proofs.Common.{◌+◌, ◌<◌, ◌∙◌, cond, drop, get_or, length, ap, arith}
+use Rattle.std.proofs.Common.{◌+◌, ◌<◌, ◌∙◌, cond, drop, length, ap, arith}
 use Rattle.std.specs.Prelude.{max}
 use Rattle.tetri_figures.specs.Figures.{greatest_of, part_of, picked}
 use Rattle.tetri_figures.specs.declared.sums.Part.TheVariants.{Waits}

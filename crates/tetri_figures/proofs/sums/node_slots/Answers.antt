@@ -1,4 +1,4 @@
-use Rattle.std.proofs.Common.{◌≡◌, ◌+◌, ◌<◌, ◌∙◌, ℕ, cond, get_or, length, ap, drop, arith}
+use Rattle.std.proofs.Common.{◌+◌, ◌<◌, ◌∙◌, ℕ, cond, length, ap, drop, arith}
 use Rattle.std.specs.Prelude.{min, option_map}
 use Rattle.tetri_base.specs.Lists.{sum_of}
 use Rattle.tetri_accounts.specs.declared.row.Row.{Row}

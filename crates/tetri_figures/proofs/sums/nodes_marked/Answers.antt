@@ -6,7 +6,7 @@ use Rattle.tetri_figures.proofs.SumLemmas.{sum_all, sum_next}
 use Rattle.tetri_figures.proofs.sums.nodes_marked.Goals as goal
 
 pub overflow_add-marked : goal.overflow_add-marked
-overflow_add-marked c = omega (arith, c.bit.ensures, bit-le c.is_picked.result)
+overflow_add-marked c = omega (arith, c.bit-marked.ensures, bit-le c.is_picked.result)
 
 pub loop-place-preserved : goal.loop-place-preserved
 loop-place-preserved c =
@@ -18,11 +18,11 @@ loop-place-preserved c =
       told =
           omega (
             arith,
-            c.bit.ensures,
+            c.bit-marked.ensures,
             ap bit c.is_picked.ensures,
             sum_next (λ n. bit (get_or c.args.marks.now n false)) nodes l.place l.marked _ l.invariant.told node lt (get_or_default nodes l.place 0 node lt),
           );
-      few = omega (arith, c.bit.ensures, bit-le c.is_picked.result);
+      few = omega (arith, c.bit-marked.ensures, bit-le c.is_picked.result);
     }
 
 pub returns : goal.returns

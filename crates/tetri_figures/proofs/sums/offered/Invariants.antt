@@ -1,4 +1,4 @@
-use Rattle.std.proofs.Common.{◌≡◌, ◌+◌, ◌*◌, ◌≤◌, ◌^◌, drop, length}
+use Rattle.std.proofs.Common.{◌≡◌, ◌+◌, ◌*◌, ◌≤◌, ◌^◌, drop}
 use Rattle.tetri_base.specs.Lists.{sum_of}
 use Rattle.tetri_figures.specs.Figures.{offered, picked}
 use Rattle.tetri_figures.proofs.sums.offered.Given as goal

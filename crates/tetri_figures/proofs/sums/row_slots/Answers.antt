@@ -1,4 +1,4 @@
-use Rattle.std.proofs.Common.{◌≡◌, ◌+◌, ◌∙◌, ℕ, List, ap, drop, arith}
+use Rattle.std.proofs.Common.{◌+◌, ◌∙◌, ℕ, List, ap, drop}
 use Rattle.std.specs.Prelude.{min, option_map, unwrap_or}
 use Rattle.tetri_base.specs.Lists.{sum_of}
 use Rattle.tetri_state.specs.declared.pieces.Piece.{Piece}

@@ -1,4 +1,4 @@
-use Rattle.std.proofs.Common.{◌<◌, cond, get_or, length, ap, arith}
+use Rattle.std.proofs.Common.{◌<◌, cond, length, ap, arith}
 use Rattle.tetri_figures.specs.Figures.{part_of}
 use Rattle.tetri_trace.specs.Scenario.{scenario}
 use Rattle.tetri_figures.proofs.SumLemmas.{picked_sum_all, picked_sum_next}
