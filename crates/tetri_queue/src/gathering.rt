@@ -3,6 +3,7 @@ ghost use Rattle.std.specs.Prelude.{◌≡◌, ◌+◌, IfOk, OnOk, length};
 ghost use Rattle.tetri_base.specs.Lists.{bit};
 ghost use Rattle.tetri_queue.specs.Queues.{is_taken};
 
+use crate::arrays::Limits;
 use crate::asked::{Asked, QueueWorth};
 use crate::cause::{Cause, Fate, ReservationFate};
 use crate::constraint::{Shape, key_of, mark_hosts, shape_of};
@@ -58,6 +59,7 @@ pub(crate) struct Gathering {
     keys: NameTable,
     shapes: Vec<Result<Shape, Cause>>,
     names: NameTable,
+    limits: Limits,
     pub(crate) jobs: Vec<TakenJob>,
 }
 
@@ -95,11 +97,12 @@ fn worth_of(asked: &Asked, job: &Waiting<'_>, slots: u32) -> u64 {
 }
 
 impl Gathering {
-    /// Nothing but the nodes, which have these states.
+    /// Nothing but the nodes, which have these states, and the limits of arrays.
     pub(crate) fn new(
         alloc: Global,
         asked: Asked,
         states: &[NodeState],
+        limits: Limits,
     ) -> Result<Gathering, AllocError>
         ensures { IfOk result (λ g. length g.jobs.items ≡ 0) }
     {
@@ -117,6 +120,7 @@ impl Gathering {
             keys: NameTable::new(alloc),
             shapes: Vec::new(alloc),
             names: NameTable::new(alloc),
+            limits,
             jobs: Vec::new(alloc),
         })
     }
@@ -196,12 +200,16 @@ impl Gathering {
         if nodes.len() < job.width as usize {
             return Ok(Fate::Left(Cause::TooLarge));
         }
+        if self.limits.is_full(job.name.bytes()) {
+            return Ok(Fate::Left(Cause::Throttled));
+        }
         if MOST_JOBS <= self.jobs.len() {
             return Ok(Fate::Left(Cause::Beyond));
         }
         if !self.names.add(job.name.bytes())? {
             return Ok(Fate::Left(Cause::Repeated));
         }
+        self.limits.count(job.name.bytes());
         let ask = ask_of(&self.asked, &job);
         let nodes = NodeSet::of_slice(alloc, nodes)?;
         let set = String::from_str(alloc, set)?;
@@ -316,6 +324,7 @@ impl Gathering {
             keys: _,
             shapes: _,
             names: _,
+            limits: _,
         } = self;
         let mut closures = closures_of(alloc, &closed)?;
         let crowded = add_later(&later, &mut closures, &mut shut)?;

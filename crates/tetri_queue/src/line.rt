@@ -81,8 +81,8 @@ fn task_of(alloc: Global, id: &[u8]) -> Result<Vec<u8>, AllocError> {
     Ok(bytes)
 }
 
-// A number of 32 bits, or none.
-fn number_in(text: &[u8]) -> Option<u32> {
+/// A number of 32 bits, or none.
+pub(crate) fn number_in(text: &[u8]) -> Option<u32> {
     match digits_below(4_294_967_296, text) {
         Some(number) => Some(number as u32),
         None => None,
