@@ -1,8 +1,8 @@
 // From a queue to the trace of one cycle.
-ghost use Rattle.std.specs.Prelude.{◌≡◌, ◌+◌, IfOk, OnOk, length};
+ghost use Rattle.std.specs.Prelude.{◌≡◌, ◌+◌, IfOk, IfSome, OnOk, is_some, length};
 ghost use Rattle.tetri_base.specs.Lists.{count};
 ghost use Rattle.tetri_io.specs.Words.{parts_at};
-ghost use Rattle.tetri_queue.specs.Queues.{IsQueue, is_taken};
+ghost use Rattle.tetri_queue.specs.Queues.{AnswersQueue, are_nodes, is_taken};
 
 use crate::arrays::Limits;
 use crate::asked::{Asked, AskedFault};
@@ -133,20 +133,27 @@ fn gather(
     })
 }
 
-fn cluster_of(alloc: Global, nodes: Vec<NodeText>) -> Result<Cluster, QueueFault> {
+// The nodes, if there are as many as a trace may have.
+#[tactic(auto, using(std::proofs::lemmas::Bool::Decides::nat_tests))]
+fn cluster_of(alloc: Global, nodes: Vec<NodeText>) -> Result<Option<Cluster>, AllocError>
+    ensures can { IfOk result (λ cluster. is_some cluster ≡ are_nodes nodes.items) }
+    ensures nodes { IfOk result (λ cluster. IfSome cluster (λ c. c ≡ nodes.items)) }
+{
     match Cluster::build(alloc, nodes) {
-        Ok(cluster) if cluster.count() != 0 => Ok(cluster),
-        Err(ClusterFault::NoMemory) => Err(QueueFault::NoMemory),
-        Ok(_) | Err(ClusterFault::TooManyNodes(_) | ClusterFault::NameTaken(_)) => {
-            Err(QueueFault::Nodes)
-        }
+        Ok(cluster) if cluster.count() != 0 => Ok(Some(cluster)),
+        Err(ClusterFault::NoMemory) => Err(AllocError),
+        Ok(_) | Err(ClusterFault::TooManyNodes(_) | ClusterFault::NameTaken(_)) => Ok(None),
     }
 }
 
 /// The trace of one cycle of a queue, of the lines that tell of it, and what becomes of each line. The trace is read back before it is
 /// handed out, and `Unlike` says that it is not read as it should be.
-pub fn queue_trace(alloc: Global, asked: &Asked, texts: QueueTexts<'_>) -> Result<Queue, QueueFault>
-    ensures { IfOk result (IsQueue texts.entry.jobs.now texts.entry.nodes.now texts.entry.reservations.now) }
+pub fn queue_trace(
+    alloc: Global,
+    asked: &Asked,
+    texts: QueueTexts<'_>,
+) -> Result<Queue, QueueFault>
+    ensures { AnswersQueue asked.now texts.entry.jobs.now texts.entry.nodes.now texts.entry.reservations.now result }
 {
     if let Some(fault) = asked.fault(!texts.reservations.is_empty()) {
         return Err(QueueFault::Asked(fault));
@@ -157,7 +164,9 @@ pub fn queue_trace(alloc: Global, asked: &Asked, texts: QueueTexts<'_>) -> Resul
         fates: node_fates,
     } = read_nodes(alloc, texts.nodes)?;
     let list = nodes_text(alloc, &told)?;
-    let cluster = cluster_of(alloc, told)?;
+    let Some(cluster) = cluster_of(alloc, told)? else {
+        return Err(QueueFault::Nodes);
+    };
     let Whole {
         gathered,
         fates,
