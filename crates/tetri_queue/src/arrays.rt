@@ -1,26 +1,49 @@
 // How many tasks of an array may run at once.
+ghost use Rattle.std.specs.Prelude.{◌≡◌, ◌==◌, ◌<◌, IfOk, IfSome, OnOk, length, map, option_map, position};
+ghost use Rattle.tetri_queue.specs.Arrays.{array_of, id_of, is_full, limit_behind, limit_in, limits_in, limits_of, most_of, no_limits, place_of, throttles, with_limit, with_new, with_used};
+
 use crate::line::{Said, number_in, said_of};
 use std::alloc::{AllocError, Global};
 use tetri_cluster::NameTable;
 use tetri_hosts::columns_of;
-use tetri_io::{halves_at, parts_at};
+use tetri_io::parts_at;
 
 /// How many tasks of an array may run at once, and how many do, were released or are taken.
 #[derive(Clone, Copy)]
-struct Limit {
-    most: u32,
-    used: u64,
+pub(crate) struct Limit {
+    pub(crate) most: u32,
+    pub(crate) used: u64,
 }
 
 /// The arrays whose tasks may not all run at once.
 #[derive(Drop)]
 pub(crate) struct Limits {
-    arrays: NameTable,
-    limits: Vec<Limit>,
+    pub(crate) arrays: NameTable,
+    pub(crate) limits: Vec<Limit>,
+}
+
+// Where the first byte of this kind stands.
+fn mark_in(mark: u8, text: &[u8]) -> Option<usize>
+    ensures value { result ≡ position (λ b. b == mark) text.now }
+    ensures within { IfSome result (λ i. i < length text.now) }
+{
+    text.iter().position(|b| *b == mark)
+}
+
+// The array of a task, as `6` of `6_0` and `6_[0-3%2]`.
+fn array_of(id: &[u8]) -> Option<&[u8]>
+    ensures { option_map (λ a. a.now) result ≡ array_of id.now }
+{
+    match mark_in(b'_', id) {
+        Some(place) => Some(&id[..place]),
+        None => None,
+    }
 }
 
 // The number that is not 0 before a bracket that ends a text.
-fn limit_behind(text: &[u8]) -> Option<u32> {
+fn limit_behind(text: &[u8]) -> Option<u32>
+    ensures { result ≡ limit_behind text.now }
+{
     match text.split_last() {
         Some((b']', number)) => match number_in(number) {
             Some(number) if number != 0 => Some(number),
@@ -31,15 +54,19 @@ fn limit_behind(text: &[u8]) -> Option<u32> {
 }
 
 // How many tasks may run at once of an array whose line has this identifier, as `6_[0-3%2]`.
-fn limit_in(id: &[u8]) -> Option<u32> {
-    match halves_at(b'%', id) {
-        Some((tasks, number)) if tasks.contains(&b'[') => limit_behind(number),
+fn limit_in(id: &[u8]) -> Option<u32>
+    ensures { result ≡ limit_in id.now }
+{
+    match mark_in(b'%', id) {
+        Some(place) if id[..place].contains(&b'[') => limit_behind(&id[place + 1..]),
         _ => None,
     }
 }
 
 // The first column of a line.
-fn id_of<'a>(columns: &[&'a [u8]]) -> &'a [u8] {
+fn id_of<'a>(columns: &[&'a [u8]]) -> &'a [u8]
+    ensures { result.now ≡ id_of (map (λ w. w.now) columns.now) }
+{
     match columns.first() {
         Some(id) => id,
         None => b"",
@@ -47,18 +74,40 @@ fn id_of<'a>(columns: &[&'a [u8]]) -> &'a [u8] {
 }
 
 impl Limits {
-    // What an identifier says of the limit of its array. The first that says one counts.
-    fn add_id(&mut self, id: &[u8]) -> Result<(), AllocError> {
-        if let (Some((array, _)), Some(most)) = (halves_at(b'_', id), limit_in(id))
-            && self.arrays.add(array)?
-        {
+    // No array has a limit.
+    fn new(alloc: Global) -> Limits
+        ensures { throttles result ≡ no_limits }
+    {
+        Limits {
+            arrays: NameTable::new(alloc),
+            limits: Vec::new(alloc),
+        }
+    }
+
+    // The limit of an array that has none yet.
+    fn add(&mut self, array: &[u8], most: u32) -> Result<(), AllocError>
+        ensures { OnOk result (throttles self.new ≡ with_new (throttles self.old) array.now most) }
+    {
+        if self.arrays.add(array)? {
             self.limits.push(Limit { most, used: 0 })?;
         }
         Ok(())
     }
 
+    // What an identifier says of the limit of its array. The first that says one counts.
+    fn add_id(&mut self, id: &[u8]) -> Result<(), AllocError>
+        ensures { OnOk result (throttles self.new ≡ with_limit (throttles self.old) id.now) }
+    {
+        match (array_of(id), limit_in(id)) {
+            (Some(array), Some(most)) => self.add(array, most),
+            _ => Ok(()),
+        }
+    }
+
     // What the lines of a text say of limits, by their first columns.
-    fn add_lines(&mut self, alloc: Global, text: &[u8]) -> Result<(), AllocError> {
+    fn add_lines(&mut self, alloc: Global, text: &[u8]) -> Result<(), AllocError>
+        ensures { OnOk result (throttles self.new ≡ limits_of (throttles self.old) text.now) }
+    {
         let lines = parts_at(alloc, b'\n', text)?;
         for line in &lines {
             let columns = columns_of(alloc, line)?;
@@ -68,25 +117,34 @@ impl Limits {
     }
 
     // The place of the limit of a task's array, if it has one.
-    fn place_of(&self, id: &[u8]) -> Option<usize> {
-        match halves_at(b'_', id) {
-            Some((array, _)) => self.arrays.number(array),
+    fn place_of(&self, id: &[u8]) -> Option<usize>
+        ensures { result ≡ place_of (throttles self.now) id.now }
+    {
+        match array_of(id) {
+            Some(array) => self.arrays.number(array),
             None => None,
         }
     }
 
     /// Whether no more tasks of the array of this one may run.
-    pub(crate) fn is_full(&self, id: &[u8]) -> bool {
+    pub(crate) fn is_full(&self, id: &[u8]) -> bool
+        ensures { result ≡ is_full (throttles self.now) id.now }
+    {
         match self.place_of(id) {
-            Some(place) if place < self.limits.len() => {
-                u64::from(self.limits[place].most) <= self.limits[place].used
-            }
-            _ => false,
+            Some(place) => match self.limits.get(place) {
+                Some(limit) => u64::from(limit.most) <= limit.used,
+                None => false,
+            },
+            None => false,
         }
     }
 
     /// Counts a task.
-    pub(crate) fn count(&mut self, id: &[u8]) {
+    pub(crate) fn count(&mut self, id: &[u8])
+        ensures value { throttles self.new ≡ with_used (throttles self.old) id.now }
+        ensures arrays { self.new.arrays ≡ self.old.arrays }
+        ensures most { most_of (throttles self.new) ≡ most_of (throttles self.old) }
+    {
         if let Some(place) = self.place_of(id)
             && place < self.limits.len()
         {
@@ -95,7 +153,10 @@ impl Limits {
     }
 
     // Counts the task of a line, if it runs or was released.
-    fn count_line(&mut self, alloc: Global, line: &[u8]) -> Result<(), AllocError> {
+    fn count_line(&mut self, alloc: Global, line: &[u8]) -> Result<(), AllocError>
+        ensures arrays { OnOk result (self.new.arrays ≡ self.old.arrays) }
+        ensures most { OnOk result (most_of (throttles self.new) ≡ most_of (throttles self.old)) }
+    {
         let columns = columns_of(alloc, line)?;
         let id = id_of(&columns);
         if self.place_of(id).is_none() {
@@ -109,7 +170,10 @@ impl Limits {
     }
 
     // Counts the tasks of lines that run or were released.
-    fn count_lines(&mut self, alloc: Global, text: &[u8]) -> Result<(), AllocError> {
+    fn count_lines(&mut self, alloc: Global, text: &[u8]) -> Result<(), AllocError>
+        ensures arrays { OnOk result (self.new.arrays ≡ self.old.arrays) }
+        ensures most { OnOk result (most_of (throttles self.new) ≡ most_of (throttles self.old)) }
+    {
         let lines = parts_at(alloc, b'\n', text)?;
         for line in &lines {
             self.count_line(alloc, line)?;
@@ -118,15 +182,11 @@ impl Limits {
     }
 
     /// The limits that lines of arrays and of the queue give, with the tasks that run or were released.
-    pub(crate) fn of_lines(
-        alloc: Global,
-        arrays: &[u8],
-        jobs: &[u8],
-    ) -> Result<Limits, AllocError> {
-        let mut limits = Limits {
-            arrays: NameTable::new(alloc),
-            limits: Vec::new(alloc),
-        };
+    pub(crate) fn of_lines(alloc: Global, arrays: &[u8], jobs: &[u8]) -> Result<Limits, AllocError>
+        ensures arrays { IfOk result (λ l. l.arrays ≡ (limits_in arrays.now jobs.now).arrays) }
+        ensures most { IfOk result (λ l. most_of (throttles l) ≡ most_of (limits_in arrays.now jobs.now)) }
+    {
+        let mut limits = Limits::new(alloc);
         limits.add_lines(alloc, arrays)?;
         limits.add_lines(alloc, jobs)?;
         limits.count_lines(alloc, jobs)?;

@@ -49,7 +49,7 @@ pub enum AskedFault {
 impl Asked {
     /// The first thing that cannot be.
     pub(crate) fn fault(&self, reserved: bool) -> Option<AskedFault>
-        ensures { result ≡ fault_of self.now reserved }
+        ensures { result ≡ fault_of self.entry.now reserved }
     {
         if self.slot == 0 || 1_000_000 < self.slot {
             Some(AskedFault::Slot)

@@ -1,6 +1,7 @@
 // What is gathered of a queue for one cycle.
-ghost use Rattle.std.specs.Prelude.{◌≡◌, ◌+◌, IfOk, OnOk, length};
+ghost use Rattle.std.specs.Prelude.{◌≡◌, ◌+◌, ◌&&◌, IfOk, OnOk, false, length};
 ghost use Rattle.tetri_base.specs.Lists.{bit};
+ghost use Rattle.tetri_queue.specs.Arrays.{is_full, throttles, with_used_if};
 ghost use Rattle.tetri_queue.specs.Queues.{is_taken};
 
 use crate::arrays::Limits;
@@ -164,7 +165,8 @@ impl Gathering {
         cluster: &Cluster,
         job: &Waiting<'_>,
     ) -> Result<Option<usize>, AllocError>
-        ensures { OnOk result (self.new.jobs.items ≡ self.old.jobs.items) }
+        ensures jobs { OnOk result (self.new.jobs.items ≡ self.old.jobs.items) }
+        ensures limits { OnOk result (throttles self.new.limits ≡ throttles self.old.limits) }
     {
         let key = key_of(alloc, job.kind)?;
         if let Some(number) = self.keys.number(&key) {
@@ -180,14 +182,16 @@ impl Gathering {
         Ok(Some(number))
     }
 
-    // What becomes of a job that waits for an order.
+    // What becomes of a job that waits for an order. A task is taken only where its array has room for it, and counts there.
     fn take(
         &mut self,
         alloc: Global,
         cluster: &Cluster,
         job: Waiting<'_>,
     ) -> Result<Fate, AllocError>
-        ensures { IfOk result (λ fate. length self.new.jobs.items ≡ length self.old.jobs.items + bit (is_taken fate)) }
+        ensures jobs { IfOk result (λ fate. length self.new.jobs.items ≡ length self.old.jobs.items + bit (is_taken fate)) }
+        ensures room { IfOk result (λ fate. (is_taken fate && is_full (throttles self.old.limits) job.entry.name) ≡ false) }
+        ensures counted { IfOk result (λ fate. throttles self.new.limits ≡ with_used_if (is_taken fate) (throttles self.old.limits) job.entry.name) }
     {
         let number = match self.shape_number(alloc, cluster, &job)? {
             Some(number) if number < self.shapes.len() => number,

@@ -148,12 +148,8 @@ fn cluster_of(alloc: Global, nodes: Vec<NodeText>) -> Result<Option<Cluster>, Al
 
 /// The trace of one cycle of a queue, of the lines that tell of it, and what becomes of each line. The trace is read back before it is
 /// handed out, and `Unlike` says that it is not read as it should be.
-pub fn queue_trace(
-    alloc: Global,
-    asked: &Asked,
-    texts: QueueTexts<'_>,
-) -> Result<Queue, QueueFault>
-    ensures { AnswersQueue asked.now texts.entry.jobs.now texts.entry.nodes.now texts.entry.reservations.now result }
+pub fn queue_trace(alloc: Global, asked: &Asked, texts: QueueTexts<'_>) -> Result<Queue, QueueFault>
+    ensures { AnswersQueue asked.entry.now texts.entry.jobs.now texts.entry.nodes.now texts.entry.reservations.now result }
 {
     if let Some(fault) = asked.fault(!texts.reservations.is_empty()) {
         return Err(QueueFault::Asked(fault));
