@@ -4,13 +4,15 @@ use Rattle.std.specs.Prelude.{flat_map, find}
 use Rattle.std.specs.List.{range_with_len}
 use Rattle.std.specs.List.Sorted.{IsNonDecreasingBy, IsPermutation}
 use Rattle.std.proofs.lemmas.List.Sorted.{IsPermutation-append, IsPermutation-refl, IsPermutation-trans, list_any-IsPermutation}
+use Rattle.tetri_policy.specs.Run.{HasSeenRun}
+use Rattle.tetri_policy.specs.declared.policy.Policy.{Policy}
 use Rattle.tetri_report.specs.Block.{Block}
 use Rattle.tetri_run.specs.CheckEnds.{HasSeen}
 use Rattle.tetri_run.specs.Run.{in_order}
 use Rattle.tetri_state.specs.Snapshot.{opening_state}
 use Rattle.tetri_trace.specs.Scenario.{Scenario}
 use Rattle.tetri_cycles.specs.Observed.{Observed}
-use Rattle.tetri_accounts.specs.Accounted.{TellsReport, TellsRun}
+use Rattle.tetri_accounts.specs.Accounted.{TellsPolicy, TellsReport, TellsRun}
 use Rattle.tetri_accounts.specs.Rows.{has_row, idle_by, idle_row, idle_rows}
 use Rattle.tetri_accounts.specs.Runs.{AreRows, departures, launch_rows, notes, place_of}
 use Rattle.tetri_accounts.specs.Taken.{IsFresh, IsTaken}
@@ -73,4 +75,14 @@ pub report_told : (t : Scenario) (report : List ℕ) (first last : Ledger) (a : 
 report_told t report first last a fresh seen closes = record {
   accepted = seen.assured.accepted;
   tells = closes first (in_order seen.assured.accepted.past) fresh seen.observed;
+}
+
+-- the account of a run by a policy that was seen
+pub policy_told : (p : Policy) (t : Scenario) (first last : Ledger) (a : Account) → IsFresh first → HasSeenRun IsTaken p t first last →
+    ((l : Ledger) (bs : List Block) → IsFresh l → Observed IsTaken t (opening_state t) bs l last → TellsRun t bs a) → TellsPolicy p t a
+policy_told p t first last a fresh seen closes = record {
+  cycles = seen.cycles;
+  run = seen.run;
+  whole = seen.whole;
+  tells = closes first seen.cycles fresh seen.observed;
 }

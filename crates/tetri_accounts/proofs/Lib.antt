@@ -2,6 +2,7 @@ pub mod AccountLemmas
 pub mod FromLemmas
 pub mod IdleLemmas
 pub mod LaunchLemmas
+pub mod OwnLemmas
 pub mod PartLemmas
 pub mod RunLemmas
 pub mod SearchLemmas

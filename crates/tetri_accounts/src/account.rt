@@ -1,7 +1,7 @@
 // The account of a run.
 ghost use Rattle.std.specs.Prelude.{◌≡◌, ◌++◌, ◌≤◌, List, ℕ, length, Some, Ok, IfErr, IfOk};
 ghost use Rattle.std.specs.List.Sorted.{IsNonDecreasingBy, IsPermutation};
-ghost use Rattle.tetri_accounts.specs.Accounted.{TellsReport, TellsRun};
+ghost use Rattle.tetri_accounts.specs.Accounted.{TellsPolicy, TellsReport, TellsRun};
 ghost use Rattle.tetri_accounts.specs.Rows.{idle_rows};
 ghost use Rattle.tetri_accounts.specs.Runs.{place_of};
 ghost use Rattle.tetri_accounts.specs.Taken.{IsFresh, IsTaken};
@@ -19,6 +19,7 @@ use crate::ledger::Ledger;
 use crate::row::{CycleNote, Departure, Row};
 use std::alloc::{AllocError, Global};
 use tetri_io::Shelf;
+use tetri_policy::{Policy, observe_policy};
 use tetri_run::{Status, check_seen};
 use tetri_trace::Trace;
 
@@ -131,4 +132,15 @@ pub fn account_report<S: Shelf>(
         Ok(account) => Ok((kept, account)),
         Err(_) => Err(Status::NoMemory),
     }
+}
+
+/// The account of the run of a trace by a policy. Its only error is want of memory.
+pub fn account_policy(alloc: Global, trace: &Trace, policy: Policy) -> Result<Account, AllocError>
+    requires { IsSound (scenario trace.now) }
+    ensures { IfOk result (TellsPolicy policy (scenario trace.entry.now)) }
+{
+    let mut ledger = Ledger::new(alloc);
+    observe_policy(alloc, trace, policy, &mut ledger)?;
+    let account = ledger.close(alloc, trace)?;
+    Ok(account)
 }

@@ -7,6 +7,7 @@ ghost use Rattle.tetri_space.specs.Sound.{IsSound as IsSoundSpace};
 ghost use Rattle.tetri_space.specs.Space.{space};
 ghost use Rattle.tetri_state.specs.Begin.{occurrences};
 
+use crate::own::{grants_by_job, pieces_by_job};
 use crate::row::{CycleNote, Departure, Row};
 use crate::slot::{add_departing, add_rows, ascending, part};
 use std::alloc::{AllocError, Global};
@@ -54,15 +55,10 @@ fn add_launches(
         (filter (λ b. has head.entry.now.launched.items b.job) (space inst.entry.now).bids)) }
 {
     let launched = ascending(alloc, &head.launched)?;
-    add_rows(
-        alloc,
-        state,
-        from,
-        inst,
-        head.grants.as_slice(),
-        &launched,
-        running,
-    )
+    let grants = grants_by_job(alloc, &head.grants)?;
+    let pieces = pieces_by_job(alloc, state, from)?;
+    add_rows(alloc, &pieces, inst, &grants, &launched, running)?;
+    Ok(())
 }
 
 // What is noted of a cycle.

@@ -1,7 +1,7 @@
 // What one cycle adds to a ledger.
-ghost use Rattle.std.specs.Prelude.{◌≡◌, ◌++◌, ◌∷◌, ◌==◌, [], ℕ, if◌then◌else◌, IfOk, OnOk, drop, filter, map};
+ghost use Rattle.std.specs.Prelude.{◌≡◌, ◌++◌, ◌∷◌, ◌==◌, [], ℕ, if◌then◌else◌, IfOk, OnOk, filter, map};
 ghost use Rattle.std.specs.List.{list_all, list_any};
-ghost use Rattle.std.specs.List.Sorted.{IsNonDecreasing};
+ghost use Rattle.std.specs.List.Sorted.{IsNonDecreasing, IsNonDecreasingBy};
 ghost use Rattle.tetri_base.specs.Lists.{has};
 ghost use Rattle.tetri_accounts.specs.Rows.{closed_as, departing, ended_as, gone_at, goes_on, is_late, leaving, outcome_by, row_of, staying};
 ghost use Rattle.tetri_space.specs.Sound.{IsSound as IsSoundSpace};
@@ -11,12 +11,12 @@ ghost use Rattle.tetri_state.specs.Begin.{has_ended, occurrences};
 ghost use Rattle.tetri_strl.specs.Tree.{tree};
 ghost use Rattle.tetri_strl.specs.WellMade.{IsSound as IsSoundTree};
 
+use crate::own::{own_grants, own_pieces};
 use crate::row::{Departure, Outcome, Row};
 use std::alloc::{AllocError, Global};
-use tetri_base::Items;
 use tetri_space::{Instance, Offer};
-use tetri_state::{Happened, Piece, State};
-use tetri_strl::{Grant, copy_grant, copy_nodes, worth_among};
+use tetri_state::{Happened, Piece};
+use tetri_strl::{Grant, worth_among};
 
 /// The jobs, ascending. Its only error is want of memory.
 pub(crate) fn ascending(alloc: Global, jobs: &[u32]) -> Result<Vec<u32>, AllocError>
@@ -178,90 +178,32 @@ pub(crate) fn add_departing(
     add_gone(&happened.expired, at, Outcome::Expired, gone)
 }
 
-fn copy_piece(alloc: Global, piece: &Piece) -> Result<Piece, AllocError>
-    ensures { IfOk result (λ p. p ≡ piece.now) }
-{
-    Ok(Piece {
-        job: piece.job,
-        leaf: piece.leaf,
-        nodes: copy_nodes(alloc, &piece.nodes)?,
-        started: piece.started,
-        expected: piece.expected,
-        real: piece.real,
-    })
-}
-
-// Adds a piece, if it is the job's.
-fn add_own_piece(
-    alloc: Global,
-    piece: &Piece,
-    job: u32,
-    own: &mut Items<Piece>,
-) -> Result<(), AllocError>
-    ensures { OnOk result (own.new ≡ own.old ++ filter (λ p. p.job == job) (piece.entry.now ∷ [])) }
-{
-    if piece.job == job {
-        own.push(copy_piece(alloc, piece)?)?;
-    }
-    Ok(())
-}
-
-// The job's pieces of those of a state from this place on.
-fn own_pieces(
-    alloc: Global,
-    state: &State,
-    from: usize,
-    job: u32,
-) -> Result<Items<Piece>, AllocError>
-    ensures { IfOk result (λ v. v ≡ filter (λ p. p.job == job) (drop from state.entry.now.pieces)) }
-{
-    let mut own = Items::new(alloc);
-    for place in from..usize::MAX {
-        match state.piece(place) {
-            Some(piece) => add_own_piece(alloc, piece, job, &mut own)?,
-            None => return Ok(own),
-        }
-    }
-    Err(AllocError)
-}
-
-// The job's grants of these.
-fn own_grants(alloc: Global, grants: &[Grant], job: u32) -> Result<Vec<Grant>, AllocError>
-    ensures { IfOk result (λ v. v.items ≡ filter (λ g. g.job == job) grants.now) }
-{
-    let mut own = Vec::new(alloc);
-    for grant in grants {
-        if grant.job == job {
-            own.push(copy_grant(alloc, grant)?)?;
-        }
-    }
-    Ok(own)
-}
-
-// What grants are worth to the job of an offer.
+// What grants, which ascend by job, are worth to the job of an offer.
 #[tactic(auto, using(crate::proofs::WorthLemmas::own_worth))]
-fn worth_to(alloc: Global, grants: &[Grant], offer: &Offer) -> Result<u64, AllocError>
-    requires { IsSoundTree (tree offer.now.expr) }
-    ensures { IfOk result (λ w. w ≡ bid_worth grants.now (bid offer.entry.now)) }
+fn worth_to(grants: &[Grant], offer: &Offer) -> u64
+    requires sound { IsSoundTree (tree offer.now.expr) }
+    requires rise { IsNonDecreasingBy (λ g. g.job) grants.now }
+    ensures { result ≡ bid_worth grants.now (bid offer.entry.now) }
 {
-    let own = own_grants(alloc, grants, offer.job)?;
-    Ok(worth_among(&offer.expr, offer.job, own.as_slice()))
+    let own = own_grants(grants, offer.job);
+    worth_among(&offer.expr, offer.job, own)
 }
 
-// The launch of a job in a slot, by the grants of its cycle and the pieces of the state behind it from this place on.
+// The launch of a job in a slot, by the grants of its cycle and the pieces that these become, both of which ascend by job.
 fn launch_row(
     alloc: Global,
-    state: &State,
-    from: usize,
+    pieces: &[Piece],
     now: u32,
     grants: &[Grant],
     offer: &Offer,
 ) -> Result<Row, AllocError>
-    requires { IsSoundTree (tree offer.now.expr) }
-    ensures { IfOk result (λ r. r ≡ row_of grants.now (drop from state.entry.now.pieces) now (bid offer.entry.now)) }
+    requires sound { IsSoundTree (tree offer.now.expr) }
+    requires grants { IsNonDecreasingBy (λ g. g.job) grants.now }
+    requires pieces { IsNonDecreasingBy (λ p. p.job) pieces.now }
+    ensures { IfOk result (λ r. r ≡ row_of grants.now pieces.now now (bid offer.entry.now)) }
 {
-    let worth = worth_to(alloc, grants, offer)?;
-    let pieces = own_pieces(alloc, state, from, offer.job)?;
+    let worth = worth_to(grants, offer);
+    let pieces = own_pieces(alloc, pieces, offer.job)?;
     Ok(Row {
         job: offer.job,
         outcome: Outcome::Running,
@@ -275,8 +217,7 @@ fn launch_row(
 // Adds the launch of the job of an offer, if it is one of these, which ascend.
 fn add_row(
     alloc: Global,
-    state: &State,
-    from: usize,
+    pieces: &[Piece],
     now: u32,
     grants: &[Grant],
     launched: &[u32],
@@ -284,35 +225,37 @@ fn add_row(
     running: &mut Vec<Row>,
 ) -> Result<(), AllocError>
     requires sound { IsSoundTree (tree offer.now.expr) }
+    requires grants { IsNonDecreasingBy (λ g. g.job) grants.now }
+    requires pieces { IsNonDecreasingBy (λ p. p.job) pieces.now }
     requires rise { IsNonDecreasing launched.now }
-    ensures { OnOk result (running.new.items ≡ running.old.items ++ map (row_of grants.now (drop from state.entry.now.pieces) now)
+    ensures { OnOk result (running.new.items ≡ running.old.items ++ map (row_of grants.now pieces.now now)
         (filter (λ b. has launched.now b.job) (bid offer.entry.now ∷ []))) }
 {
     if has_job(launched, offer.job) {
-        running.push(launch_row(alloc, state, from, now, grants, offer)?)?;
+        running.push(launch_row(alloc, pieces, now, grants, offer)?)?;
     }
     Ok(())
 }
 
-/// Adds the launches of these jobs, which ascend, in the slot of the instance.
+/// Adds the launches of these jobs in the slot of the instance, by the grants of its cycle and the pieces that these become. All of these
+/// ascend by job.
 pub(crate) fn add_rows(
     alloc: Global,
-    state: &State,
-    from: usize,
+    pieces: &[Piece],
     inst: &Instance,
     grants: &[Grant],
     launched: &[u32],
     running: &mut Vec<Row>,
 ) -> Result<(), AllocError>
     requires sound { IsSoundSpace (space inst.now) }
+    requires grants { IsNonDecreasingBy (λ g. g.job) grants.now }
+    requires pieces { IsNonDecreasingBy (λ p. p.job) pieces.now }
     requires rise { IsNonDecreasing launched.now }
-    ensures { OnOk result (running.new.items ≡ running.old.items ++ map (row_of grants.now (drop from state.entry.now.pieces) inst.entry.now.now)
+    ensures { OnOk result (running.new.items ≡ running.old.items ++ map (row_of grants.now pieces.now inst.entry.now.now)
         (filter (λ b. has launched.now b.job) (space inst.entry.now).bids)) }
 {
     for offer in &inst.jobs {
-        add_row(
-            alloc, state, from, inst.now, grants, launched, offer, running,
-        )?;
+        add_row(alloc, pieces, inst.now, grants, launched, offer, running)?;
     }
     Ok(())
 }

@@ -3,9 +3,11 @@ mod asked;
 
 use asked::options_of;
 use std::alloc::{AllocError, Global};
+use tetri_cluster::NodeText;
+use tetri_hosts::{HostsFault, read_nodes};
 use tetri_logs::Format;
 use tetri_tables::{Given, Tally};
-use tetri_workload::{Imported, counts_text, fault_text, import, rejects_text};
+use tetri_workload::{Imported, add_partition, counts_text, fault_text, import, rejects_text};
 
 // What is wanted of an import.
 #[derive(Clone, Copy, PartialEq, Eq)]
@@ -36,6 +38,31 @@ fn made(
     Ok(text)
 }
 
+// The nodes that words tell of: `node=n1|idle|batch|gpu` as a line of sinfo, `partition=batch=n[1-8]` by the hosts of a partition.
+fn nodes_of(alloc: Global, words: &str) -> Result<Vec<NodeText>, AllocError> {
+    let mut lines = Vec::new(alloc);
+    for word in words.split_whitespace() {
+        match word.split_once('=') {
+            Some(("node", line)) => {
+                lines.extend_from_slice(line.as_bytes())?;
+                lines.push(b'\n')?;
+            }
+            Some(("partition", given)) => {
+                let (name, hosts) = given.split_once('=').unwrap_or((given, ""));
+                match add_partition(alloc, &mut lines, name.as_bytes(), hosts.as_bytes()) {
+                    Ok(()) => {}
+                    Err(HostsFault::NoMemory) => return Err(AllocError),
+                    Err(HostsFault::NotHosts | HostsFault::TooMany) => {
+                        lines.extend_from_slice(b"no hosts\n")?;
+                    }
+                }
+            }
+            _ => {}
+        }
+    }
+    Ok(read_nodes(alloc, &lines)?.nodes)
+}
+
 // What an import makes of a log, or why it makes nothing.
 fn told(
     alloc: Global,
@@ -44,7 +71,8 @@ fn told(
     log: &[u8],
     wanted: Wanted,
 ) -> Result<String, AllocError> {
-    match import(alloc, format, &options_of(words), log) {
+    let nodes = nodes_of(alloc, words)?;
+    match import(alloc, format, &options_of(words), &nodes, log) {
         Ok(imported) => made(alloc, &imported, log, wanted),
         Err(fault) => {
             let mut text = fault_text(alloc, fault)?;

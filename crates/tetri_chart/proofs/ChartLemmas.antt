@@ -1,10 +1,12 @@
 -- What drawing says of a report that is checked.
 use Rattle.std.proofs.Common.{◌≡◌, ◌⊎◌, ℕ, List, [], refl, sym, ◌∙◌, subst, inl, inr, arith}
 use Rattle.std.specs.Prelude.{Option, Result, Ok}
-use Rattle.tetri_chart.specs.Charted.{HasCycle, IsChartPromised, IsDrawn, IsDrawnOf}
+use Rattle.tetri_chart.specs.Charted.{IsChartPromised, IsDrawn, IsDrawnOf}
 use Rattle.tetri_chart.specs.Gathered.{IsTaken, picture_with}
 use Rattle.tetri_chart.specs.Picture.{Picture, picture_of}
+use Rattle.tetri_chart.specs.Slots.{HasSlots}
 use Rattle.tetri_chart.specs.declared.gathering.Gathering.{Gathering}
+use Rattle.tetri_chart.specs.declared.view.View.{View}
 use Rattle.tetri_chart.proofs.GatherLemmas.{behind_now, seen_shows}
 use Rattle.tetri_chart.proofs.SpanLemmas.{tells_pieces}
 use Rattle.tetri_cycles.specs.Observed.{behind}
@@ -19,7 +21,7 @@ use Rattle.tetri_run.specs.declared.status.Status.TheVariants.{Done, Refused, Us
 use Rattle.tetri_state.specs.Snapshot.{Snapshot, opening_state}
 use Rattle.tetri_trace.specs.Scenario.{Scenario}
 
-module _ (t : Scenario) (report : List ℕ) (cycle : Option ℕ) (first last : Gathering)
+module _ (t : Scenario) (report : List ℕ) (cycle : Option ℕ) (v : View) (first last : Gathering)
     (none : (u : Scenario) (blocks : List Block) → picture_with u (opening_state u) first blocks ≡ picture_of u cycle blocks) (seen : HasSeen IsTaken t report first last) where
   accepted : IsAccepted t report
   accepted = seen.assured.accepted
@@ -36,42 +38,42 @@ module _ (t : Scenario) (report : List ℕ) (cycle : Option ℕ) (first last : G
   unfolding accepted last_state
   gathered = sym (seen_shows t (opening_state t) (in_order accepted.past) first last seen.observed) ∙ none t (in_order accepted.past)
 
-  pub drawn_of : (status : Status) (before after : Option (List ℕ)) → ((s : Snapshot) → s.now ≡ t.header.until → IsDrawn t (picture_with t s last []) status before after) →
-      IsDrawnOf cycle status t report before after
+  pub drawn_of : (status : Status) (before after : Option (List ℕ)) → ((s : Snapshot) → s.now ≡ t.header.until → IsDrawn t v (picture_with t s last []) status before after) →
+      IsDrawnOf cycle v status t report before after
   unfolding accepted last_state
   drawn_of status before after drawn =
-      (accepted, (tells_pieces t (in_order accepted.past), subst (λ (p : Picture). IsDrawn t p status before after) gathered (drawn last_state last_now)))
+      (accepted, (tells_pieces t (in_order accepted.past), subst (λ (p : Picture). IsDrawn t v p status before after) gathered (drawn last_state last_now)))
 
 -- what drawing the report answers that was accepted
-pub drawn_promised : (cycle : Option ℕ) (status : Status) (trace : Result Scenario (ℕ × TraceWhy)) (t : Scenario) (report : List ℕ) (before after : Option (List ℕ)) →
-    trace ≡ Ok t → IsDrawnOf cycle status t report before after → IsChartPromised cycle status trace report before after
-drawn_promised cycle Done trace t report before after is drawn = (t, (is, drawn))
-drawn_promised cycle (Refused line why) trace t report before after is drawn = absurd drawn.1.1
-drawn_promised cycle Usage trace t report before after is drawn = (t, (is, drawn))
-drawn_promised cycle ReadFault trace t report before after is drawn = absurd drawn.1.1
-drawn_promised cycle WriteFault trace t report before after is drawn = (t, (is, drawn))
-drawn_promised cycle (BadTrace line why) trace t report before after is drawn = absurd drawn.1.1
-drawn_promised cycle NoMemory trace t report before after is drawn = inr (t, (is, inr drawn))
+pub drawn_promised : (cycle : Option ℕ) (v : View) (status : Status) (trace : Result Scenario (ℕ × TraceWhy)) (t : Scenario) (report : List ℕ) (before after : Option (List ℕ)) →
+    trace ≡ Ok t → IsDrawnOf cycle v status t report before after → IsChartPromised cycle v status trace report before after
+drawn_promised cycle v Done trace t report before after is drawn = (t, (is, drawn))
+drawn_promised cycle v (Refused line why) trace t report before after is drawn = absurd drawn.1.1
+drawn_promised cycle v Usage trace t report before after is drawn = (t, (is, drawn))
+drawn_promised cycle v ReadFault trace t report before after is drawn = absurd drawn.1.1
+drawn_promised cycle v WriteFault trace t report before after is drawn = (t, (is, drawn))
+drawn_promised cycle v (BadTrace line why) trace t report before after is drawn = absurd drawn.1.1
+drawn_promised cycle v NoMemory trace t report before after is drawn = inr (t, (is, inr drawn))
 
 -- what a check answers that accepts no report, where nothing is drawn
-pub halted_promised : (cycle : Option ℕ) (status : Status) (trace : Result Scenario (ℕ × TraceWhy)) (report : List ℕ) (before : Option (List ℕ)) → IsHaltOf status trace report →
-    IsChartPromised cycle status trace report before before
-halted_promised cycle Done trace report before halted = absurd halted
-halted_promised cycle (Refused line why) trace report before halted = (halted.0, (halted.1, (halted.2, (halted.3, refl))))
-halted_promised cycle Usage trace report before halted = absurd halted
-halted_promised cycle ReadFault trace report before halted = refl
-halted_promised cycle WriteFault trace report before halted = absurd halted
-halted_promised cycle (BadTrace line why) trace report before halted = (halted, refl)
-halted_promised cycle NoMemory trace report before halted = inl refl
+pub halted_promised : (cycle : Option ℕ) (v : View) (status : Status) (trace : Result Scenario (ℕ × TraceWhy)) (report : List ℕ) (before : Option (List ℕ)) → IsHaltOf status trace report →
+    IsChartPromised cycle v status trace report before before
+halted_promised cycle v Done trace report before halted = absurd halted
+halted_promised cycle v (Refused line why) trace report before halted = (halted.0, (halted.1, (halted.2, (halted.3, refl))))
+halted_promised cycle v Usage trace report before halted = absurd halted
+halted_promised cycle v ReadFault trace report before halted = refl
+halted_promised cycle v WriteFault trace report before halted = absurd halted
+halted_promised cycle v (BadTrace line why) trace report before halted = (halted, refl)
+halted_promised cycle v NoMemory trace report before halted = inl refl
 
 -- a check that accepts no report, and ends so that only memory was wanting
 pub only_memory : (status : Status) → IsHalt status → (status ≡ Done) ⊎ (status ≡ NoMemory) → (status ≡ Usage) ⊎ (status ≡ NoMemory)
 only_memory status halts (inl done) = absurd (subst IsHalt done halts)
 only_memory status halts (inr memory) = inr memory
 
--- what drawing an accepted report ends with, by whether its run has the cycle that is asked for, and whether a write failed
-module _ (cycle : Option ℕ) (t : Scenario) (report : List ℕ) (before after : Option (List ℕ)) where
-  pub drawn_where_asked : (status : Status) → IsDrawnOf cycle status t report before after → HasCycle t cycle → (status ≡ WriteFault → ⊥) → (status ≡ Done) ⊎ (status ≡ NoMemory)
+-- what drawing an accepted report ends with, by whether its run has what is asked for, and whether a write failed
+module _ (cycle : Option ℕ) (v : View) (t : Scenario) (report : List ℕ) (before after : Option (List ℕ)) where
+  pub drawn_where_asked : (status : Status) → IsDrawnOf cycle v status t report before after → HasSlots t cycle v → (status ≡ WriteFault → ⊥) → (status ≡ Done) ⊎ (status ≡ NoMemory)
   drawn_where_asked Done drawn has write = inl refl
   drawn_where_asked (Refused line why) drawn has write = absurd drawn.1.1
   drawn_where_asked Usage drawn has write = absurd (drawn.1.1.0 has)
@@ -80,7 +82,7 @@ module _ (cycle : Option ℕ) (t : Scenario) (report : List ℕ) (before after :
   drawn_where_asked (BadTrace line why) drawn has write = absurd drawn.1.1
   drawn_where_asked NoMemory drawn has write = inr refl
 
-  pub usage_where_not : (status : Status) → IsDrawnOf cycle status t report before after → (HasCycle t cycle → ⊥) → (status ≡ Usage) ⊎ (status ≡ NoMemory)
+  pub usage_where_not : (status : Status) → IsDrawnOf cycle v status t report before after → (HasSlots t cycle v → ⊥) → (status ≡ Usage) ⊎ (status ≡ NoMemory)
   usage_where_not Done drawn lacks = absurd (lacks drawn.1.1.0)
   usage_where_not (Refused line why) drawn lacks = absurd drawn.1.1
   usage_where_not Usage drawn lacks = inl refl
@@ -90,21 +92,21 @@ module _ (cycle : Option ℕ) (t : Scenario) (report : List ℕ) (before after :
   usage_where_not NoMemory drawn lacks = inr refl
 
 -- what every drawing ends with
-module _ (t : Scenario) (last : Gathering) (before after : Option (List ℕ)) where
+module _ (t : Scenario) (v : View) (last : Gathering) (before after : Option (List ℕ)) where
   -- some picture is drawn
-  pub some_drawn : (status : Status) → ((s : Snapshot) → s.now ≡ t.header.until → IsDrawn t (picture_with t s last []) status before after) →
-      (p : Picture) × IsDrawn t p status before after
+  pub some_drawn : (status : Status) → ((s : Snapshot) → s.now ≡ t.header.until → IsDrawn t v (picture_with t s last []) status before after) →
+      (p : Picture) × IsDrawn t v p status before after
   some_drawn status drawn =
       let s = record (opening_state t) { now = t.header.until } in
       (picture_with t s last [], drawn s refl)
 
-  pub never_bad : (status : Status) → (p : Picture) × IsDrawn t p status before after → (line : ℕ) (why : TraceWhy) → status ≡ BadTrace line why → ⊥
-  never_bad status drawn line why is = subst (λ (u : Status). IsDrawn t drawn.0 u before after) is drawn.1
+  pub never_bad : (status : Status) → (p : Picture) × IsDrawn t v p status before after → (line : ℕ) (why : TraceWhy) → status ≡ BadTrace line why → ⊥
+  never_bad status drawn line why is = subst (λ (u : Status). IsDrawn t v drawn.0 u before after) is drawn.1
 
-  pub never_read : (status : Status) → (p : Picture) × IsDrawn t p status before after → status ≡ ReadFault → ⊥
-  never_read status drawn is = subst (λ (u : Status). IsDrawn t drawn.0 u before after) is drawn.1
+  pub never_read : (status : Status) → (p : Picture) × IsDrawn t v p status before after → status ≡ ReadFault → ⊥
+  never_read status drawn is = subst (λ (u : Status). IsDrawn t v drawn.0 u before after) is drawn.1
 
-  pub silent : (status : Status) → (p : Picture) × IsDrawn t p status before after → (status ≡ Done → ⊥) → (status ≡ WriteFault → ⊥) → (status ≡ NoMemory → ⊥) → after ≡ before
+  pub silent : (status : Status) → (p : Picture) × IsDrawn t v p status before after → (status ≡ Done → ⊥) → (status ≡ WriteFault → ⊥) → (status ≡ NoMemory → ⊥) → after ≡ before
   silent Done drawn done write memory = absurd (done refl)
   silent (Refused line why) drawn done write memory = absurd drawn.1
   silent Usage drawn done write memory = drawn.1.1

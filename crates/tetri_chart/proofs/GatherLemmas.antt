@@ -1,5 +1,5 @@
 -- How a report is gathered cycle by cycle.
-use Rattle.std.proofs.Common.{◌≡◌, ℕ, ◌+◌, List, [], ◌∷◌, ◌++◌, length, map, sym, ap, ◌∙◌, append_assoc, arith}
+use Rattle.std.proofs.Common.{◌≡◌, ℕ, ◌+◌, List, [], ◌∷◌, ◌++◌, length, sym, ap, ◌∙◌, append_assoc, arith}
 use Rattle.std.specs.Prelude.{Option}
 use Rattle.tetri_cycles.specs.Observed.{Observed, behind, next}
 use Rattle.tetri_report.specs.Block.{Block}
@@ -8,7 +8,8 @@ use Rattle.tetri_state.specs.Snapshot.{Snapshot}
 use Rattle.tetri_state.specs.declared.pieces.Piece.{Piece}
 use Rattle.tetri_trace.specs.Scenario.{Scenario}
 use Rattle.tetri_chart.specs.Gathered.{IsTaken, picture_with}
-use Rattle.tetri_chart.specs.Picture.{Picture, mark_of}
+use Rattle.tetri_chart.specs.Marks.{mark_of, marks_from}
+use Rattle.tetri_chart.specs.Picture.{Picture}
 use Rattle.tetri_chart.specs.Pieces.{leaving, pieces_from, running}
 use Rattle.tetri_chart.specs.Waits.{waits_from, waits_of}
 use Rattle.tetri_chart.specs.declared.gathering.Gathering.{Gathering}
@@ -32,7 +33,9 @@ module _ (t : Scenario) where
       (sym (append_assoc old.spans.items left (pieces_from t (next t s b) on bs))
       ∙ ap (λ xs. xs ++ pieces_from t (next t s b) on bs) (sym k.spans)
       ∙ ap (λ xs. new.spans.items ++ pieces_from t (next t s b) xs bs) (sym k.active))
-      (sym (append_assoc old.cycles.items (mark_of b ∷ []) (map mark_of bs)) ∙ ap (λ xs. xs ++ map mark_of bs) (sym k.cycles))
+      (sym (append_assoc old.cycles.items (mark_of t s old.active.items b ∷ []) (marks_from t (next t s b) on bs))
+      ∙ ap (λ xs. xs ++ marks_from t (next t s b) on bs) (sym k.cycles)
+      ∙ ap (λ xs. new.cycles.items ++ marks_from t (next t s b) xs bs) (sym k.active))
       (sym k.asked)
       (sym (append_assoc old.waits.items waits (waits_from t old.asked (next t s b) bs))
       ∙ ap (λ xs. xs ++ waits_from t old.asked (next t s b) bs) (sym k.waits)

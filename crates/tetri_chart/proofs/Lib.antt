@@ -2,6 +2,7 @@ pub mod ChartLemmas
 pub mod FramingLemmas
 pub mod FromLemmas
 pub mod GatherLemmas
+pub mod MarkLemmas
 pub mod PartLemmas
 pub mod SameRunLemmas
 pub mod SearchLemmas

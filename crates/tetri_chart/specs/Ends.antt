@@ -5,10 +5,12 @@ use Rattle.tetri_cert.specs.Text.{mark_text}
 use Rattle.tetri_cluster.specs.Cluster.{name_at}
 use Rattle.tetri_report.specs.Text.{job_name}
 use Rattle.tetri_svg.specs.Back.{asked_text, cycle_text, scale_text, wait_text}
+use Rattle.tetri_svg.specs.Strips.{queue_text, strips_scale, use_text}
 use Rattle.tetri_svg.specs.Front.{axis_text, heading_text, name_text, opening_text}
-use Rattle.tetri_svg.specs.Sizes.{stride_for}
+use Rattle.tetri_svg.specs.Sizes.{has_slot, stride_for}
 use Rattle.tetri_svg.specs.Style.{legend_text, style_text}
 use Rattle.tetri_svg.specs.Layout.{Layout}
+use Rattle.tetri_svg.specs.declared.clock.Clock.{Clock}
 use Rattle.tetri_trace.specs.Scenario.{Scenario}
 use Rattle.tetri_chart.specs.Picture.{Picture}
 use Rattle.tetri_chart.specs.Shades.{shades_text}
@@ -23,9 +25,9 @@ abbrev pub names_by : Scenario → Layout → ℕ → List ℕ
 names_by t f stride = flat_map (name_by t f stride) (range_with_len 0 f.nodes)
 
 -- all that stands before the bars
-abbrev pub front_text : Scenario → Layout → ℕ → List ℕ
-front_text t f pieces =
-    opening_text f ++ style_text f ++ heading_text pieces f.nodes t.header.until ++ names_by t f (stride_for f.row 14) ++ shades_text t f ++ axis_text f
+abbrev pub front_text : Scenario → Layout → Option Clock → ℕ → List ℕ
+front_text t f clock pieces =
+    opening_text f ++ style_text f ++ heading_text f pieces t.header.until ++ names_by t f (stride_for f.row 14) ++ shades_text t f ++ axis_text f clock
 
 -- a waiting grant on a node, and on each of its nodes
 abbrev pub wait_bar : Scenario → Layout → Wait → ℕ → List ℕ
@@ -52,20 +54,29 @@ most_bound (c ∷ cs) = max c.bound (most_bound cs)
 abbrev pub most_of : List CycleMark → ℕ
 most_of cs = max (max (min (most_value cs * 4) (most_bound cs)) (most_value cs)) 1
 
--- the value and the bound of the cycle of a slot, if there is one
-abbrev pub cycle_by : Layout → ℕ → ℕ → Option CycleMark → List ℕ
-cycle_by f most slot None = []
-cycle_by f most slot (Some c) = cycle_text f most slot c.value c.bound (mark_text c.mark)
+-- the greatest number of jobs that wait, and at least 1
+abbrev pub most_waiting : List CycleMark → ℕ
+most_waiting [] = 1
+most_waiting (c ∷ cs) = max c.waiting (most_waiting cs)
 
-abbrev pub slot_text : Layout → ℕ → List CycleMark → ℕ → List ℕ
-slot_text f most cs slot = cycle_by f most slot (slice_get cs slot)
+-- the numbers of a cycle: its value and its bound, the jobs that wait behind it, and the nodes in use in its slot
+abbrev pub mark_text_at : Layout → ℕ → ℕ → ℕ → CycleMark → List ℕ
+mark_text_at f most longest slot c = cycle_text f most slot c.value c.bound (mark_text c.mark) ++ queue_text f longest slot c.waiting ++ use_text f slot c.used
 
-abbrev pub slots_text : Layout → ℕ → List CycleMark → List ℕ
-slots_text f most cs = flat_map (slot_text f most cs) (range_with_len 0 f.slots)
+-- the numbers of the cycle of a slot that is shown, if there is one
+abbrev pub cycle_by : Layout → ℕ → ℕ → ℕ → Option CycleMark → List ℕ
+cycle_by f most longest slot None = []
+cycle_by f most longest slot (Some c) = mark_text_at f most longest slot c
 
--- the values and the bounds of the cycles, and the numbers of their axis
+abbrev pub slot_text : Layout → ℕ → ℕ → List CycleMark → ℕ → List ℕ
+slot_text f most longest cs slot = if has_slot f slot then cycle_by f most longest slot (slice_get cs slot) else []
+
+abbrev pub slots_text : Layout → ℕ → ℕ → List CycleMark → List ℕ
+slots_text f most longest cs = flat_map (slot_text f most longest cs) (range_with_len 0 f.until)
+
+-- the numbers of the cycles, and those of their axes
 abbrev pub cycles_text : Layout → List CycleMark → List ℕ
-cycles_text f cs = slots_text f (most_of cs) cs ++ scale_text f (most_of cs)
+cycles_text f cs = slots_text f (most_of cs) (most_waiting cs) cs ++ scale_text f (most_of cs) ++ strips_scale f (most_waiting cs)
 
 -- all that stands behind the bars
 abbrev pub back_text : Scenario → Layout → Picture → List ℕ

@@ -1,7 +1,9 @@
 pub mod Pieces
 pub mod Waits
+pub mod Marks
 pub mod Picture
 pub mod Gathered
+pub mod Slots
 pub mod Framing
 pub mod Text
 pub mod Shades

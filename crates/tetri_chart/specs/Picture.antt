@@ -1,8 +1,9 @@
 -- What a picture of a run shows.
-use Rattle.std.specs.Prelude.{ℕ, List, [], map, Option}
+use Rattle.std.specs.Prelude.{ℕ, List, [], Option}
 use Rattle.tetri_report.specs.Block.{Block}
 use Rattle.tetri_state.specs.Snapshot.{opening_state}
 use Rattle.tetri_trace.specs.Scenario.{Scenario}
+use Rattle.tetri_chart.specs.Marks.{marks_from}
 use Rattle.tetri_chart.specs.Pieces.{pieces_from}
 use Rattle.tetri_chart.specs.Waits.{waits_from}
 use Rattle.tetri_chart.specs.declared.picture.CycleMark.{CycleMark}
@@ -16,15 +17,11 @@ pub record Picture : Type 0 where
   pub asked : Option ℕ
   pub waits : List Wait
 
--- the numbers of a cycle's plan
-abbrev pub mark_of : Block → CycleMark
-mark_of b = record { value = b.value; bound = b.bound; mark = b.mark }
-
 -- what a report with these cycles shows
 abbrev pub picture_of : Scenario → Option ℕ → List Block → Picture
 picture_of t asked blocks = record {
   spans = pieces_from t (opening_state t) [] blocks;
-  cycles = map mark_of blocks;
+  cycles = marks_from t (opening_state t) [] blocks;
   asked = asked;
   waits = waits_from t asked (opening_state t) blocks;
 }

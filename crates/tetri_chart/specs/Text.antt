@@ -1,10 +1,11 @@
 -- The bars of pieces.
-use Rattle.std.specs.Prelude.{ℕ, List, flat_map}
+use Rattle.std.specs.Prelude.{ℕ, List, [], flat_map, count_by, if◌then◌else◌, Bool}
 use Rattle.tetri_cluster.specs.Cluster.{name_at}
 use Rattle.tetri_report.specs.Text.{job_name}
 use Rattle.tetri_svg.specs.Bars.{drawn_bar}
 use Rattle.tetri_svg.specs.declared.bar.Bar.{Bar}
 use Rattle.tetri_svg.specs.Layout.{Layout}
+use Rattle.tetri_svg.specs.Sizes.{shows}
 use Rattle.tetri_trace.specs.Scenario.{Scenario}
 use Rattle.tetri_chart.specs.declared.picture.Span.{Span}
 
@@ -16,6 +17,18 @@ bar_of s node = record { job = s.job; node = node; from = s.from; expected = s.e
 abbrev pub node_text : Scenario → Layout → Span → ℕ → List ℕ
 node_text t f s node = drawn_bar f (bar_of s node) (job_name t s.job) (name_at t.nodes node)
 
--- a piece: a bar on each of its nodes
+-- the piece runs in a slot that the picture shows
+abbrev pub meets : Layout → Span → Bool
+meets f s = shows f s.from s.until
+
+-- a piece on each of its nodes
+abbrev pub nodes_text : Scenario → Layout → Span → List ℕ
+nodes_text t f s = flat_map (node_text t f s) s.nodes
+
+-- a piece: a bar on each of its nodes, where it runs in a slot that the picture shows
 abbrev pub span_text : Scenario → Layout → Span → List ℕ
-span_text t f s = flat_map (node_text t f s) s.nodes
+span_text t f s = if meets f s then nodes_text t f s else []
+
+-- how many pieces do
+abbrev pub meeting : Layout → List Span → ℕ
+meeting f spans = count_by (meets f) spans

@@ -1,6 +1,6 @@
 // The bars of a picture.
 ghost use Rattle.std.specs.Prelude.{◌≡◌, ◌++◌, OnOk, string_bytes};
-ghost use Rattle.tetri_chart.specs.Text.{bar_of, node_text, span_text};
+ghost use Rattle.tetri_chart.specs.Text.{bar_of, meets, meeting, node_text, nodes_text, span_text};
 ghost use Rattle.tetri_trace.specs.Scenario.{scenario};
 
 use crate::names::{job_name, node_name};
@@ -38,7 +38,31 @@ fn add_node(
     add_bar(out, frame, bar_of(span, node), job, name)
 }
 
-/// Adds a piece: a bar on each of its nodes.
+// Whether a piece runs in a slot that the picture shows.
+fn meets(frame: &Frame, span: &Span) -> bool
+    ensures { result ≡ meets frame.now span.now }
+{
+    frame.shows(span.from, span.until)
+}
+
+/// How many pieces do.
+pub(crate) fn meeting(frame: &Frame, spans: &[Span]) -> usize
+    ensures { result ≡ meeting frame.now spans.now }
+{
+    spans.iter().filter(|span| meets(frame, span)).count()
+}
+
+// Adds a piece on each of its nodes.
+fn add_nodes(out: &mut String, trace: &Trace, frame: &Frame, span: &Span) -> Result<(), AllocError>
+    ensures { OnOk result (string_bytes out.new ≡ string_bytes out.old ++ nodes_text (scenario trace.entry.now) frame.now span.entry.now) }
+{
+    for node in span.nodes.as_slice() {
+        add_node(out, trace, frame, span, *node)?;
+    }
+    Ok(())
+}
+
+/// Adds a piece: a bar on each of its nodes, where it runs in a slot that the picture shows.
 pub(crate) fn add_span(
     out: &mut String,
     trace: &Trace,
@@ -47,8 +71,8 @@ pub(crate) fn add_span(
 ) -> Result<(), AllocError>
     ensures { OnOk result (string_bytes out.new ≡ string_bytes out.old ++ span_text (scenario trace.entry.now) frame.now span.entry.now) }
 {
-    for node in span.nodes.as_slice() {
-        add_node(out, trace, frame, span, *node)?;
+    if !meets(frame, span) {
+        return Ok(());
     }
-    Ok(())
+    add_nodes(out, trace, frame, span)
 }

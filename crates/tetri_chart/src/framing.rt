@@ -1,9 +1,12 @@
 // The frame of the picture of a run.
 ghost use Rattle.std.specs.Prelude.{◌≡◌, ◌≤◌};
-ghost use Rattle.tetri_chart.specs.Framing.{framed, longest, slots_of};
+ghost use Rattle.tetri_chart.specs.Framing.{framed, longest};
 ghost use Rattle.tetri_trace.specs.Scenario.{scenario};
 ghost use Rattle.tetri_trace.specs.Sound.{IsSound};
 
+use crate::picture::Chart;
+use crate::slots::shown;
+use crate::view::View;
 use tetri_svg::Frame;
 use tetri_trace::Trace;
 
@@ -19,26 +22,11 @@ fn longest_name(trace: &Trace) -> u32
     longest
 }
 
-// The slots that a picture has: those of the run, and those of a window behind it where waiting grants are asked for.
-fn slots_of(trace: &Trace, asked: Option<u32>) -> u32
+/// The frame of the picture of a run of the trace.
+pub(crate) fn framed(trace: &Trace, chart: &Chart, view: View) -> Frame
     requires { IsSound (scenario trace.now) }
-    ensures value { result ≡ slots_of (scenario trace.entry.now) asked }
-    ensures most { result ≤ 20000 }
+    ensures { result ≡ framed (scenario trace.entry.now) view chart.now }
 {
-    match asked {
-        Some(_) => trace.header.until + trace.header.window,
-        None => trace.header.until,
-    }
-}
-
-/// The frame of the picture of a run of the trace, with waiting grants or without them.
-pub(crate) fn framed(trace: &Trace, asked: Option<u32>) -> Frame
-    requires { IsSound (scenario trace.now) }
-    ensures { result ≡ framed (scenario trace.entry.now) asked }
-{
-    Frame::of(
-        slots_of(trace, asked),
-        trace.cluster.count(),
-        longest_name(trace),
-    )
+    let (first, until) = shown(trace, chart, view);
+    Frame::of(first, until, trace.cluster.count(), longest_name(trace))
 }

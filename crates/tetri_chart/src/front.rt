@@ -7,7 +7,9 @@ ghost use Rattle.tetri_trace.specs.Sound.{IsSound};
 use crate::names::node_name;
 use crate::shades::add_shades;
 use std::alloc::{AllocError, Global};
-use tetri_svg::{Frame, add_axis, add_heading, add_name, add_opening, add_style, stride_for};
+use tetri_svg::{
+    Clock, Frame, add_axis, add_heading, add_name, add_opening, add_style, stride_for,
+};
 use tetri_trace::Trace;
 
 // Adds the name of a node, where it is a multiple of the stride.
@@ -44,15 +46,16 @@ pub(crate) fn add_front(
     out: &mut String,
     trace: &Trace,
     frame: &Frame,
+    clock: Option<Clock>,
     pieces: usize,
 ) -> Result<(), AllocError>
     requires { IsSound (scenario trace.now) }
-    ensures { OnOk result (string_bytes out.new ≡ string_bytes out.old ++ front_text (scenario trace.entry.now) frame.now pieces) }
+    ensures { OnOk result (string_bytes out.new ≡ string_bytes out.old ++ front_text (scenario trace.entry.now) frame.now clock pieces) }
 {
     add_opening(out, frame)?;
     add_style(out, frame)?;
-    add_heading(out, pieces, frame.nodes(), trace.header.until)?;
+    add_heading(out, frame, pieces, trace.header.until)?;
     add_names(out, trace, frame, stride_for(frame.row(), 14))?;
     add_shades(alloc, out, trace, frame)?;
-    add_axis(out, frame)
+    add_axis(out, frame, clock)
 }

@@ -7,8 +7,9 @@ ghost use Rattle.tetri_report.specs.Block.{Block};
 ghost use Rattle.tetri_state.specs.Snapshot.{Snapshot, opening_state};
 ghost use Rattle.tetri_trace.specs.Scenario.{Scenario};
 
+use crate::marks::mark_of;
 use crate::picture::{Chart, CycleMark, Span, Wait};
-use crate::slot::{add_asked, add_pieces, mark_of, part, span_of};
+use crate::slot::{add_asked, add_pieces, part, span_of};
 use std::alloc::{AllocError, Global};
 use tetri_cycles::{Observer, SeenSlot};
 use tetri_report::Head;
@@ -52,7 +53,7 @@ impl Observer for Gathering {
     fn see(
         &mut self,
         alloc: Global,
-        _trace: &Trace,
+        trace: &Trace,
         state: &State,
         slot: SeenSlot<'_>,
         head: &Head,
@@ -63,7 +64,9 @@ impl Observer for Gathering {
         add_pieces(alloc, state, slot.held, &mut self.active)?;
         let grants = head.grants.as_slice();
         add_asked(alloc, self.asked, inst, grants, &mut self.waits)?;
-        self.cycles.push(mark_of(head))?;
+        let nodes = trace.cluster.count();
+        let mark = mark_of(alloc, inst, &self.active, nodes, head)?;
+        self.cycles.push(mark)?;
         Ok(())
     }
 }

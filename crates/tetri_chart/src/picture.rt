@@ -34,12 +34,19 @@ pub struct Wait {
     pub until: u32,
 }
 
-/// The numbers of a cycle's plan.
+/// The numbers of a cycle.
 #[derive(Clone, Copy, Debug, PartialEq, Eq)]
 pub struct CycleMark {
+    /// What its plan is worth.
     pub value: u64,
+    /// What no plan is worth more than.
     pub bound: u64,
+    /// How good its plan is known to be.
     pub mark: PlanMark,
+    /// How many jobs wait behind it: those that were pending and are not launched.
+    pub waiting: usize,
+    /// How many nodes are in use in its slot.
+    pub used: u32,
 }
 
 /// What the picture of a run shows: its pieces, those that left in an earlier slot first and within a slot in order of launch, the numbers of

@@ -3,24 +3,20 @@ ghost use Rattle.std.specs.Prelude.{◌≡◌, ◌++◌, ◌∷◌, [], ℕ, if�
 ghost use Rattle.std.specs.List.Sorted.{IsNonDecreasing};
 ghost use Rattle.tetri_base.specs.Lists.{has};
 ghost use Rattle.tetri_chart.specs.Pieces.{fate_by, leaving, runs_on, span_of, staying};
-ghost use Rattle.tetri_cert.specs.declared.certificate.Certificate.TheVariants.{Tops};
-ghost use Rattle.tetri_chart.specs.Picture.{mark_of};
-ghost use Rattle.tetri_report.specs.Block.{headed};
 ghost use Rattle.tetri_chart.specs.Waits.{is_asked, waits_in};
 ghost use Rattle.tetri_space.specs.Sound.{IsSound as IsSoundSpace};
 ghost use Rattle.tetri_space.specs.Space.{space};
 ghost use Rattle.tetri_state.specs.Begin.{occurrences};
 
-use crate::picture::{CycleMark, Span, Wait};
+use crate::picture::{Span, Wait};
 use std::alloc::{AllocError, Global};
-use tetri_report::Head;
 use tetri_space::{Instance, leaf_of};
 use tetri_state::{Happened, Piece, State};
 use tetri_strl::{Grant, copy_nodes};
 use tetri_svg::Fate;
 
-// The jobs, ascending. Its only error is want of memory.
-fn ascending(alloc: Global, jobs: &[u32]) -> Result<Vec<u32>, AllocError>
+/// The jobs, ascending. Its only error is want of memory.
+pub(crate) fn ascending(alloc: Global, jobs: &[u32]) -> Result<Vec<u32>, AllocError>
     ensures rise { IfOk result (λ v. IsNonDecreasing v.items) }
     ensures same { IfOk result (λ v. (job : ℕ) → has v.items job ≡ has jobs.entry.now job) }
 {
@@ -29,8 +25,8 @@ fn ascending(alloc: Global, jobs: &[u32]) -> Result<Vec<u32>, AllocError>
     Ok(copy)
 }
 
-// Whether a job is one of these.
-fn has_job(jobs: &[u32], job: u32) -> bool
+/// Whether a job is one of these.
+pub(crate) fn has_job(jobs: &[u32], job: u32) -> bool
     requires { IsNonDecreasing jobs.now }
     ensures { result ≡ has jobs.now job }
 {
@@ -171,17 +167,6 @@ fn add_waits(
         }
     }
     Ok(())
-}
-
-/// The numbers of a cycle's plan.
-pub(crate) fn mark_of(head: &Head) -> CycleMark
-    ensures { result ≡ mark_of (headed head.now (Tops 0 0)) }
-{
-    CycleMark {
-        value: head.value,
-        bound: head.bound,
-        mark: head.mark,
-    }
 }
 
 /// Adds the waiting grants of a slot, if it is the one that is asked for.

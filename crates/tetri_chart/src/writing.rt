@@ -10,14 +10,15 @@ ghost use Rattle.tetri_trace.specs.Scenario.{scenario};
 ghost use Rattle.tetri_trace.specs.Sound.{IsSound};
 
 use crate::back::add_back;
-use crate::bars::add_span;
+use crate::bars::{add_span, meeting};
 use crate::framing::framed;
 use crate::front::add_front;
 use crate::picture::{Chart, Span};
+use crate::view::View;
 use std::alloc::Global;
 use tetri_io::{Sink, send_all};
 use tetri_report::SendFault;
-use tetri_svg::Frame;
+use tetri_svg::{Clock, Frame};
 use tetri_trace::Trace;
 
 // Writes what stands before the bars, by one send.
@@ -25,19 +26,20 @@ fn send_front<K: Sink>(
     alloc: Global,
     trace: &Trace,
     frame: &Frame,
+    clock: Option<Clock>,
     pieces: usize,
     sink: &mut K,
 ) -> Result<(), SendFault>
     requires { IsSound (scenario trace.now) }
-    ensures ok { OnOk result (K.written sink.new ≡ append_known (K.written sink.old) (front_text (scenario trace.entry.now) frame.now pieces)) }
+    ensures ok { OnOk result (K.written sink.new ≡ append_known (K.written sink.old) (front_text (scenario trace.entry.now) frame.now clock pieces)) }
     ensures failed { IsErrOf result SendFault.Failed
-        → AppendsPart (K.written sink.old) (K.written sink.new) (front_text (scenario trace.entry.now) frame.now pieces) }
+        → AppendsPart (K.written sink.old) (K.written sink.new) (front_text (scenario trace.entry.now) frame.now clock pieces) }
     ensures memory { IsErrOf result SendFault.NoMemory → K.written sink.new ≡ K.written sink.old }
     ensures write { IsErrOf result SendFault.Failed → Rose (K.faults sink.old) (K.faults sink.new) }
     ensures later { K.faults sink.old ≤ K.faults sink.new }
 {
     let mut out = String::new(alloc);
-    add_front(alloc, &mut out, trace, frame, pieces)?;
+    add_front(alloc, &mut out, trace, frame, clock, pieces)?;
     send_all(sink, out.as_bytes())?;
     Ok(())
 }
@@ -109,25 +111,27 @@ fn send_back<K: Sink>(
     Ok(())
 }
 
-/// Writes the picture: what stands before the bars by one send, the bars of each piece by one more, and what stands behind them by one
+/// Writes the picture of these slots: what stands before the bars by one send, the bars of each piece by one more, and what stands behind them by one
 /// more. A fault leaves a proper front of the picture, and want of memory a front of it.
 pub fn draw<K: Sink>(
     alloc: Global,
     trace: &Trace,
     chart: &Chart,
+    view: View,
     sink: &mut K,
 ) -> Result<(), SendFault>
     requires { IsSound (scenario trace.now) }
-    ensures ok { OnOk result (K.written sink.new ≡ append_known (K.written sink.old) (svg_text (scenario trace.entry.now) chart.entry.now)) }
+    ensures ok { OnOk result (K.written sink.new ≡ append_known (K.written sink.old) (svg_text (scenario trace.entry.now) view chart.entry.now)) }
     ensures failed { IsErrOf result SendFault.Failed
-        → AppendsPart (K.written sink.old) (K.written sink.new) (svg_text (scenario trace.entry.now) chart.entry.now) }
+        → AppendsPart (K.written sink.old) (K.written sink.new) (svg_text (scenario trace.entry.now) view chart.entry.now) }
     ensures memory { IsErrOf result SendFault.NoMemory
-        → AppendsFront (K.written sink.old) (K.written sink.new) (svg_text (scenario trace.entry.now) chart.entry.now) }
+        → AppendsFront (K.written sink.old) (K.written sink.new) (svg_text (scenario trace.entry.now) view chart.entry.now) }
     ensures write { IsErrOf result SendFault.Failed → Rose (K.faults sink.old) (K.faults sink.new) }
     ensures later { K.faults sink.old ≤ K.faults sink.new }
 {
-    let frame = framed(trace, chart.asked);
-    match send_front(alloc, trace, &frame, chart.spans.len(), sink) {
+    let frame = framed(trace, chart, view);
+    let pieces = meeting(&frame, &chart.spans);
+    match send_front(alloc, trace, &frame, view.clock, pieces, sink) {
         Ok(()) => {}
         Err(stop) => return Err(stop),
     }

@@ -6,20 +6,22 @@ ghost use Rattle.std.specs.Prelude.{IfOk};
 use crate::named::{Shelf, open_report, open_trace};
 use crate::refusals::end_of;
 use crate::said::{USAGE, complain, end, no_memory};
-use clap::{Arg, ArgMatches};
+use clap::{Arg, ArgAction, ArgMatches};
 use std::alloc::{AllocError, Global};
-use tetri_accounts::{Account, Ledger, account_report};
-use tetri_figures::Format;
+use tetri_accounts::{Account, account_policy, account_report};
+use tetri_figures::{Bounds, Format, PricedSums};
 use tetri_io::{StdSink, send_all};
-use tetri_policy::{Policy, observe_policy};
-use tetri_run::{Status, status_of};
+use tetri_policy::Policy;
+use tetri_priced::{BySearch, Noting, Wanted};
+use tetri_run::{Status, check_seen, status_of};
 use tetri_trace::{Trace, read_trace};
 
-/// A run with its trace.
+/// A run with its trace, and what is known of the bounds of its cycles.
 #[derive(Drop)]
 pub struct Run {
     pub trace: Trace,
     pub account: Account,
+    pub bounds: Bounds,
 }
 
 /// The option that says how it is told.
@@ -49,6 +51,14 @@ pub fn policy_word<'a>(alloc: Global) -> Arg<'a> {
         .help("the run of the trace by a policy, in the place of a report")
 }
 
+/// The option that asks for figures of the bounds that prices make.
+pub fn prices_word<'a>(alloc: Global) -> Arg<'a> {
+    Arg::new(alloc, "prices")
+        .long("prices")
+        .action(ArgAction::SetTrue)
+        .help("the bounds of a report's cycles as prices of the nodes lower them, too")
+}
+
 /// The policy of a word.
 pub fn policy_of(word: &str) -> Policy {
     if word == "fcfs" {
@@ -56,15 +66,6 @@ pub fn policy_of(word: &str) -> Policy {
     } else {
         Policy::Backfill
     }
-}
-
-/// The account of the run of a trace by a policy.
-pub fn account_by(alloc: Global, trace: &Trace, policy: Policy) -> Result<Account, AllocError>
-    requires { IsSound (scenario trace.now) }
-{
-    let mut ledger = Ledger::new(alloc);
-    observe_policy(alloc, trace, policy, &mut ledger)?;
-    ledger.close(alloc, trace)
 }
 
 /// The trace that is ready to be read. Where it is refused, that is said, and the error is the exit number.
@@ -88,51 +89,86 @@ fn policy_run(
 {
     open_trace(rt, shelf, trace)?;
     let kept = kept_trace(rt, shelf, trace)?;
-    match account_by(rt.alloc(), &kept, policy) {
+    match account_policy(rt.alloc(), &kept, policy) {
         Ok(account) => Ok(Run {
             trace: kept,
             account,
+            bounds: Bounds::Absent,
         }),
         Err(AllocError) => Err(no_memory(rt)),
     }
 }
 
-/// The account of a report that is accepted, of a trace that is ready to be read. Where there is none, that is said, and the error is the
-/// exit number.
+// What prices make of the bounds of a report that can be read. Where it is refused, that is said, and the error is the exit number.
+fn priced_bounds(
+    rt: &HostRuntime,
+    shelf: &mut Shelf<'_>,
+    trace: &str,
+    report: &str,
+) -> Result<Bounds, u8> {
+    let alloc = rt.alloc();
+    let mut noting = Noting::new(alloc, Wanted::ALL, BySearch);
+    match check_seen(alloc, trace, report, shelf, &mut noting) {
+        Ok(_trace) => Ok(Bounds::Priced(PricedSums::of(noting.cycles()))),
+        Err(status) => Err(end_of(rt, shelf, &status, trace, report)),
+    }
+}
+
+/// The account of a report that is accepted, of a trace that is ready to be read, with what prices make of its bounds where that is asked
+/// for. Where there is none, that is said, and the error is the exit number.
 pub fn report_account(
     rt: &HostRuntime,
     shelf: &mut Shelf<'_>,
     trace: &str,
     report: &str,
+    prices: bool,
 ) -> Result<Run, u8>
     ensures { IfOk result (λ r. IsSound (scenario r.trace)) }
 {
     open_report(rt, shelf, report)?;
-    match account_report(rt.alloc(), trace, report, shelf) {
-        Ok((trace, account)) => Ok(Run { trace, account }),
-        Err(status) => Err(end_of(rt, shelf, &status, trace, report)),
-    }
+    let (kept, account) = match account_report(rt.alloc(), trace, report, shelf) {
+        Ok(both) => both,
+        Err(status) => return Err(end_of(rt, shelf, &status, trace, report)),
+    };
+    let bounds = if prices {
+        priced_bounds(rt, shelf, trace, report)?
+    } else {
+        Bounds::Printed
+    };
+    Ok(Run {
+        trace: kept,
+        account,
+        bounds,
+    })
 }
 
 // The account of a report that is accepted. Where there is none, that is said, and the error is the exit number.
-fn account_of(rt: &HostRuntime, shelf: &mut Shelf<'_>, trace: &str, report: &str) -> Result<Run, u8>
+fn account_of(
+    rt: &HostRuntime,
+    shelf: &mut Shelf<'_>,
+    trace: &str,
+    report: &str,
+    prices: bool,
+) -> Result<Run, u8>
     ensures { IfOk result (λ r. IsSound (scenario r.trace)) }
 {
     open_trace(rt, shelf, trace)?;
-    report_account(rt, shelf, trace, report)
+    report_account(rt, shelf, trace, report, prices)
 }
 
-/// The account of the report or of the policy that the words name. Where there is none, that is said, and the error is the exit number.
+/// The account of the report or of the policy that the words name, with what prices make of the bounds of a report where that is asked for.
+/// Where there is none, that is said, and the error is the exit number.
 pub fn account_in(
     rt: &HostRuntime,
     shelf: &mut Shelf<'_>,
     words: &ArgMatches<'_>,
+    prices: bool,
 ) -> Result<Run, u8>
     ensures { IfOk result (λ r. IsSound (scenario r.trace)) }
 {
     let trace = words.get_str("TRACE").unwrap_or("");
     match (words.get_str("REPORT"), words.get_str("policy")) {
-        (Some(report), None) => account_of(rt, shelf, trace, report),
+        (Some(report), None) => account_of(rt, shelf, trace, report, prices),
         (None, Some(word)) => policy_run(rt, shelf, trace, policy_of(word)),
         _ => {
             complain(rt, trace, "either a report or a policy is told of");

@@ -12,6 +12,8 @@ pub struct Asked<'a> {
     pub options: Options,
     /// The file for the lines that are left out.
     pub rejects: Option<&'a str>,
+    /// The file with a line for each node.
+    pub nodes_file: Option<&'a str>,
 }
 
 // An option that holds a number.
@@ -91,6 +93,22 @@ fn with_jobs<'a>(alloc: Global, command: Command<'a>) -> Result<Command<'a>, All
         ))
 }
 
+// With the nodes where they differ.
+fn with_nodes<'a>(alloc: Global, command: Command<'a>) -> Result<Command<'a>, AllocError> {
+    let file = Arg::new(alloc, "nodes-file")
+        .long("nodes-file")
+        .value_name("FILE")
+        .help(
+            "the nodes with their partitions and features: what sinfo -a -h -N -o '%N\\t%T\\t%P\\t%f' prints",
+        );
+    let partition = Arg::new(alloc, "partition")
+        .long("partition")
+        .value_name("NAME=HOSTS")
+        .action(ArgAction::Append)
+        .help("the nodes of a partition, as batch=n[1-8]; once for each");
+    command.arg(file)?.arg(partition)
+}
+
 // With what is asked of jobs that share nodes, and of lines that are left out.
 fn with_rejects<'a>(alloc: Global, command: Command<'a>) -> Result<Command<'a>, AllocError> {
     let whole = Arg::new(alloc, "whole-nodes-only")
@@ -117,7 +135,8 @@ pub fn import_command<'a>(alloc: Global) -> Result<Command<'a>, AllocError> {
         .after_help("Example: tetri_ctl import swf cluster.swf --slack 12 > cluster.jsonl")
         .arg(format)?
         .arg(log)?;
-    with_rejects(alloc, with_jobs(alloc, with_cycles(alloc, command)?)?)
+    let command = with_nodes(alloc, with_cycles(alloc, command)?)?;
+    with_rejects(alloc, with_jobs(alloc, command)?)
 }
 
 fn number_of(matches: &ArgMatches, name: &str) -> Option<u32> {
@@ -183,5 +202,6 @@ pub fn asked_of<'a>(matches: &ArgMatches<'a>) -> Option<Asked<'a>> {
         log: matches.get_str("LOG").unwrap_or(""),
         options,
         rejects: matches.get_str("rejects"),
+        nodes_file: matches.get_str("nodes-file"),
     })
 }

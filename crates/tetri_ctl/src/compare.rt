@@ -4,14 +4,14 @@ ghost use Rattle.tetri_trace.specs.Scenario.{scenario};
 ghost use Rattle.tetri_trace.specs.Sound.{IsSound};
 
 use crate::accounted::{
-    account_by, format_of, format_word, kept_trace, policy_of, policy_word, report_account, send,
+    format_of, format_word, kept_trace, policy_of, policy_word, prices_word, report_account, send,
 };
 use crate::named::{Shelf, open_trace, trace_word};
 use crate::said::{USAGE, complain, no_memory};
 use clap::{Arg, ArgAction, ArgMatches, Command};
 use std::alloc::{AllocError, Global};
-use tetri_accounts::Account;
-use tetri_figures::{Compared, compare_text};
+use tetri_accounts::{Account, account_policy};
+use tetri_figures::{Bounds, Compared, compare_text};
 use tetri_trace::Trace;
 
 /// The words of the command.
@@ -25,6 +25,7 @@ pub fn command<'a>(alloc: Global) -> Result<Command<'a>, AllocError> {
         .arg(trace_word(alloc))?
         .arg(reports)?
         .arg(policy_word(alloc).action(ArgAction::Append))?
+        .arg(prices_word(alloc))?
         .arg(format_word(alloc))
 }
 
@@ -33,10 +34,15 @@ fn put(
     alloc: Global,
     name: &str,
     account: Account,
+    bounds: Bounds,
     runs: &mut Vec<Compared>,
 ) -> Result<(), AllocError> {
     let name = String::from_str(alloc, name)?;
-    runs.push(Compared { name, account })?;
+    runs.push(Compared {
+        name,
+        account,
+        bounds,
+    })?;
     Ok(())
 }
 
@@ -46,10 +52,11 @@ fn put_report(
     shelf: &mut Shelf<'_>,
     trace: &str,
     report: &str,
+    prices: bool,
     runs: &mut Vec<Compared>,
 ) -> Result<(), u8> {
-    let run = report_account(rt, shelf, trace, report)?;
-    match put(rt.alloc(), report, run.account, runs) {
+    let run = report_account(rt, shelf, trace, report, prices)?;
+    match put(rt.alloc(), report, run.account, run.bounds, runs) {
         Ok(()) => Ok(()),
         Err(AllocError) => Err(no_memory(rt)),
     }
@@ -64,8 +71,8 @@ fn put_policy(
 ) -> Result<(), AllocError>
     requires { IsSound (scenario trace.now) }
 {
-    let account = account_by(alloc, trace, policy_of(word))?;
-    put(alloc, word, account, runs)
+    let account = account_policy(alloc, trace, policy_of(word))?;
+    put(alloc, word, account, Bounds::Absent, runs)
 }
 
 // Puts the accounts of the runs by policies to the others.
@@ -89,6 +96,7 @@ fn accounts_of(
     trace: &str,
     reports: &[&str],
     policies: &[&str],
+    prices: bool,
 ) -> Result<(Trace, Vec<Compared>), u8>
     ensures { IfOk result (λ r. IsSound (scenario r.0)) }
 {
@@ -97,7 +105,7 @@ fn accounts_of(
     let kept = kept_trace(rt, &mut shelf, trace)?;
     let mut runs = Vec::new(rt.alloc());
     for report in reports {
-        put_report(rt, &mut shelf, trace, report, &mut runs)?;
+        put_report(rt, &mut shelf, trace, report, prices, &mut runs)?;
     }
     match put_policies(rt.alloc(), &kept, policies, &mut runs) {
         Ok(()) => Ok((kept, runs)),
@@ -114,7 +122,7 @@ pub fn run(rt: &HostRuntime, words: &ArgMatches<'_>) -> u8 {
         complain(rt, trace, "neither a report nor a policy is named");
         return USAGE;
     }
-    match accounts_of(rt, trace, reports, policies) {
+    match accounts_of(rt, trace, reports, policies, words.get_flag("prices")) {
         Ok((kept, runs)) => {
             let text = compare_text(rt.alloc(), &kept, &runs, format_of(words));
             send(rt, text)

@@ -4,11 +4,14 @@ use crate::said::{NO_MEMORY, READ_FAULT, REFUSED, USAGE, WRITE_FAULT, complain, 
 use clap::{ArgMatches, Command};
 use std::alloc::{AllocError, Global};
 use std::fs;
+use tetri_cluster::NodeText;
+use tetri_hosts::{HostsFault, NodeFate, read_nodes};
 use tetri_io::{StdSink, send_all};
 use tetri_logs::{Cause, Reject};
 use tetri_pipes::{Unread, read_whole};
 use tetri_workload::{
-    ImportFault, Imported, counts_text, fault_text, import, reason_text, rejects_text,
+    ImportFault, Imported, add_partition, counts_text, fault_text, import, reason_text,
+    rejects_text,
 };
 
 /// The words of the command.
@@ -95,7 +98,9 @@ fn write_out(
     let status = write_trace(rt, imported);
     if status == 0 {
         let _told = rt.eprint(counts.as_str());
-        complain(rt, asked.log, "all nodes are taken as alike");
+        if !imported.mixed {
+            complain(rt, asked.log, "all nodes are taken as alike");
+        }
     }
     Ok(status)
 }
@@ -113,13 +118,105 @@ fn refuse(rt: &HostRuntime, name: &str, fault: ImportFault) -> u8 {
     }
 }
 
+// The first line that tells of no node, counted from 1.
+fn first_unread(fates: &[NodeFate]) -> Option<usize> {
+    for (place, fate) in fates.iter().enumerate() {
+        if *fate == NodeFate::Unread {
+            return Some(place.saturating_add(1));
+        }
+    }
+    None
+}
+
+// The nodes that lines tell of. Where they tell of none, or a line is no such line, that is said, and the error is the exit number.
+fn nodes_in(rt: &HostRuntime, name: &str, lines: &[u8]) -> Result<Vec<NodeText>, u8> {
+    let Ok(read) = read_nodes(rt.alloc(), lines) else {
+        return Err(refuse(rt, name, ImportFault::NoMemory));
+    };
+    if let Some(line) = first_unread(&read.fates) {
+        let _said = eprintln!(rt; "tetri_ctl: {name}: line {line} tells of no node");
+        return Err(USAGE);
+    }
+    if read.nodes.is_empty() {
+        complain(rt, name, "there are 1 to 4096 nodes");
+        return Err(USAGE);
+    }
+    Ok(read.nodes)
+}
+
+// The nodes of a file. Where it cannot be read, that is said, and the error is the exit number.
+fn nodes_of_file(rt: &HostRuntime, name: &str) -> Result<Vec<NodeText>, u8> {
+    match log_of(rt, name) {
+        Ok(lines) => nodes_in(rt, name, &lines),
+        Err(why) => Err(unread(rt, name, &why, READ_FAULT)),
+    }
+}
+
+// Adds the lines of a partition's nodes. Where it is none, that is said, and the error is the exit number.
+fn add_given(rt: &HostRuntime, lines: &mut Vec<u8>, given: &str) -> Result<(), u8> {
+    let (name, hosts) = given.split_once('=').unwrap_or((given, ""));
+    match add_partition(rt.alloc(), lines, name.as_bytes(), hosts.as_bytes()) {
+        Ok(()) => Ok(()),
+        Err(HostsFault::NoMemory) => Err(refuse(rt, given, ImportFault::NoMemory)),
+        Err(HostsFault::NotHosts | HostsFault::TooMany) => {
+            complain(
+                rt,
+                given,
+                "a partition is NAME=HOSTS, as batch=n[1-8], with 4096 hosts at most",
+            );
+            Err(USAGE)
+        }
+    }
+}
+
+// The nodes of partitions.
+fn nodes_of_partitions(rt: &HostRuntime, partitions: &[&str]) -> Result<Vec<NodeText>, u8> {
+    let mut lines = Vec::new(rt.alloc());
+    for given in partitions {
+        add_given(rt, &mut lines, given)?;
+    }
+    nodes_in(rt, "--partition", &lines)
+}
+
+// The nodes that are given, none where all are alike. Where they cannot be had, that is said, and the error is the exit number.
+fn nodes_of(rt: &HostRuntime, asked: &Asked, partitions: &[&str]) -> Result<Vec<NodeText>, u8> {
+    let counted = asked.options.nodes.is_some();
+    let listed = asked.nodes_file.is_some();
+    let parted = !partitions.is_empty();
+    if (counted && (listed || parted)) || (listed && parted) {
+        complain(
+            rt,
+            "import",
+            "give one of --nodes, --nodes-file and --partition",
+        );
+        return Err(USAGE);
+    }
+    match asked.nodes_file {
+        Some("-") if asked.log == "-" => {
+            complain(rt, "import", "one of two files can be -");
+            Err(USAGE)
+        }
+        Some(name) => nodes_of_file(rt, name),
+        None if partitions.is_empty() => Ok(Vec::new(rt.alloc())),
+        None => nodes_of_partitions(rt, partitions),
+    }
+}
+
 // Imports what is asked for, and gives the exit number.
-fn run_asked(rt: &HostRuntime, asked: &Asked) -> u8 {
+fn run_asked(rt: &HostRuntime, asked: &Asked, partitions: &[&str]) -> u8 {
+    match nodes_of(rt, asked, partitions) {
+        Ok(nodes) => run_on(rt, asked, &nodes),
+        Err(status) => status,
+    }
+}
+
+// The same on these nodes, or on nodes that are alike where none is given.
+fn run_on(rt: &HostRuntime, asked: &Asked, nodes: &[NodeText]) -> u8 {
     let log = match log_of(rt, asked.log) {
         Ok(log) => log,
         Err(why) => return unread(rt, asked.log, &why, READ_FAULT),
     };
-    match import(rt.alloc(), asked.format, &asked.options, &log) {
+    match import(rt.alloc(), asked.format, &asked.options, nodes, &log) {
         Ok(imported) => match write_out(rt, asked, &log, &imported) {
             Ok(status) => status,
             Err(AllocError) => refuse(rt, asked.log, ImportFault::NoMemory),
@@ -131,7 +228,10 @@ fn run_asked(rt: &HostRuntime, asked: &Asked) -> u8 {
 /// Imports what the words name, and gives the exit number.
 pub fn run(rt: &HostRuntime, words: &ArgMatches<'_>) -> u8 {
     match asked_of(words) {
-        Some(asked) => run_asked(rt, &asked),
+        Some(asked) => {
+            let partitions = words.get_strs("partition").unwrap_or(&[]);
+            run_asked(rt, &asked, partitions)
+        }
         None => {
             let what = "a time is a number of seconds, or as 2024-05-01T12:34:56";
             complain(rt, "import", what);

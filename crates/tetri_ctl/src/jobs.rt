@@ -19,11 +19,12 @@ pub fn command<'a>(alloc: Global) -> Result<Command<'a>, AllocError> {
 /// Tells of what the words name, and gives the exit number.
 pub fn run(rt: &HostRuntime, words: &ArgMatches<'_>) -> u8 {
     let mut shelf = Shelf::new(rt.alloc(), rt);
-    match account_in(rt, &mut shelf, words) {
+    match account_in(rt, &mut shelf, words, false) {
         Ok(
             Run {
                 trace: kept,
                 account,
+                ..
             },
         ) => {
             let rows = account.rows.as_slice();

@@ -9,7 +9,8 @@ use tetri_io::{StdSink, parts_at, send_all};
 use tetri_logs::seconds_in;
 use tetri_pipes::{Unread, read_whole};
 use tetri_queue::{
-    Asked, Fate, Queue, QueueFault, QueueWorth, counts_text, fate_word, fault_text, queue_trace,
+    Asked, Fate, Queue, QueueFault, QueueTexts, QueueWorth, counts_text, fate_word, fault_text,
+    queue_trace,
 };
 use tetri_request::Class;
 
@@ -34,6 +35,11 @@ fn number<'a>(alloc: Global, name: &'a str, help: &'a str) -> Arg<'a> {
 fn with_files<'a>(alloc: Global, command: Command<'a>) -> Result<Command<'a>, AllocError> {
     command
         .arg(file(alloc, "jobs", "the lines of squeue, a file or -").required(true))?
+        .arg(file(
+            alloc,
+            "arrays",
+            "the pending arrays, as 6_[0-3%2], which squeue prints without -r, a file or -",
+        ))?
         .arg(file(alloc, "nodes", "the lines of sinfo, a file or -").required(true))?
         .arg(file(
             alloc,
@@ -209,9 +215,16 @@ fn refuse(rt: &HostRuntime, fault: QueueFault) -> u8 {
 // Writes the trace of what the words name, and gives the exit number.
 fn run_asked(rt: &HostRuntime, asked: &Asked, words: &ArgMatches<'_>) -> Result<u8, u8> {
     let jobs = read(rt, words.get_str("jobs"))?;
+    let arrays = read(rt, words.get_str("arrays"))?;
     let nodes = read(rt, words.get_str("nodes"))?;
     let reservations = read(rt, words.get_str("reservations"))?;
-    match queue_trace(rt.alloc(), asked, &jobs, &nodes, &reservations) {
+    let texts = QueueTexts {
+        jobs: &jobs,
+        arrays: &arrays,
+        nodes: &nodes,
+        reservations: &reservations,
+    };
+    match queue_trace(rt.alloc(), asked, texts) {
         Ok(queue) => match write_out(rt, &jobs, words.get_str("rejects"), &queue) {
             Ok(number) => Ok(number),
             Err(AllocError) => Err(refuse(rt, QueueFault::NoMemory)),

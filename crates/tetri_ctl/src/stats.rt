@@ -2,7 +2,7 @@
 ghost use Rattle.tetri_trace.specs.Scenario.{scenario};
 ghost use Rattle.tetri_trace.specs.Sound.{IsSound};
 
-use crate::accounted::{Run, account_in, format_of, format_word, policy_word, send};
+use crate::accounted::{Run, account_in, format_of, format_word, policy_word, prices_word, send};
 use crate::named::{Shelf, report_word, trace_word};
 use clap::{Arg, ArgMatches, Command};
 use std::alloc::{AllocError, Global};
@@ -22,6 +22,7 @@ pub fn command<'a>(alloc: Global) -> Result<Command<'a>, AllocError> {
         .arg(report_word(alloc).required(false))?
         .arg(policy_word(alloc))?
         .arg(by)?
+        .arg(prices_word(alloc))?
         .arg(format_word(alloc))
 }
 
@@ -45,14 +46,22 @@ fn text_of(
 {
     let tags = tags_of(alloc, shelf, trace)?;
     let (by, format) = (by_of(words), format_of(words));
-    stats_text(alloc, &run.trace, &run.account, by, &tags, format)
+    stats_text(
+        alloc,
+        &run.trace,
+        &run.account,
+        run.bounds,
+        by,
+        &tags,
+        format,
+    )
 }
 
 /// Tells of what the words name, and gives the exit number.
 pub fn run(rt: &HostRuntime, words: &ArgMatches<'_>) -> u8 {
     let trace = words.get_str("TRACE").unwrap_or("");
     let mut shelf = Shelf::new(rt.alloc(), rt);
-    match account_in(rt, &mut shelf, words) {
+    match account_in(rt, &mut shelf, words, words.get_flag("prices")) {
         Ok(run) => send(rt, text_of(rt.alloc(), &mut shelf, &run, trace, words)),
         Err(number) => number,
     }

@@ -1,12 +1,17 @@
-// Accounts of reports as text, over memory. A table gives traces and reports, and below them wants what is told of them: by a section
-// `jobs FORMAT`, `stats FORMAT BY` or `compare FORMAT`, which has the text, or the words of what refuses the report.
+// Accounts as text, over memory. A table gives traces and reports, and below them wants what is told of them: by a section `jobs FORMAT`,
+// `stats FORMAT BY` or `compare FORMAT`, which has the text, or the words of what refuses the report; by `priced FORMAT BY`, the figures with
+// those of the bounds that prices make; and by `fcfs FORMAT BY` or `easy FORMAT BY`, the figures of the trace's run by that policy.
 use std::alloc::{AllocError, Global};
 use std::fmt::Write;
-use tetri_accounts::{Account, account_report};
-use tetri_figures::{By, Compared, Format, compare_text, jobs_text, stats_text, tags_of};
+use tetri_accounts::{Account, account_policy, account_report};
+use tetri_figures::{
+    Bounds, By, Compared, Format, PricedSums, compare_text, jobs_text, stats_text, tags_of,
+};
 use tetri_io::{MemShelf, MemSink};
-use tetri_run::{Status, conclude};
-use tetri_tables::{Given, Tally, sections_of, text_in};
+use tetri_policy::Policy;
+use tetri_priced::{BySearch, Noting, Wanted};
+use tetri_run::{Status, check_seen, conclude};
+use tetri_tables::{Given, Tally, answer, sections_of, text_in};
 
 fn format_of(word: &str) -> Format {
     match word {
@@ -38,7 +43,12 @@ fn put(
     runs: &mut Vec<Compared>,
 ) -> Result<(), AllocError> {
     let name = String::from_str(alloc, name)?;
-    runs.push(Compared { name, account })?;
+    let bounds = Bounds::Printed;
+    runs.push(Compared {
+        name,
+        account,
+        bounds,
+    })?;
     Ok(())
 }
 
@@ -81,12 +91,58 @@ fn crowd_told(alloc: Global, jobs: u32) -> Result<String, AllocError> {
     format!(in alloc; "{lines} lines, {bytes} bytes")
 }
 
-// What is told of a report, by these words.
+// The last two lines of the figures of such a crowd, those of the bounds that prices make.
+fn crowd_priced(alloc: Global, jobs: u32) -> Result<String, AllocError> {
+    let given = crowd(alloc, jobs)?;
+    let text = told(alloc, &given, "priced table")?;
+    let all = text_in(alloc, &text)?;
+    let mut lines = String::new(alloc);
+    for line in all.as_str().lines() {
+        if line.starts_with("priced ") {
+            lines.push_str(line)?;
+            lines.push_str("\n")?;
+        }
+    }
+    Ok(lines)
+}
+
+// The figures of the run of a trace by a policy.
+fn told_by(
+    alloc: Global,
+    given: &Given,
+    policy: Policy,
+    by: By,
+    format: Format,
+) -> Result<Vec<u8>, AllocError> {
+    let mut shelf = shelf_of(alloc, given)?;
+    let Ok(trace) = answer(alloc, given.trace.as_bytes())? else {
+        return Vec::from_slice(alloc, b"the trace is not read");
+    };
+    let account = account_policy(alloc, &trace, policy)?;
+    let tags = tags_of(alloc, &mut shelf, "trace")?;
+    stats_text(alloc, &trace, &account, Bounds::Absent, by, &tags, format)
+}
+
+// What prices make of the bounds of a report that is accepted.
+fn priced_in(alloc: Global, shelf: &mut MemShelf) -> Bounds {
+    let mut noting = Noting::new(alloc, Wanted::ALL, BySearch);
+    match check_seen(alloc, "trace", "report", shelf, &mut noting) {
+        Ok(_trace) => Bounds::Priced(PricedSums::of(noting.cycles())),
+        Err(_) => Bounds::Printed,
+    }
+}
+
+// What is told by these words.
 fn told(alloc: Global, given: &Given, kind: &str) -> Result<Vec<u8>, AllocError> {
     let mut words = kind.split(' ');
     let what = words.next().unwrap_or("");
     let format = format_of(words.next().unwrap_or(""));
     let by = by_of(words.next().unwrap_or(""));
+    match what {
+        "fcfs" => return told_by(alloc, given, Policy::FirstCome, by, format),
+        "easy" => return told_by(alloc, given, Policy::Backfill, by, format),
+        _ => {}
+    }
     let mut shelf = shelf_of(alloc, given)?;
     let (trace, first) = match account_report(alloc, "trace", "report", &mut shelf) {
         Ok(both) => both,
@@ -96,7 +152,12 @@ fn told(alloc: Global, given: &Given, kind: &str) -> Result<Vec<u8>, AllocError>
         "jobs" => jobs_text(alloc, &trace, first.rows.as_slice(), format),
         "stats" => {
             let tags = tags_of(alloc, &mut shelf, "trace")?;
-            stats_text(alloc, &trace, &first, by, &tags, format)
+            stats_text(alloc, &trace, &first, Bounds::Printed, by, &tags, format)
+        }
+        "priced" => {
+            let bounds = priced_in(alloc, &mut shelf);
+            let tags = tags_of(alloc, &mut shelf, "trace")?;
+            stats_text(alloc, &trace, &first, bounds, by, &tags, format)
         }
         _ => {
             let second = match account_report(alloc, "trace", "report", &mut shelf) {
@@ -119,6 +180,9 @@ pub fn judge(alloc: Global, table: &str) -> Result<Tally, AllocError> {
         if let Some(jobs) = kind.strip_prefix("crowd ") {
             let found = crowd_told(alloc, jobs.parse::<u32>().unwrap_or(0))?;
             tally.expect(kind, found.as_str(), body)?;
+        } else if let Some(jobs) = kind.strip_prefix("priced-crowd ") {
+            let found = crowd_priced(alloc, jobs.parse::<u32>().unwrap_or(0))?;
+            tally.expect(kind, found.as_str().trim_end_matches('\n'), body)?;
         } else if !given.take(alloc, kind, body)? {
             let found = told(alloc, &given, kind)?;
             let text = text_in(alloc, &found)?;

@@ -3,7 +3,8 @@ use std::alloc::{AllocError, Global};
 use tetri_hosts::{HostsFault, expand};
 use tetri_io::MemShelf;
 use tetri_queue::{
-    Asked, Launches, OrderForm, QueueWorth, counts_text, fault_text, orders_text, queue_trace,
+    Asked, Launches, OrderForm, QueueTexts, QueueWorth, counts_text, fault_text, orders_text,
+    queue_trace,
 };
 use tetri_request::Class;
 use tetri_run::check_seen;
@@ -13,6 +14,7 @@ use tetri_tables::{Given, Tally, expand as bytes_of, sections_of};
 #[derive(Drop)]
 struct Texts {
     jobs: Vec<u8>,
+    arrays: Vec<u8>,
     nodes: Vec<u8>,
     reservations: Vec<u8>,
     given: Given,
@@ -62,13 +64,13 @@ fn asked_of(words: &str) -> Asked {
 // The trace of a queue with the counts behind it, or why there is none.
 fn told(alloc: Global, texts: &Texts, words: &str) -> Result<String, AllocError> {
     let asked = asked_of(words);
-    match queue_trace(
-        alloc,
-        &asked,
-        &texts.jobs,
-        &texts.nodes,
-        &texts.reservations,
-    ) {
+    let lines = QueueTexts {
+        jobs: &texts.jobs,
+        arrays: &texts.arrays,
+        nodes: &texts.nodes,
+        reservations: &texts.reservations,
+    };
+    match queue_trace(alloc, &asked, lines) {
         Ok(queue) => {
             let mut text = String::from_str(alloc, queue.trace.as_str())?;
             let counts = counts_text(alloc, &queue)?;
@@ -134,6 +136,7 @@ fn judge_section(
     let (word, more) = kind.split_once(": ").unwrap_or((kind, ""));
     match word {
         "jobs" => texts.jobs = bytes_of(alloc, body)?,
+        "arrays" => texts.arrays = bytes_of(alloc, body)?,
         "nodes" => texts.nodes = bytes_of(alloc, body)?,
         "reservations" => texts.reservations = bytes_of(alloc, body)?,
         "hosts" => hosts_rows(alloc, tally, more, body)?,
@@ -164,6 +167,7 @@ pub fn judge(alloc: Global, table: &str) -> Result<Tally, AllocError> {
     let mut tally = Tally::new(alloc);
     let mut texts = Texts {
         jobs: Vec::new(alloc),
+        arrays: Vec::new(alloc),
         nodes: Vec::new(alloc),
         reservations: Vec::new(alloc),
         given: Given::new(alloc),

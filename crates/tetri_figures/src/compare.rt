@@ -2,11 +2,12 @@
 ghost use Rattle.tetri_trace.specs.Scenario.{scenario};
 ghost use Rattle.tetri_trace.specs.Sound.{IsSound};
 
+use crate::bounds::Bounds;
 use crate::cells::{maybe_cell, number_cell, text_cell};
 use crate::columns::{Column, columns_text};
 use crate::format::Format;
 use crate::groups::tops_of;
-use crate::stats::{names_of, whole_column};
+use crate::stats::{are_priced, names_of, whole_column};
 use std::alloc::{AllocError, Global};
 use tetri_accounts::{Account, job_name};
 use tetri_trace::Trace;
@@ -14,11 +15,12 @@ use tetri_trace::Trace;
 // How many jobs are told whose start moved.
 const MOVED_MOST: usize = 10;
 
-/// A run with its name.
+/// A run with its name, and what is known of the bounds of its cycles.
 #[derive(Drop)]
 pub struct Compared {
     pub name: String,
     pub account: Account,
+    pub bounds: Bounds,
 }
 
 // A job, and by how much its start moves among the runs.
@@ -147,11 +149,13 @@ pub fn compare_text(
     requires { IsSound (scenario trace.now) }
 {
     let tops = tops_of(alloc, trace)?;
-    let names = names_of(alloc)?;
+    let priced = runs.iter().any(|run| are_priced(run.bounds));
+    let names = names_of(alloc, priced)?;
     let mut columns = Vec::new(alloc);
     for run in runs {
         let name = run.name.as_str();
-        columns.push(whole_column(alloc, trace, &run.account, &tops, name)?)?;
+        let column = whole_column(alloc, trace, &run.account, run.bounds, &tops, name)?;
+        columns.push(column)?;
     }
     let mut text = columns_text(alloc, "figure", &names, &columns, format)?;
     if format != Format::Lines {

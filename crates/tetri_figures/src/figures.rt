@@ -1,8 +1,12 @@
 // Figures of rows of an account.
+ghost use Rattle.std.specs.Prelude.{option_map};
+ghost use Rattle.tetri_figures.specs.Figures.{AreCounts};
+ghost use Rattle.tetri_trace.specs.Scenario.{scenario};
+
 use crate::cells::{NOTHING, mean_cell, number_cell, quotient, text_cell, thousandths_cell};
+use crate::sums::{Part, greatest_wait, is_picked, node_slots, offered, sum_over};
 use std::alloc::{AllocError, Global};
 use tetri_accounts::{Account, Outcome, Row, wait_of};
-use tetri_state::Piece;
 use tetri_trace::Trace;
 
 /// The names of the figures of rows.
@@ -28,9 +32,6 @@ pub(crate) const FIGURES: [&str; 19] = [
     "worth offered",
 ];
 
-// A launch is as long as this many slots at least, where its slowdown is told.
-const SLOWDOWN_BOUND: u32 = 10;
-
 /// Which rows, jobs and nodes are counted: by place, by number and by number. Without nodes all are.
 #[derive(Clone, Copy)]
 pub(crate) struct Picked<'a> {
@@ -46,138 +47,74 @@ pub(crate) struct Known<'a> {
     pub(crate) last: u32,
 }
 
-// What is counted.
-#[derive(Drop)]
-struct Counts {
-    outcomes: Vec<u64>,
-    waits: Vec<u32>,
-    slowdowns: u128,
-    ended: u64,
-    used: u128,
-    launched: u128,
-    kept: u128,
+/// What is counted of rows.
+#[derive(Clone, Copy, Debug, PartialEq, Eq)]
+pub(crate) struct Counts {
+    /// The rows of each outcome, in the order of the figures.
+    pub(crate) outcomes: [u128; 7],
+    /// The launches.
+    pub(crate) launches: u128,
+    /// The slots that they waited.
+    pub(crate) waited: u128,
+    /// The greatest wait.
+    pub(crate) greatest: u64,
+    /// The launches that ended by themselves.
+    pub(crate) ended: u128,
+    /// Their slowdowns, in thousandths.
+    pub(crate) slowdowns: u128,
+    /// The node slots that pieces took.
+    pub(crate) used: u128,
+    /// What launches were worth.
+    pub(crate) launched: u128,
+    /// The same, but for those that failed or were cancelled.
+    pub(crate) kept: u128,
+    /// The tops of the jobs.
+    pub(crate) offered: u128,
 }
 
-// The place of an outcome among the figures.
-fn outcome_place(outcome: Outcome) -> usize {
-    match outcome {
-        Outcome::Ran => 0,
-        Outcome::Overran => 1,
-        Outcome::Failed => 2,
-        Outcome::Cancelled => 3,
-        Outcome::Expired => 4,
-        Outcome::Waiting => 5,
-        Outcome::Running => 6,
+// The counts of the rows that are picked.
+fn counts_of(trace: &Trace, rows: &[Row], picked: Picked<'_>, tops: &[u64]) -> Counts
+    ensures { AreCounts (scenario trace.entry.now) picked.entry.rows.now picked.entry.jobs.now (option_map (λ m. m.now) picked.entry.nodes)
+        rows.entry.now tops.entry.now result }
+{
+    let marks = picked.rows;
+    Counts {
+        outcomes: [
+            sum_over(trace, rows, marks, Part::With(Outcome::Ran)),
+            sum_over(trace, rows, marks, Part::With(Outcome::Overran)),
+            sum_over(trace, rows, marks, Part::With(Outcome::Failed)),
+            sum_over(trace, rows, marks, Part::With(Outcome::Cancelled)),
+            sum_over(trace, rows, marks, Part::With(Outcome::Expired)),
+            sum_over(trace, rows, marks, Part::With(Outcome::Waiting)),
+            sum_over(trace, rows, marks, Part::With(Outcome::Running)),
+        ],
+        launches: sum_over(trace, rows, marks, Part::Launches),
+        waited: sum_over(trace, rows, marks, Part::Waits),
+        greatest: greatest_wait(trace, rows, marks),
+        ended: sum_over(trace, rows, marks, Part::Ended),
+        slowdowns: sum_over(trace, rows, marks, Part::Slowdowns),
+        used: node_slots(trace, rows, marks, picked.nodes),
+        launched: sum_over(trace, rows, marks, Part::Worth),
+        kept: sum_over(trace, rows, marks, Part::Kept),
+        offered: offered(picked.jobs, tops),
     }
 }
 
-/// Whether what stands at a place is picked.
-pub(crate) fn is_picked(picked: &[bool], place: usize) -> bool {
-    picked.get(place).copied().unwrap_or(false)
-}
-
-// How many of the nodes are counted.
-fn counted_nodes(nodes: &[u32], counted: Option<&[bool]>) -> u128 {
-    match counted {
-        None => nodes.len() as u128,
-        Some(counted) => nodes
-            .iter()
-            .filter(|n| is_picked(counted, **n as usize))
-            .count() as u128,
-    }
-}
-
-// The node slots that a piece took up to this slot.
-fn used_by(piece: &Piece, end: u32, counted: Option<&[bool]>) -> u128 {
-    let slots = piece.real.min(end).saturating_sub(piece.started);
-    counted_nodes(piece.nodes.as_slice(), counted).saturating_mul(u128::from(slots))
-}
-
-// How many times as long as it ran a launch took from its arrival to its end, in thousandths, rounded down: at least once, and as if it
-// had run for the bound at least.
-fn slowdown_of(wait: u32, ran: u32) -> u64 {
-    let took = (u64::from(wait) + u64::from(ran)) * 1000;
-    (took / u64::from(ran.max(SLOWDOWN_BOUND))).max(1000)
-}
-
-impl Counts {
-    fn new(alloc: Global) -> Result<Counts, AllocError> {
-        Ok(Counts {
-            outcomes: vec![in alloc; 0u64; 7]?,
-            waits: Vec::new(alloc),
-            slowdowns: 0,
-            ended: 0,
-            used: 0,
-            launched: 0,
-            kept: 0,
-        })
-    }
-
-    // Counts an outcome.
-    fn count_outcome(&mut self, outcome: Outcome) {
-        if let Some(count) = self.outcomes.get_mut(outcome_place(outcome)) {
-            *count = (*count).saturating_add(1);
-        }
-    }
-
-    // Counts a launch, and how it ended.
-    fn count_launch(&mut self, trace: &Trace, row: &Row, start: u32) -> Result<(), AllocError> {
-        let wait = wait_of(trace, row);
-        self.waits.push(wait)?;
-        let worth = u128::from(row.worth);
-        self.launched = self.launched.saturating_add(worth);
-        match row.outcome {
-            Outcome::Ran | Outcome::Overran => {
-                let ran = row.end.unwrap_or(start).saturating_sub(start);
-                self.ended = self.ended.saturating_add(1);
-                self.slowdowns = self
-                    .slowdowns
-                    .saturating_add(u128::from(slowdown_of(wait, ran)));
-                self.kept = self.kept.saturating_add(worth);
-            }
-            Outcome::Running => self.kept = self.kept.saturating_add(worth),
-            Outcome::Failed | Outcome::Cancelled | Outcome::Expired | Outcome::Waiting => {}
-        }
-        Ok(())
-    }
-
-    // Counts what a row's pieces took.
-    fn count_use(&mut self, trace: &Trace, row: &Row, counted: Option<&[bool]>) {
-        let end = row.end.unwrap_or(trace.header.until);
-        for piece in row.pieces.as_slice() {
-            self.used = self.used.saturating_add(used_by(piece, end, counted));
-        }
-    }
-
-    fn count_row(
-        &mut self,
-        trace: &Trace,
-        row: &Row,
-        counted: Option<&[bool]>,
-    ) -> Result<(), AllocError> {
-        self.count_outcome(row.outcome);
-        self.count_use(trace, row, counted);
-        match row.start {
-            Some(start) => self.count_launch(trace, row, start),
-            None => Ok(()),
-        }
-    }
-}
-
-// Counts the rows that are picked.
-fn counts_of(
+// The waits of the launches that are picked, ascending.
+fn waits_of(
     alloc: Global,
     trace: &Trace,
     rows: &[Row],
-    picked: Picked<'_>,
-) -> Result<Counts, AllocError> {
-    let mut counts = Counts::new(alloc)?;
+    marks: &[bool],
+) -> Result<Vec<u32>, AllocError> {
+    let mut waits = Vec::new(alloc);
     for (place, row) in rows.iter().enumerate() {
-        if is_picked(picked.rows, place) {
-            counts.count_row(trace, row, picked.nodes)?;
+        if is_picked(marks, place) && row.start.is_some() {
+            waits.push(wait_of(trace, row))?;
         }
     }
-    Ok(counts)
+    waits.sort()?;
+    Ok(waits)
 }
 
 // The least of the ascending numbers that so many percent of them do not exceed.
@@ -197,22 +134,22 @@ fn ranked_cell(alloc: Global, ascending: &[u32], percent: usize) -> Result<Strin
     }
 }
 
-// Adds the figures of waits.
+// Adds the figures of waits, which ascend.
 fn add_waits(
     alloc: Global,
-    waits: &mut Vec<u32>,
+    counts: &Counts,
+    waits: &[u32],
     cells: &mut Vec<String>,
 ) -> Result<(), AllocError> {
-    waits.sort()?;
-    let mut total: u128 = 0;
-    for wait in waits.as_slice() {
-        total = total.saturating_add(u128::from(*wait));
-    }
-    let count = waits.len() as u128;
-    cells.push(mean_cell(alloc, total, count)?)?;
-    cells.push(ranked_cell(alloc, waits.as_slice(), 50)?)?;
-    cells.push(ranked_cell(alloc, waits.as_slice(), 90)?)?;
-    cells.push(ranked_cell(alloc, waits.as_slice(), 100)?)?;
+    cells.push(mean_cell(alloc, counts.waited, counts.launches)?)?;
+    cells.push(ranked_cell(alloc, waits, 50)?)?;
+    cells.push(ranked_cell(alloc, waits, 90)?)?;
+    let greatest = if counts.launches == 0 {
+        text_cell(alloc, NOTHING)?
+    } else {
+        number_cell(alloc, u128::from(counts.greatest))?
+    };
+    cells.push(greatest)?;
     Ok(())
 }
 
@@ -221,43 +158,31 @@ fn number_picked(picked: &[bool]) -> u128 {
     picked.iter().filter(|p| **p).count() as u128
 }
 
-// The tops of the jobs that are picked, together.
-fn offered_of(tops: &[u64], jobs: &[bool]) -> u128 {
-    let mut offered: u128 = 0;
-    for (job, top) in tops.iter().enumerate() {
-        if is_picked(jobs, job) {
-            offered = offered.saturating_add(u128::from(*top));
-        }
-    }
-    offered
-}
-
 // Adds the figures of how launches fared.
 fn add_fared(
     alloc: Global,
     trace: &Trace,
     counts: &Counts,
     picked: Picked<'_>,
-    known: Known<'_>,
+    last: u32,
     cells: &mut Vec<String>,
 ) -> Result<(), AllocError> {
     let slowdown = if counts.ended == 0 {
         text_cell(alloc, NOTHING)?
     } else {
-        thousandths_cell(alloc, quotient(counts.slowdowns, u128::from(counts.ended)))?
+        thousandths_cell(alloc, quotient(counts.slowdowns, counts.ended))?
     };
     cells.push(slowdown)?;
     let nodes = match picked.nodes {
         Some(nodes) => number_picked(nodes),
         None => u128::from(trace.cluster.count()),
     };
-    let room = nodes.saturating_mul(u128::from(known.last));
+    let room = nodes.saturating_mul(u128::from(last));
     cells.push(number_cell(alloc, counts.used)?)?;
     cells.push(mean_cell(alloc, counts.used, room)?)?;
     cells.push(number_cell(alloc, counts.launched)?)?;
     cells.push(number_cell(alloc, counts.kept)?)?;
-    let offered = offered_of(known.tops, picked.jobs);
-    cells.push(number_cell(alloc, offered)?)?;
+    cells.push(number_cell(alloc, counts.offered)?)?;
     Ok(())
 }
 
@@ -269,15 +194,17 @@ pub(crate) fn figures_of(
     picked: Picked<'_>,
     known: Known<'_>,
 ) -> Result<Vec<String>, AllocError> {
-    let mut counts = counts_of(alloc, trace, account.rows.as_slice(), picked)?;
+    let rows = account.rows.as_slice();
+    let counts = counts_of(trace, rows, picked, known.tops);
+    let waits = waits_of(alloc, trace, rows, picked.rows)?;
     let mut cells = Vec::new(alloc);
     cells.push(number_cell(alloc, number_picked(picked.jobs))?)?;
-    cells.push(number_cell(alloc, counts.waits.len() as u128)?)?;
-    for count in counts.outcomes.as_slice() {
-        cells.push(number_cell(alloc, u128::from(*count))?)?;
+    cells.push(number_cell(alloc, counts.launches)?)?;
+    for count in &counts.outcomes {
+        cells.push(number_cell(alloc, *count)?)?;
     }
-    add_waits(alloc, &mut counts.waits, &mut cells)?;
-    add_fared(alloc, trace, &counts, picked, known, &mut cells)?;
+    add_waits(alloc, &counts, &waits, &mut cells)?;
+    add_fared(alloc, trace, &counts, picked, known.last, &mut cells)?;
     Ok(cells)
 }
 

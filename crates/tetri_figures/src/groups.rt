@@ -2,7 +2,8 @@
 ghost use Rattle.tetri_trace.specs.Scenario.{scenario};
 ghost use Rattle.tetri_trace.specs.Sound.{IsSound};
 
-use crate::figures::{Known, Picked, figures_of, is_picked, last_end};
+use crate::figures::{Known, Picked, figures_of, last_end};
+use crate::sums::is_picked;
 use std::alloc::{AllocError, Global};
 use tetri_accounts::{Account, Row, top_at};
 use tetri_request::Class;

@@ -2,6 +2,7 @@
 //! comma-separated values and as lines of JSON.
 #![tactic(auto)]
 
+mod bounds;
 mod cells;
 mod columns;
 mod compare;
@@ -10,8 +11,10 @@ mod format;
 mod groups;
 mod jobs;
 mod stats;
+mod sums;
 mod tags;
 
+pub use bounds::{Bounds, PricedSums};
 pub use compare::{Compared, compare_text};
 pub use format::Format;
 pub use jobs::jobs_text;

@@ -2,11 +2,13 @@
 ghost use Rattle.tetri_trace.specs.Scenario.{scenario};
 ghost use Rattle.tetri_trace.specs.Sound.{IsSound};
 
-use crate::cells::{number_cell, text_cell};
+use crate::bounds::Bounds;
+use crate::cells::{NOTHING, number_cell, text_cell};
 use crate::columns::{Column, columns_text};
-use crate::figures::{FIGURES, is_picked, last_end};
+use crate::figures::{FIGURES, last_end};
 use crate::format::Format;
 use crate::groups::{Group, figures_in, group_of_all, group_of_class, group_of_tag, tops_of};
+use crate::sums::{gaps, is_picked};
 use std::alloc::{AllocError, Global};
 use tetri_accounts::{Account, CycleNote};
 use tetri_cert::PlanMark;
@@ -35,27 +37,45 @@ const CYCLE_FIGURES: [&str; 8] = [
     "gaps",
 ];
 
+// The names of the figures of bounds that prices make.
+const PRICED_FIGURES: [&str; 2] = ["priced bounds", "priced gaps"];
+
 // The classes, in the order of their columns.
 const CLASSES: [&str; 3] = ["steady", "decay", "expression"];
 
-/// The names of all figures.
-pub(crate) fn names_of(alloc: Global) -> Result<Vec<String>, AllocError> {
-    let mut names = Vec::new(alloc);
-    for name in &FIGURES {
+// Adds names.
+fn add_names(
+    alloc: Global,
+    more: &[&'static str],
+    names: &mut Vec<String>,
+) -> Result<(), AllocError> {
+    for name in more {
         names.push(text_cell(alloc, name)?)?;
     }
-    for name in &CYCLE_FIGURES {
-        names.push(text_cell(alloc, name)?)?;
+    Ok(())
+}
+
+/// The names of all figures, with those of bounds that prices make where these are told.
+pub(crate) fn names_of(alloc: Global, priced: bool) -> Result<Vec<String>, AllocError> {
+    let mut names = Vec::new(alloc);
+    add_names(alloc, FIGURES.as_slice(), &mut names)?;
+    add_names(alloc, CYCLE_FIGURES.as_slice(), &mut names)?;
+    if priced {
+        add_names(alloc, PRICED_FIGURES.as_slice(), &mut names)?;
     }
     Ok(names)
 }
 
+/// Whether bounds that prices make are known.
+pub(crate) fn are_priced(bounds: Bounds) -> bool {
+    match bounds {
+        Bounds::Absent | Bounds::Printed => false,
+        Bounds::Priced(_) => true,
+    }
+}
+
 // How many cycles are so.
-fn count_cell<F: Fn(&CycleNote) -> bool>(
-    alloc: Global,
-    cycles: &[CycleNote],
-    is: F,
-) -> Result<String, AllocError>
+fn count_of<F: Fn(&CycleNote) -> bool>(cycles: &[CycleNote], is: F) -> u128
     requires { F.IsAlwaysCallable is }
 {
     let mut count: u128 = 0;
@@ -64,16 +84,34 @@ fn count_cell<F: Fn(&CycleNote) -> bool>(
             count = count.saturating_add(1);
         }
     }
-    number_cell(alloc, count)
+    count
 }
 
-// By how much the values of the cycles fall short of their bounds, together.
-fn gaps_of(cycles: &[CycleNote]) -> u128 {
-    let mut gaps: u128 = 0;
-    for cycle in cycles {
-        gaps = gaps.saturating_add(u128::from(cycle.bound.saturating_sub(cycle.value)));
+fn count_cell<F: Fn(&CycleNote) -> bool>(
+    alloc: Global,
+    cycles: &[CycleNote],
+    is: F,
+) -> Result<String, AllocError>
+    requires { F.IsAlwaysCallable is }
+{
+    number_cell(alloc, count_of(cycles, is))
+}
+
+// A number that bounds give, or what stands for none where a run has none.
+fn bound_cell(alloc: Global, bounds: Bounds, number: u128) -> Result<String, AllocError> {
+    match bounds {
+        Bounds::Absent => text_cell(alloc, NOTHING),
+        Bounds::Printed | Bounds::Priced(_) => number_cell(alloc, number),
     }
-    gaps
+}
+
+// Adds the figures of bounds that prices make, where these are known.
+fn add_priced(alloc: Global, bounds: Bounds, cells: &mut Vec<String>) -> Result<(), AllocError> {
+    if let Bounds::Priced(sums) = bounds {
+        cells.push(number_cell(alloc, sums.bound)?)?;
+        cells.push(number_cell(alloc, sums.gap)?)?;
+    }
+    Ok(())
 }
 
 /// Adds the figures of the cycles of an account.
@@ -81,6 +119,7 @@ pub(crate) fn add_cycle_figures(
     alloc: Global,
     trace: &Trace,
     account: &Account,
+    bounds: Bounds,
     cells: &mut Vec<String>,
 ) -> Result<(), AllocError> {
     let cycles = account.cycles.as_slice();
@@ -95,9 +134,10 @@ pub(crate) fn add_cycle_figures(
         c.jobs > 0 && c.mark == PlanMark::Optimal && c.nodes == 0
     })?)?;
     cells.push(count_cell(alloc, cycles, |c| c.mark == PlanMark::Spent)?)?;
-    cells.push(count_cell(alloc, cycles, |c| c.mark == PlanMark::Wide)?)?;
-    cells.push(number_cell(alloc, gaps_of(cycles))?)?;
-    Ok(())
+    let wide = count_of(cycles, |c| c.mark == PlanMark::Wide);
+    cells.push(bound_cell(alloc, bounds, wide)?)?;
+    cells.push(bound_cell(alloc, bounds, gaps(cycles))?)?;
+    add_priced(alloc, bounds, cells)
 }
 
 /// The column of a whole run.
@@ -105,12 +145,13 @@ pub(crate) fn whole_column(
     alloc: Global,
     trace: &Trace,
     account: &Account,
+    bounds: Bounds,
     tops: &[u64],
     name: &str,
 ) -> Result<Column, AllocError> {
     let group = group_of_all(alloc, trace, account.rows.as_slice())?;
     let mut cells = figures_in(alloc, trace, account, &group, tops)?;
-    add_cycle_figures(alloc, trace, account, &mut cells)?;
+    add_cycle_figures(alloc, trace, account, bounds, &mut cells)?;
     Ok(Column {
         name: text_cell(alloc, name)?,
         cells,
@@ -176,6 +217,7 @@ pub fn stats_text(
     alloc: Global,
     trace: &Trace,
     account: &Account,
+    bounds: Bounds,
     by: By,
     tags: &[String],
     format: Format,
@@ -183,9 +225,9 @@ pub fn stats_text(
     requires { IsSound (scenario trace.now) }
 {
     let tops = tops_of(alloc, trace)?;
-    let names = names_of(alloc)?;
+    let names = names_of(alloc, are_priced(bounds))?;
     let mut columns = Vec::new(alloc);
-    columns.push(whole_column(alloc, trace, account, &tops, "all")?)?;
+    columns.push(whole_column(alloc, trace, account, bounds, &tops, "all")?)?;
     match by {
         By::Nothing => {}
         By::Tag => add_tags(alloc, trace, account, &tops, tags, &mut columns)?,

@@ -1,5 +1,5 @@
 -- What one entry more adds to what a log says.
-use Rattle.std.proofs.Common.{◌≡◌, ◌+◌, ◌<◌, ◌≤◌, ◌∙◌, ℕ, List, [], ◌∷◌, ◌++◌, length, map, drop, get_or, refl, ap, sym, arith, append_assoc, Bor}
+use Rattle.std.proofs.Common.{◌≡◌, ◌+◌, ◌<◌, ◌≤◌, ◌∙◌, ℕ, List, Bool, [], ◌∷◌, ◌++◌, length, map, drop, get_or, refl, ap, sym, arith, append_assoc, Bor}
 use Rattle.std.proofs.lemmas.List.{at_drop_all, at_drop_more}
 use Rattle.tetri_base.specs.Lists.{count}
 use Rattle.tetri_logs.specs.Entry.{entry_of, layout_at}
@@ -35,18 +35,18 @@ all_entries (Comment fact ∷ es) = omega (arith, all_entries es)
 all_entries (Left reject ∷ es) = omega (arith, all_entries es)
 
 -- as many entries as lines
-pub length-entries_from : (layout : Layout) (n : ℕ) (lines : List (List ℕ)) → length (entries_from layout n lines) ≡ length lines
-length-entries_from layout n [] = refl
-length-entries_from layout n (line ∷ lines) = omega (arith, length-entries_from (layout_at layout line) (n + 1) lines)
+pub length-entries_from : (mixed : Bool) (layout : Layout) (n : ℕ) (lines : List (List ℕ)) → length (entries_from mixed layout n lines) ≡ length lines
+length-entries_from mixed layout n [] = refl
+length-entries_from mixed layout n (line ∷ lines) = omega (arith, length-entries_from mixed (layout_at layout line) (n + 1) lines)
 
 -- what is left of the lines, one line on
-pub entries_from-next : (layout next : Layout) (n i : ℕ) (xs : List (Bor (List ℕ))) (d : Bor (List ℕ)) (e : Entry) → i < length xs → e ≡ entry_of layout n (get_or xs i d).now → next ≡ layout_at layout (get_or xs i d).now
-    → entries_from layout n (map (λ x. x.now) (drop i xs)) ≡ e ∷ entries_from next (n + 1) (map (λ x. x.now) (drop (i + 1) xs))
-entries_from-next layout next n i xs d e inside is after =
-    at_drop_more (λ zs. entries_from layout n (map (λ x. x.now) zs)) xs i d inside
-    ∙ ap (λ h. h ∷ entries_from (layout_at layout (get_or xs i d).now) (n + 1) (map (λ x. x.now) (drop (i + 1) xs))) (sym is)
-    ∙ ap (λ l. e ∷ entries_from l (n + 1) (map (λ x. x.now) (drop (i + 1) xs))) (sym after)
+pub entries_from-next : (mixed : Bool) (layout next : Layout) (n i : ℕ) (xs : List (Bor (List ℕ))) (d : Bor (List ℕ)) (e : Entry) → i < length xs → e ≡ entry_of mixed layout n (get_or xs i d).now → next ≡ layout_at layout (get_or xs i d).now
+    → entries_from mixed layout n (map (λ x. x.now) (drop i xs)) ≡ e ∷ entries_from mixed next (n + 1) (map (λ x. x.now) (drop (i + 1) xs))
+entries_from-next mixed layout next n i xs d e inside is after =
+    at_drop_more (λ zs. entries_from mixed layout n (map (λ x. x.now) zs)) xs i d inside
+    ∙ ap (λ h. h ∷ entries_from mixed (layout_at layout (get_or xs i d).now) (n + 1) (map (λ x. x.now) (drop (i + 1) xs))) (sym is)
+    ∙ ap (λ l. e ∷ entries_from mixed l (n + 1) (map (λ x. x.now) (drop (i + 1) xs))) (sym after)
 
 -- behind the last line nothing is left
-pub entries_from-none : (layout : Layout) (n i : ℕ) (xs : List (Bor (List ℕ))) → length xs ≤ i → entries_from layout n (map (λ x. x.now) (drop i xs)) ≡ []
-entries_from-none layout n i xs end = at_drop_all (λ zs. entries_from layout n (map (λ x. x.now) zs)) xs i end
+pub entries_from-none : (mixed : Bool) (layout : Layout) (n i : ℕ) (xs : List (Bor (List ℕ))) → length xs ≤ i → entries_from mixed layout n (map (λ x. x.now) (drop i xs)) ≡ []
+entries_from-none mixed layout n i xs end = at_drop_all (λ zs. entries_from mixed layout n (map (λ x. x.now) zs)) xs i end

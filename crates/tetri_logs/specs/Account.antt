@@ -13,5 +13,5 @@ abbrev pub account_of : Columns → Account
 account_of c =
     let limit = unwrap_or (positive c.limit) (unwrap_or c.ran 0) in
     if c.cancelled && is_none (positive c.ran)
-    then record { submit = c.submit; nodes = c.nodes; processors = c.processors; limit = limit; ran = None; waited = Some (unwrap_or c.wait 0) }
-    else record { submit = c.submit; nodes = c.nodes; processors = c.processors; limit = limit; ran = c.ran; waited = None }
+    then record { submit = c.submit; nodes = c.nodes; processors = c.processors; limit = limit; ran = None; waited = Some (unwrap_or c.wait 0); room = None }
+    else record { submit = c.submit; nodes = c.nodes; processors = c.processors; limit = limit; ran = c.ran; waited = None; room = None }

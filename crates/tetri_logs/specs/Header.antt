@@ -51,4 +51,6 @@ header_in names = do
     in_minutes = is_some (column (codes "TimelimitRaw") names);
     state = state;
     processors = either (column (codes "NCPUS") names) (column (codes "AllocCPUS") names);
+    partitions = column (codes "Partition") names;
+    constraints = column (codes "Constraints") names;
   })

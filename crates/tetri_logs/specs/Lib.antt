@@ -9,6 +9,7 @@ pub mod Header
 pub mod Limits
 pub mod Sacct
 pub mod Layout
+pub mod SetText
 pub mod Entry
 pub mod Reading
 pub mod Options

@@ -1,12 +1,12 @@
 -- The place of a job in a trace.
-use Rattle.std.specs.Prelude.{ℕ, ◌<◌, ◌≤◌, IfSome, ℤ, pos, ◌-ℤ◌, ◌+◌, ◌*◌, ◌/◌, ◌||◌, ◌&&◌, Bool, false, nat_le, nat_lt, Option, Some, None, Result, Ok, Err, if◌then◌else◌}
+use Rattle.std.specs.Prelude.{ℕ, ◌<◌, ◌≤◌, IfSome, ℤ, pos, ◌-ℤ◌, ◌+◌, ◌*◌, ◌/◌, ◌==◌, ◌||◌, ◌&&◌, Bool, false, nat_le, nat_lt, Option, Some, None, Result, Ok, Err, if◌then◌else◌}
 use Rattle.tetri_base.specs.ResultSteps.{◌>>=◌}
 use Rattle.tetri_logs.specs.Swf.{refused}
 use Rattle.tetri_logs.specs.declared.account.Account.{Account}
 use Rattle.tetri_logs.specs.declared.entry.Cause.{Cause}
-use Rattle.tetri_logs.specs.declared.entry.Cause.TheVariants.{TooLarge, PartNode, Outside, Beyond}
+use Rattle.tetri_logs.specs.declared.entry.Cause.TheVariants.{NoSet, TooLarge, PartNode, Outside, Beyond}
 use Rattle.tetri_request.specs.declared.ask.Ask.{Ask}
-use Rattle.tetri_logs.specs.Scale.{is_part_node, moment_of, nodes_of, slot_of, slots_of, worth_of}
+use Rattle.tetri_logs.specs.Scale.{is_part_node, moment_of, nodes_of, room_of, slot_of, slots_of, worth_of}
 use Rattle.tetri_logs.specs.declared.options.Settings.{Settings}
 use Rattle.tetri_logs.specs.declared.placing.Placing.{Placing}
 
@@ -46,7 +46,8 @@ ask_of s nodes slots =
 unfoldable pub place : Settings → Account → Result Placing Cause
 place s a = do
   wanted ← refused (is_outside s (moment_of s a)) Outside
-  fits ← refused (nat_lt s.nodes (nodes_of s a)) TooLarge
+  seated ← refused (room_of s a == 0) NoSet
+  fits ← refused (nat_lt (room_of s a) (nodes_of s a)) TooLarge
   whole ← refused (s.whole_nodes_only && is_part_node s a) PartNode
   arrival ← arrival_of s (moment_of s a)
   slots ← within_slots (slots_of s a.limit)

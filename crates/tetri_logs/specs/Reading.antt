@@ -13,17 +13,17 @@ use Rattle.tetri_logs.specs.declared.comments.Fact.TheVariants.{Nodes, Processor
 use Rattle.tetri_logs.specs.declared.layout.Layout.{Layout}
 use Rattle.tetri_logs.specs.declared.reading.Facts.{Facts}
 
--- what lines are, where the first has this number and those before it left this layout
-abbrev pub entries_from : Layout → ℕ → List (List ℕ) → List Entry
-entries_from layout number [] = []
-entries_from layout number (line ∷ lines) = entry_of layout number line ∷ entries_from (layout_at layout line) (number + 1) lines
+-- what lines are, where the first has this number and those before it left this layout, and nodes differ or not
+abbrev pub entries_from : Bool → Layout → ℕ → List (List ℕ) → List Entry
+entries_from mixed layout number [] = []
+entries_from mixed layout number (line ∷ lines) = entry_of mixed layout number line ∷ entries_from mixed (layout_at layout line) (number + 1) lines
 
 -- what all lines of a log are
-abbrev pub entries_of : Format → List (List ℕ) → List Entry
-entries_of format lines = entries_from (first_layout format) 1 lines
+abbrev pub entries_of : Bool → Format → List (List ℕ) → List Entry
+entries_of mixed format lines = entries_from mixed (first_layout format) 1 lines
 
-abbrev pub entries : Format → List ℕ → List Entry
-entries format log = entries_of format (log_lines log)
+abbrev pub entries : Bool → Format → List ℕ → List Entry
+entries mixed format log = entries_of mixed format (log_lines log)
 
 -- the jobs, in the order of the log
 abbrev pub jobs_in : List Entry → List LoggedJob

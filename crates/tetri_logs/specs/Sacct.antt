@@ -1,5 +1,5 @@
 -- A line of sacct.
-use Rattle.std.specs.Prelude.{ℕ, ◌+◌, ◌-◌, ◌*◌, ◌==◌, ◌&&◌, ◌||◌, Bool, not, List, length, map, min, nat_lt, slice_index, take, Option, Some, None, option_map, ok_or, Result, Ok, Err, if◌then◌else◌, bytes_eq, codes}
+use Rattle.std.specs.Prelude.{ℕ, ◌+◌, ◌-◌, ◌*◌, ◌==◌, ◌&&◌, ◌||◌, Bool, not, List, [], length, map, min, nat_lt, slice_index, take, Option, Some, None, option_map, ok_or, Result, Ok, Err, if◌then◌else◌, bytes_eq, codes}
 use Rattle.std.specs.List.{list_any, starts_with}
 use Rattle.tetri_base.specs.ResultSteps.{◌>>=◌}
 use Rattle.tetri_io.specs.Numbers.{digits_below}
@@ -25,6 +25,11 @@ row_of line = parts_at 124 (without_return line)
 -- what stands in a column, counted from 1
 abbrev pub cell : List (List ℕ) → ℕ → List ℕ
 cell row column = word_at row (column - 1)
+
+-- what stands in a column, where it is told
+abbrev pub told_cell : List (List ℕ) → Option ℕ → List ℕ
+told_cell row None = []
+told_cell row (Some column) = cell row column
 
 -- as many columns as the header names; a bar at the line's end may be there
 abbrev pub is_row : Header → List (List ℕ) → Bool

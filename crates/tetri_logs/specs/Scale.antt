@@ -1,5 +1,5 @@
 -- Seconds as slots, and processors as nodes.
-use Rattle.std.specs.Prelude.{ℕ, ◌+◌, ◌-◌, ◌*◌, ◌/◌, Bool, max, nat_lt, unwrap_or}
+use Rattle.std.specs.Prelude.{ℕ, ◌+◌, ◌-◌, ◌*◌, ◌/◌, Bool, max, min, nat_lt, unwrap_or}
 use Rattle.tetri_logs.specs.declared.account.Account.{Account}
 use Rattle.tetri_logs.specs.declared.options.Settings.{Settings}
 use Rattle.tetri_logs.specs.declared.options.Worth.{Worth}
@@ -24,6 +24,10 @@ nodes_with s processors = (processors + s.processors - 1) / s.processors
 -- how many nodes a job asks for: those that the log counts, or so many that they have its processors
 abbrev pub nodes_of : Settings → Account → ℕ
 nodes_of s a = unwrap_or a.nodes (nodes_with s (unwrap_or a.processors 0))
+
+-- how many nodes a job may have: those of its set, and no more than there are
+abbrev pub room_of : Settings → Account → ℕ
+room_of s a = min s.nodes (unwrap_or a.room s.nodes)
 
 -- whether a job asks for fewer processors than a node has
 abbrev pub is_part_node : Settings → Account → Bool

@@ -1,5 +1,5 @@
 -- A line of the Standard Workload Format.
-use Rattle.std.specs.Prelude.{ℕ, ◌+◌, ◌==◌, ◌||◌, Bool, true, false, not, List, [], ◌∷◌, length, min, Option, Some, None, Result, Ok, Err, if◌then◌else◌}
+use Rattle.std.specs.Prelude.{ℕ, ◌+◌, ◌==◌, ◌||◌, Bool, true, false, not, List, [], ◌∷◌, length, min, Option, Some, None, Result, Ok, Err, if◌then◌else◌, bytes_eq, codes}
 use Rattle.tetri_base.specs.ResultSteps.{◌>>=◌}
 use Rattle.tetri_logs.specs.Account.{account_of, positive}
 use Rattle.tetri_logs.specs.Words.{amount, count_in, needed, word_at}
@@ -12,6 +12,10 @@ use Rattle.tetri_logs.specs.declared.entry.Cause.TheVariants.{Unreadable, Step, 
 abbrev pub is_comment : List ℕ → Bool
 is_comment [] = true
 is_comment (b ∷ bs) = if is_blank b then is_comment bs else b == 59
+
+-- the partition of a job by its number, or nothing where it is not known
+abbrev pub swf_partition : List (List ℕ) → List ℕ
+swf_partition words = if bytes_eq (word_at words 15) (codes "-1") then [] else word_at words 15
 
 -- whether a number is known, and is this one
 abbrev pub is_known_as : ℕ → Option ℕ → Bool

@@ -17,6 +17,8 @@ pub struct Account {
     pub ran: Option<u32>,
     /// How long it waited until it was cancelled, if it never ran.
     pub waited: Option<u32>,
+    /// How many nodes are in its set, where these may not be all.
+    pub room: Option<usize>,
 }
 
 /// The columns from which an account is made.
@@ -63,6 +65,7 @@ pub(crate) fn account_of(columns: Columns) -> Account
             limit,
             ran: None,
             waited: Some(wait.unwrap_or(0)),
+            room: None,
         }
     } else {
         Account {
@@ -72,6 +75,7 @@ pub(crate) fn account_of(columns: Columns) -> Account
             limit,
             ran,
             waited: None,
+            room: None,
         }
     }
 }

@@ -7,8 +7,9 @@ use crate::account::Account;
 use crate::comments::{Fact, fact_in};
 use crate::header::{Header, header_in, is_header};
 use crate::layout::Layout;
-use crate::sacct::{cell, pointed_id, row_of, sacct_account, without_return};
-use crate::swf::{is_comment, swf_account};
+use crate::sacct::{cell, pointed_id, row_of, sacct_account, told_cell, without_return};
+use crate::set_text::{SetText, seated};
+use crate::swf::{is_comment, swf_account, swf_partition};
 use crate::words::{word_at, words_of};
 use std::alloc::{AllocError, Global};
 use tetri_cluster::{Name, NameFault};
@@ -24,7 +25,11 @@ pub enum Cause {
     NoNodes,
     /// The job ended before it began, or before it was submitted.
     Backwards,
-    /// The job asks for more nodes than there are.
+    /// What the job asks of its nodes is more than features that they have all.
+    Constraint,
+    /// No node is in the job's set.
+    NoSet,
+    /// The job asks for more nodes than there are in its set.
     TooLarge,
     /// The job asks for fewer processors than a node has, and jobs with whole nodes alone are wanted.
     PartNode,
@@ -58,6 +63,8 @@ pub struct LoggedJob {
     pub line: usize,
     pub name: Name,
     pub account: Account,
+    /// The nodes that it may use.
+    pub set: SetText,
 }
 
 /// What a line of a log is.
@@ -86,6 +93,7 @@ fn with_name(
             line,
             name,
             account,
+            set: SetText::new(alloc),
         })),
         Err(NameFault::NotName) => Ok(Entry::Left(Reject {
             line,
@@ -95,14 +103,15 @@ fn with_name(
     }
 }
 
-fn swf_entry(alloc: Global, line: usize, text: &[u8]) -> Result<Entry, AllocError>
-    ensures { IfOk result (λ e. e ≡ swf_entry line text.now) }
+fn swf_entry(alloc: Global, mixed: bool, line: usize, text: &[u8]) -> Result<Entry, AllocError>
+    ensures { IfOk result (λ e. e ≡ swf_entry mixed line text.now) }
 {
     let words = words_of(alloc, text)?;
     if is_comment(text) {
         return Ok(Entry::Comment(fact_in(&words)));
     }
-    with_name(alloc, line, word_at(&words, 0), swf_account(&words))
+    let entry = with_name(alloc, line, word_at(&words, 0), swf_account(&words))?;
+    seated(alloc, mixed, entry, swf_partition(&words), b"")
 }
 
 // What a header is, where it is known whether each column is there that is needed.
@@ -138,11 +147,12 @@ fn with_id(
 // What the columns of a line are. A header says which columns there are.
 fn table_entry(
     alloc: Global,
+    mixed: bool,
     header: &mut Header,
     line: usize,
     text: &[u8],
 ) -> Result<Entry, AllocError>
-    ensures entry { IfOk result (λ e. e ≡ table_entry header.old line text.now) }
+    ensures entry { IfOk result (λ e. e ≡ table_entry mixed header.old line text.now) }
     ensures header { OnOk result (header.new ≡ header_at header.old text.now) }
 {
     if without_return(text).is_empty() {
@@ -155,21 +165,31 @@ fn table_entry(
         return Ok(header_entry(line, &row, named));
     }
     let account = sacct_account(header, &row);
-    with_id(alloc, line, cell(&row, header.id), account)
+    let entry = with_id(alloc, line, cell(&row, header.id), account)?;
+    let partitions = told_cell(&row, header.partitions);
+    seated(
+        alloc,
+        mixed,
+        entry,
+        partitions,
+        told_cell(&row, header.constraints),
+    )
 }
 
-/// What a line with this number is, where the lines before it have left this layout. Its only error is want of memory.
+/// What a line with this number is, where the lines before it have left this layout, and nodes differ or not. Its only error is want of
+/// memory.
 pub fn read_entry(
     alloc: Global,
+    mixed: bool,
     layout: &mut Layout,
     line: usize,
     text: &[u8],
 ) -> Result<Entry, AllocError>
-    ensures entry { IfOk result (λ e. e ≡ entry_of layout.old line text.now) }
+    ensures entry { IfOk result (λ e. e ≡ entry_of mixed layout.old line text.now) }
     ensures layout { OnOk result (layout.new ≡ layout_at layout.old text.now) }
 {
     match layout {
-        Layout::Words => swf_entry(alloc, line, text),
-        Layout::Table(header) => table_entry(alloc, header, line, text),
+        Layout::Words => swf_entry(alloc, mixed, line, text),
+        Layout::Table(header) => table_entry(alloc, mixed, header, line, text),
     }
 }

@@ -20,6 +20,10 @@ pub struct Header {
     pub state: usize,
     /// The processors, where they are told.
     pub processors: Option<usize>,
+    /// The partitions, where they are told.
+    pub partitions: Option<usize>,
+    /// The constraints, where they are told.
+    pub constraints: Option<usize>,
 }
 
 /// The columns of a log without a header: JobIDRaw, Submit, Start, End, NNodes, TimelimitRaw, Partition and State.
@@ -34,6 +38,8 @@ pub(crate) const USUAL: Header = Header {
     in_minutes: true,
     state: 8,
     processors: None,
+    partitions: Some(7),
+    constraints: None,
 };
 
 // The number of the column with a name, counted from 1.
@@ -106,5 +112,7 @@ pub(crate) fn header_in(names: &[&[u8]]) -> Option<Header>
         in_minutes: column("TimelimitRaw", names).is_some(),
         state,
         processors: either(column("NCPUS", names), column("AllocCPUS", names)),
+        partitions: column("Partition", names),
+        constraints: column("Constraints", names),
     })
 }

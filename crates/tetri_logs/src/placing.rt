@@ -6,7 +6,7 @@ ghost use Rattle.tetri_logs.specs.Placing.{IsPlaced, arrival_of, ask_of, cancel_
 use crate::account::Account;
 use crate::entry::Cause;
 use crate::options::Settings;
-use crate::scale::{is_part_node, moment_of, nodes_of, slot_of, slots_of, worth_of};
+use crate::scale::{is_part_node, moment_of, nodes_of, room_of, slot_of, slots_of, worth_of};
 use tetri_request::Ask;
 
 // The slots that a trace has at most, and the greatest worth.
@@ -123,7 +123,11 @@ pub fn place(settings: &Settings, account: Account) -> Result<Placing, Cause>
         return Err(Cause::Outside);
     }
     let nodes = nodes_of(settings, account);
-    if nodes > u64::from(settings.nodes) {
+    let room = room_of(settings, account);
+    if room == 0 {
+        return Err(Cause::NoSet);
+    }
+    if nodes > room {
         return Err(Cause::TooLarge);
     }
     let part_node = is_part_node(settings, account);

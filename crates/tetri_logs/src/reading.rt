@@ -76,10 +76,15 @@ fn rest_of(all: usize, one: usize, other: usize) -> usize
 }
 
 // What the lines of a log say. Its only error is want of memory.
-fn read_lines(alloc: Global, format: Format, lines: &[&[u8]]) -> Result<Log, AllocError>
-    ensures jobs { IfOk result (λ l. l.jobs.items ≡ jobs_in (entries_of format (map (λ x. x.now) lines.now))) }
-    ensures left { IfOk result (λ l. l.left.items ≡ left_in (entries_of format (map (λ x. x.now) lines.now))) }
-    ensures facts { IfOk result (λ l. l.facts ≡ facts_in no_facts (entries_of format (map (λ x. x.now) lines.now))) }
+fn read_lines(
+    alloc: Global,
+    mixed: bool,
+    format: Format,
+    lines: &[&[u8]],
+) -> Result<Log, AllocError>
+    ensures jobs { IfOk result (λ l. l.jobs.items ≡ jobs_in (entries_of mixed format (map (λ x. x.now) lines.now))) }
+    ensures left { IfOk result (λ l. l.left.items ≡ left_in (entries_of mixed format (map (λ x. x.now) lines.now))) }
+    ensures facts { IfOk result (λ l. l.facts ≡ facts_in no_facts (entries_of mixed format (map (λ x. x.now) lines.now))) }
 {
     let mut read = Log {
         jobs: Vec::new(alloc),
@@ -89,24 +94,24 @@ fn read_lines(alloc: Global, format: Format, lines: &[&[u8]]) -> Result<Log, All
     };
     let mut layout = first_layout(format);
     for (i, line) in lines.iter().enumerate() {
-        let entry = read_entry(alloc, &mut layout, i + 1, line)?;
+        let entry = read_entry(alloc, mixed, &mut layout, i + 1, line)?;
         add(&mut read, entry)?;
     }
     Ok(read)
 }
 
-/// What a log says. Its only error is want of memory.
-pub fn read_log(alloc: Global, format: Format, log: &[u8]) -> Result<Log, AllocError>
-    ensures jobs { IfOk result (λ l. l.jobs.items ≡ jobs_in (entries format log.now)) }
-    ensures left { IfOk result (λ l. l.left.items ≡ left_in (entries format log.now)) }
-    ensures facts { IfOk result (λ l. l.facts ≡ facts_in no_facts (entries format log.now)) }
-    ensures comments { IfOk result (λ l. l.comments ≡ count is_comment (entries format log.now)) }
+/// What a log says; the set of each job too, where nodes differ. Its only error is want of memory.
+pub fn read_log(alloc: Global, mixed: bool, format: Format, log: &[u8]) -> Result<Log, AllocError>
+    ensures jobs { IfOk result (λ l. l.jobs.items ≡ jobs_in (entries mixed format log.now)) }
+    ensures left { IfOk result (λ l. l.left.items ≡ left_in (entries mixed format log.now)) }
+    ensures facts { IfOk result (λ l. l.facts ≡ facts_in no_facts (entries mixed format log.now)) }
+    ensures comments { IfOk result (λ l. l.comments ≡ count is_comment (entries mixed format log.now)) }
 
     // Each line is a job, a comment or left out.
-    ensures whole { IfOk result (λ l. length l.jobs.items + length l.left.items + l.comments ≡ length (entries format log.now)) }
+    ensures whole { IfOk result (λ l. length l.jobs.items + length l.left.items + l.comments ≡ length (entries mixed format log.now)) }
 {
     let lines = log_lines(alloc, log)?;
-    let mut read = read_lines(alloc, format, &lines)?;
+    let mut read = read_lines(alloc, mixed, format, &lines)?;
     read.comments = rest_of(lines.len(), read.jobs.len(), read.left.len());
     Ok(read)
 }

@@ -1,6 +1,6 @@
 // A line of what `sacct` prints with `--parsable2` or `--parsable`.
 ghost use Rattle.std.specs.Prelude.{◌≡◌, IfOk, map};
-ghost use Rattle.tetri_logs.specs.Sacct.{cell, elapsed, exact_count, is_cancelled, is_row, is_step, is_unknown, moment_in, needed_moment, nodes_in, pointed, processors_in, row_of, sacct_account, without_return};
+ghost use Rattle.tetri_logs.specs.Sacct.{cell, elapsed, exact_count, is_cancelled, is_row, is_step, is_unknown, moment_in, needed_moment, nodes_in, pointed, processors_in, row_of, sacct_account, told_cell, without_return};
 
 use crate::account::{Account, Columns, account_of, positive};
 use crate::entry::Cause;
@@ -33,6 +33,16 @@ pub(crate) fn cell<'a>(row: &[&'a [u8]], column: usize) -> &'a [u8]
     ensures { result.now ≡ cell (map (λ w. w.now) row.now) column }
 {
     word_at(row, column.saturating_sub(1))
+}
+
+/// What stands in a column, where it is told.
+pub(crate) fn told_cell<'a>(row: &[&'a [u8]], column: Option<usize>) -> &'a [u8]
+    ensures { result.now ≡ told_cell (map (λ w. w.now) row.now) column }
+{
+    match column {
+        Some(column) => cell(row, column),
+        None => b"",
+    }
 }
 
 // As many columns as the header names; a bar at the line's end may be there.

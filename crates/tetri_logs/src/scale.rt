@@ -1,7 +1,7 @@
 // Seconds as slots, and processors as nodes.
 ghost use Rattle.std.specs.Prelude.{◌≡◌, ◌≤◌, ◌<◌, ◌^◌};
 ghost use Rattle.tetri_logs.specs.Options.{AreGood};
-ghost use Rattle.tetri_logs.specs.Scale.{is_part_node, moment_of, nodes_of, nodes_with, slot_of, slots_of, worth_of};
+ghost use Rattle.tetri_logs.specs.Scale.{is_part_node, moment_of, nodes_of, nodes_with, room_of, slot_of, slots_of, worth_of};
 
 use crate::account::Account;
 use crate::options::{Settings, Worth};
@@ -50,6 +50,19 @@ pub(crate) fn nodes_of(settings: &Settings, account: Account) -> u64
     match account.nodes {
         Some(nodes) => u64::from(nodes),
         None => nodes_with(settings, account.processors.unwrap_or(0)),
+    }
+}
+
+/// How many nodes a job may have: those of its set, and no more than there are.
+pub(crate) fn room_of(settings: &Settings, account: Account) -> u64
+    requires { AreGood settings.now }
+    ensures value { result ≡ room_of settings.now account }
+    ensures few { result ≤ 4096 }
+{
+    let all = u64::from(settings.nodes);
+    match account.room {
+        Some(room) => all.min(room as u64),
+        None => all,
     }
 }
 

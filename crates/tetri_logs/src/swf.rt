@@ -1,10 +1,10 @@
 // A line of the Standard Workload Format: 18 numbers, where -1 says that a number is not known.
 ghost use Rattle.std.specs.Prelude.{◌≡◌, map};
-ghost use Rattle.tetri_logs.specs.Swf.{is_comment, is_known_as, is_part, swf_account, width_of};
+ghost use Rattle.tetri_logs.specs.Swf.{is_comment, is_known_as, is_part, swf_account, swf_partition, width_of};
 
 use crate::account::{Account, Columns, account_of, positive};
 use crate::entry::Cause;
-use crate::words::{amount, count_in, needed};
+use crate::words::{amount, count_in, is_text, needed, word_at};
 use tetri_io::is_blank;
 
 /// Whether the first byte that is no blank begins a comment, or there is none.
@@ -17,6 +17,17 @@ pub(crate) fn is_comment(line: &[u8]) -> bool
         }
     }
     true
+}
+
+/// The partition of a job by its number, or nothing where it is not known.
+pub(crate) fn swf_partition<'a>(words: &[&'a [u8]]) -> &'a [u8]
+    ensures { result.now ≡ swf_partition (map (λ w. w.now) words.now) }
+{
+    let partition = word_at(words, 15);
+    if is_text(partition, "-1") {
+        return b"";
+    }
+    partition
 }
 
 // Whether a number is known, and is this one.

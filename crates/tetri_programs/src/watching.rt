@@ -50,12 +50,7 @@ impl Watching {
     }
 
     // Takes what is exported of this instance, where its cycle is the one that is asked for.
-    fn take(
-        &mut self,
-        alloc: Global,
-        cluster: &Cluster,
-        inst: &Instance,
-    ) -> Result<(), AllocError>
+    fn take(&mut self, alloc: Global, cluster: &Cluster, inst: &Instance) -> Result<(), AllocError>
         requires { IsSound (space inst.now) }
         ensures { OnOk result (IsTaken cluster.entry.now (space inst.entry.now) self.old self.new) }
     {

@@ -2,3 +2,4 @@ mod FromLemmas
 mod SameLemmas
 mod MoreLemmas
 pub mod CountLemmas
+pub mod ArrayLemmas

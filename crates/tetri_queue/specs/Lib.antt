@@ -1,2 +1,4 @@
+pub mod Asking
+pub mod Arrays
 pub mod Queues
 pub mod Orders

@@ -1,4 +1,7 @@
 // What a caller asks for.
+ghost use Rattle.std.specs.Prelude.{◌≡◌};
+ghost use Rattle.tetri_queue.specs.Asking.{fault_of};
+
 use tetri_request::Class;
 
 /// How the worth of a job is made.
@@ -45,7 +48,9 @@ pub enum AskedFault {
 
 impl Asked {
     /// The first thing that cannot be.
-    pub(crate) fn fault(&self, reserved: bool) -> Option<AskedFault> {
+    pub(crate) fn fault(&self, reserved: bool) -> Option<AskedFault>
+        ensures { result ≡ fault_of self.entry.now reserved }
+    {
         if self.slot == 0 || 1_000_000 < self.slot {
             Some(AskedFault::Slot)
         } else if self.window == 0 || 64 < self.window {

@@ -25,6 +25,8 @@ pub enum Cause {
     NoNodes,
     /// The job asks for more nodes than there are of the kind.
     TooLarge,
+    /// As many tasks of its array as may run at once run, were released or are taken.
+    Throttled,
     /// An earlier line has its name.
     Repeated,
     /// It is beyond what a trace can say.

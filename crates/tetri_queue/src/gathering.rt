@@ -1,8 +1,10 @@
 // What is gathered of a queue for one cycle.
-ghost use Rattle.std.specs.Prelude.{◌≡◌, ◌+◌, IfOk, OnOk, length};
+ghost use Rattle.std.specs.Prelude.{◌≡◌, ◌+◌, ◌&&◌, IfOk, OnOk, false, length};
 ghost use Rattle.tetri_base.specs.Lists.{bit};
+ghost use Rattle.tetri_queue.specs.Arrays.{is_full, throttles, with_used_if};
 ghost use Rattle.tetri_queue.specs.Queues.{is_taken};
 
+use crate::arrays::Limits;
 use crate::asked::{Asked, QueueWorth};
 use crate::cause::{Cause, Fate, ReservationFate};
 use crate::constraint::{Shape, key_of, mark_hosts, shape_of};
@@ -58,6 +60,7 @@ pub(crate) struct Gathering {
     keys: NameTable,
     shapes: Vec<Result<Shape, Cause>>,
     names: NameTable,
+    limits: Limits,
     pub(crate) jobs: Vec<TakenJob>,
 }
 
@@ -95,11 +98,12 @@ fn worth_of(asked: &Asked, job: &Waiting<'_>, slots: u32) -> u64 {
 }
 
 impl Gathering {
-    /// Nothing but the nodes, which have these states.
+    /// Nothing but the nodes, which have these states, and the limits of arrays.
     pub(crate) fn new(
         alloc: Global,
         asked: Asked,
         states: &[NodeState],
+        limits: Limits,
     ) -> Result<Gathering, AllocError>
         ensures { IfOk result (λ g. length g.jobs.items ≡ 0) }
     {
@@ -117,6 +121,7 @@ impl Gathering {
             keys: NameTable::new(alloc),
             shapes: Vec::new(alloc),
             names: NameTable::new(alloc),
+            limits,
             jobs: Vec::new(alloc),
         })
     }
@@ -160,7 +165,8 @@ impl Gathering {
         cluster: &Cluster,
         job: &Waiting<'_>,
     ) -> Result<Option<usize>, AllocError>
-        ensures { OnOk result (self.new.jobs.items ≡ self.old.jobs.items) }
+        ensures jobs { OnOk result (self.new.jobs.items ≡ self.old.jobs.items) }
+        ensures limits { OnOk result (throttles self.new.limits ≡ throttles self.old.limits) }
     {
         let key = key_of(alloc, job.kind)?;
         if let Some(number) = self.keys.number(&key) {
@@ -176,14 +182,16 @@ impl Gathering {
         Ok(Some(number))
     }
 
-    // What becomes of a job that waits for an order.
+    // What becomes of a job that waits for an order. A task is taken only where its array has room for it, and counts there.
     fn take(
         &mut self,
         alloc: Global,
         cluster: &Cluster,
         job: Waiting<'_>,
     ) -> Result<Fate, AllocError>
-        ensures { IfOk result (λ fate. length self.new.jobs.items ≡ length self.old.jobs.items + bit (is_taken fate)) }
+        ensures jobs { IfOk result (λ fate. length self.new.jobs.items ≡ length self.old.jobs.items + bit (is_taken fate)) }
+        ensures room { IfOk result (λ fate. (is_taken fate && is_full (throttles self.old.limits) job.entry.name) ≡ false) }
+        ensures counted { IfOk result (λ fate. throttles self.new.limits ≡ with_used_if (is_taken fate) (throttles self.old.limits) job.entry.name) }
     {
         let number = match self.shape_number(alloc, cluster, &job)? {
             Some(number) if number < self.shapes.len() => number,
@@ -196,12 +204,16 @@ impl Gathering {
         if nodes.len() < job.width as usize {
             return Ok(Fate::Left(Cause::TooLarge));
         }
+        if self.limits.is_full(job.name.bytes()) {
+            return Ok(Fate::Left(Cause::Throttled));
+        }
         if MOST_JOBS <= self.jobs.len() {
             return Ok(Fate::Left(Cause::Beyond));
         }
         if !self.names.add(job.name.bytes())? {
             return Ok(Fate::Left(Cause::Repeated));
         }
+        self.limits.count(job.name.bytes());
         let ask = ask_of(&self.asked, &job);
         let nodes = NodeSet::of_slice(alloc, nodes)?;
         let set = String::from_str(alloc, set)?;
@@ -316,6 +328,7 @@ impl Gathering {
             keys: _,
             shapes: _,
             names: _,
+            limits: _,
         } = self;
         let mut closures = closures_of(alloc, &closed)?;
         let crowded = add_later(&later, &mut closures, &mut shut)?;

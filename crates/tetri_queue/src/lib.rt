@@ -1,6 +1,7 @@
 //! The queue of a resource manager as the trace of one cycle, and the launches of a report as its commands.
 #![tactic(auto)]
 
+mod arrays;
 mod asked;
 mod cause;
 mod confirming;
@@ -19,5 +20,5 @@ pub use asked::{Asked, AskedFault, QueueWorth};
 pub use cause::{Cause, Fate, ReservationFate};
 pub use gathering::{Cycle, TakenJob};
 pub use ordering::{Launch, Launches, OrderFault, OrderForm, orders_text};
-pub use queueing::{Queue, QueueFault, queue_trace};
+pub use queueing::{Queue, QueueFault, QueueTexts, queue_trace};
 pub use telling::{counts_text, fate_word, fault_text};

@@ -1,5 +1,6 @@
 // What a line of the queue says.
 ghost use Rattle.std.specs.Prelude.{◌≡◌, length};
+ghost use Rattle.tetri_queue.specs.Arrays.{number_in};
 ghost use Rattle.tetri_queue.specs.Orders.{is_id, is_id_byte};
 
 use crate::cause::Cause;
@@ -81,8 +82,10 @@ fn task_of(alloc: Global, id: &[u8]) -> Result<Vec<u8>, AllocError> {
     Ok(bytes)
 }
 
-// A number of 32 bits, or none.
-fn number_in(text: &[u8]) -> Option<u32> {
+/// A number of 32 bits, or none.
+pub(crate) fn number_in(text: &[u8]) -> Option<u32>
+    ensures { result ≡ number_in text.now }
+{
     match digits_below(4_294_967_296, text) {
         Some(number) => Some(number as u32),
         None => None,

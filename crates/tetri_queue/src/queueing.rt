@@ -1,9 +1,10 @@
 // From a queue to the trace of one cycle.
-ghost use Rattle.std.specs.Prelude.{◌≡◌, ◌+◌, IfOk, OnOk, length};
+ghost use Rattle.std.specs.Prelude.{◌≡◌, ◌+◌, IfOk, IfSome, OnOk, is_some, length};
 ghost use Rattle.tetri_base.specs.Lists.{count};
 ghost use Rattle.tetri_io.specs.Words.{parts_at};
-ghost use Rattle.tetri_queue.specs.Queues.{IsQueue, is_taken};
+ghost use Rattle.tetri_queue.specs.Queues.{AnswersQueue, are_nodes, is_taken};
 
+use crate::arrays::Limits;
 use crate::asked::{Asked, AskedFault};
 use crate::cause::{Fate, ReservationFate};
 use crate::confirming::is_read_as;
@@ -35,6 +36,16 @@ impl From<AllocError> for QueueFault {
     fn from(_: AllocError) -> Self {
         QueueFault::NoMemory
     }
+}
+
+/// The lines that tell of a queue, as a resource manager prints them.
+#[derive(Clone, Copy)]
+pub struct QueueTexts<'a> {
+    pub jobs: &'a [u8],
+    /// The identifiers of pending arrays, as `6_[0-3%2]`: how many tasks of each may run at once.
+    pub arrays: &'a [u8],
+    pub nodes: &'a [u8],
+    pub reservations: &'a [u8],
 }
 
 /// A trace that was made of a queue.
@@ -104,16 +115,16 @@ fn gather(
     asked: &Asked,
     cluster: &Cluster,
     states: &[NodeState],
-    jobs: &[u8],
-    reservations: &[u8],
+    texts: QueueTexts<'_>,
 ) -> Result<Whole, AllocError>
-    ensures lines { IfOk result (λ w. length w.fates.items ≡ length (parts_at 10 jobs.now)) }
+    ensures lines { IfOk result (λ w. length w.fates.items ≡ length (parts_at 10 texts.entry.jobs.now)) }
     ensures taken { IfOk result (λ w. count is_taken w.fates.items ≡ length w.gathered.jobs.items) }
-    ensures reservations { IfOk result (λ w. length w.reservations.items ≡ length (parts_at 10 reservations.now)) }
+    ensures reservations { IfOk result (λ w. length w.reservations.items ≡ length (parts_at 10 texts.entry.reservations.now)) }
 {
-    let mut gathering = Gathering::new(alloc, *asked, states)?;
-    let fates = add_lines(alloc, cluster, &mut gathering, jobs)?;
-    let reservations = add_reservations(alloc, cluster, &mut gathering, reservations)?;
+    let limits = Limits::of_lines(alloc, texts.arrays, texts.jobs)?;
+    let mut gathering = Gathering::new(alloc, *asked, states, limits)?;
+    let fates = add_lines(alloc, cluster, &mut gathering, texts.jobs)?;
+    let reservations = add_reservations(alloc, cluster, &mut gathering, texts.reservations)?;
     let gathered = gathering.finish(alloc)?;
     Ok(Whole {
         gathered,
@@ -122,42 +133,41 @@ fn gather(
     })
 }
 
-fn cluster_of(alloc: Global, nodes: Vec<NodeText>) -> Result<Cluster, QueueFault> {
+// The nodes, if there are as many as a trace may have.
+#[tactic(auto, using(std::proofs::lemmas::Bool::Decides::nat_tests))]
+fn cluster_of(alloc: Global, nodes: Vec<NodeText>) -> Result<Option<Cluster>, AllocError>
+    ensures can { IfOk result (λ cluster. is_some cluster ≡ are_nodes nodes.items) }
+    ensures nodes { IfOk result (λ cluster. IfSome cluster (λ c. c ≡ nodes.items)) }
+{
     match Cluster::build(alloc, nodes) {
-        Ok(cluster) if cluster.count() != 0 => Ok(cluster),
-        Err(ClusterFault::NoMemory) => Err(QueueFault::NoMemory),
-        Ok(_) | Err(ClusterFault::TooManyNodes(_) | ClusterFault::NameTaken(_)) => {
-            Err(QueueFault::Nodes)
-        }
+        Ok(cluster) if cluster.count() != 0 => Ok(Some(cluster)),
+        Err(ClusterFault::NoMemory) => Err(AllocError),
+        Ok(_) | Err(ClusterFault::TooManyNodes(_) | ClusterFault::NameTaken(_)) => Ok(None),
     }
 }
 
-/// The trace of one cycle of a queue, of the lines that tell of its jobs, its nodes and its reservations, and what becomes of each line. The trace is read back before it is handed out, and `Unlike` says that it
-/// is not read as it should be.
-pub fn queue_trace(
-    alloc: Global,
-    asked: &Asked,
-    jobs: &[u8],
-    nodes: &[u8],
-    reservations: &[u8],
-) -> Result<Queue, QueueFault>
-    ensures { IfOk result (IsQueue jobs.now nodes.now reservations.now) }
+/// The trace of one cycle of a queue, of the lines that tell of it, and what becomes of each line. The trace is read back before it is
+/// handed out, and `Unlike` says that it is not read as it should be.
+pub fn queue_trace(alloc: Global, asked: &Asked, texts: QueueTexts<'_>) -> Result<Queue, QueueFault>
+    ensures { AnswersQueue asked.entry.now texts.entry.jobs.now texts.entry.nodes.now texts.entry.reservations.now result }
 {
-    if let Some(fault) = asked.fault(!reservations.is_empty()) {
+    if let Some(fault) = asked.fault(!texts.reservations.is_empty()) {
         return Err(QueueFault::Asked(fault));
     }
     let Nodes {
         nodes: told,
         states,
         fates: node_fates,
-    } = read_nodes(alloc, nodes)?;
+    } = read_nodes(alloc, texts.nodes)?;
     let list = nodes_text(alloc, &told)?;
-    let cluster = cluster_of(alloc, told)?;
+    let Some(cluster) = cluster_of(alloc, told)? else {
+        return Err(QueueFault::Nodes);
+    };
     let Whole {
         gathered,
         fates,
         reservations: reserved,
-    } = gather(alloc, asked, &cluster, &states, jobs, reservations)?;
+    } = gather(alloc, asked, &cluster, &states, texts)?;
     let Gathered {
         closures,
         events,

@@ -29,13 +29,14 @@ fn cause_word(cause: Cause) -> &'static str {
         Cause::Constraint => "constraint",
         Cause::NoNodes => "no-nodes",
         Cause::TooLarge => "too-large",
+        Cause::Throttled => "throttled",
         Cause::Repeated => "repeated",
         Cause::Beyond => "beyond",
     }
 }
 
 // All that may become of a line but that it is blank, in the order in which they are told.
-const FATES: [Fate; 16] = [
+const FATES: [Fate; 17] = [
     Fate::Taken,
     Fate::Running,
     Fate::Released,
@@ -50,6 +51,7 @@ const FATES: [Fate; 16] = [
     Fate::Left(Cause::Constraint),
     Fate::Left(Cause::NoNodes),
     Fate::Left(Cause::TooLarge),
+    Fate::Left(Cause::Throttled),
     Fate::Left(Cause::Repeated),
     Fate::Left(Cause::Beyond),
 ];

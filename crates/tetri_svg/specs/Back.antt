@@ -1,21 +1,25 @@
 -- The text behind the bars.
-use Rattle.std.specs.Prelude.{ℕ, ◌+◌, ◌-◌, ◌*◌, ◌/◌, List, ◌++◌, min, codes}
+use Rattle.std.specs.Prelude.{ℕ, ◌+◌, ◌-◌, ◌*◌, ◌/◌, List, [], ◌++◌, min, if◌then◌else◌, codes}
 use Rattle.tetri_svg.specs.Areas.{area_text}
 use Rattle.tetri_svg.specs.Bars.{name_over}
 use Rattle.tetri_svg.specs.Layout.{Layout}
 use Rattle.tetri_svg.specs.Plain.{awaited_text, bounded_text, close_text, cycle_line_text, cycle_name_text, number_text, rect_text, slots_text, valued_text}
-use Rattle.tetri_svg.specs.Sizes.{bar_of, base_of, bottom_of, last_of, x_of}
+use Rattle.tetri_svg.specs.Sizes.{bar_of, base_of, bottom_of, has_slot, last_of, shows, x_of}
 use Rattle.tetri_svg.specs.declared.area.Area.{Area}
 
--- what waits on a node for these slots, as far as the picture goes
-abbrev pub wait_text : Layout → List ℕ → List ℕ → ℕ → ℕ → ℕ → List ℕ
-wait_text f job name node from until =
-    rect_text (codes "waits") ++ area_text (bar_of f node from (min until f.slots)) ++ awaited_text job name ++ slots_text from (last_of until) ++ close_text
-    ++ name_over f 0 job node from (min until f.slots)
+-- what waits on a node for these slots
+abbrev pub box_text : Layout → List ℕ → List ℕ → ℕ → ℕ → ℕ → List ℕ
+box_text f job name node from until =
+    rect_text (codes "waits") ++ area_text (bar_of f node from until) ++ awaited_text job name ++ slots_text from (last_of until) ++ close_text
+    ++ name_over f 0 job node from until
 
--- the line at which a cycle begins
+-- the same, if the picture shows some of these slots
+abbrev pub wait_text : Layout → List ℕ → List ℕ → ℕ → ℕ → ℕ → List ℕ
+wait_text f job name node from until = if shows f from until then box_text f job name node from until else []
+
+-- the line at which a cycle begins, if the picture shows its slot
 abbrev pub asked_text : Layout → ℕ → List ℕ
-asked_text f cycle = cycle_line_text (x_of f cycle) (bottom_of f) ++ cycle_name_text cycle
+asked_text f cycle = if has_slot f cycle then cycle_line_text (x_of f cycle) (bottom_of f) ++ cycle_name_text cycle else []
 
 -- how high a number stands, where 72 pixels are this much
 abbrev pub height_in : ℕ → ℕ → ℕ

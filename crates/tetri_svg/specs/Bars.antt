@@ -1,8 +1,8 @@
 -- The text of bars.
-use Rattle.std.specs.Prelude.{ℕ, ◌+◌, ◌%◌, List, [], ◌++◌, length, min, nat_le, if◌then◌else◌, codes}
+use Rattle.std.specs.Prelude.{ℕ, ◌+◌, ◌%◌, List, [], ◌++◌, length, min, if◌then◌else◌, codes}
 use Rattle.tetri_svg.specs.Areas.{area_text}
 use Rattle.tetri_svg.specs.Plain.{close_text, coloured_text, fared_text, label_text, marked_text, ran_text}
-use Rattle.tetri_svg.specs.Sizes.{bar_of, has_room, last_of, text_y, x_of}
+use Rattle.tetri_svg.specs.Sizes.{bar_of, has_room, has_slot, last_of, shows, text_y, x_of}
 use Rattle.tetri_svg.specs.declared.bar.Bar.{Bar}
 use Rattle.tetri_svg.specs.declared.fate.Fate.{Fate}
 use Rattle.tetri_svg.specs.declared.fate.Fate.TheVariants.{Ended, Cancelled, Failed, RunsOn}
@@ -19,7 +19,7 @@ fate_words RunsOn = codes "runs on"
 abbrev pub titled_text : Bar → List ℕ → List ℕ → List ℕ
 titled_text b job node = ran_text job node b.from (last_of b.until) ++ fared_text (last_of b.expected) (fate_words b.fate) ++ close_text
 
--- the rectangle of a bar, from its start to its end in its node's row, with its title
+-- the rectangle of a bar, from its start to its end in its node's row as far as the picture shows it, with its title
 abbrev pub bar_text : Layout → Bar → List ℕ → List ℕ → List ℕ
 bar_text f b job node = coloured_text (b.job % 7) ++ area_text (bar_of f b.node b.from b.until) ++ titled_text b job node
 
@@ -27,15 +27,15 @@ bar_text f b job node = coloured_text (b.job % 7) ++ area_text (bar_of f b.node 
 abbrev pub mark_text : Layout → List ℕ → ℕ → ℕ → ℕ → List ℕ
 mark_text f class node from until = marked_text class ++ area_text (bar_of f node from until) ++ codes "/>\n"
 
--- the mark of the part beyond the end that was expected, if there is one
+-- the mark of the part beyond the end that was expected, if the picture shows some of it
 abbrev pub over_text : Layout → ℕ → ℕ → ℕ → List ℕ
-over_text f node expected until = if nat_le until expected then [] else mark_text f (codes "over") node expected until
+over_text f node expected until = if shows f expected until then mark_text f (codes "over") node expected until else []
 
--- the mark on the last slot before the end of what was cancelled or failed
+-- the mark on the last slot before the end of what was cancelled or failed, if the picture shows that slot
 abbrev pub end_text : Layout → ℕ → ℕ → Fate → List ℕ
 end_text f node until Ended = []
-end_text f node until Cancelled = mark_text f (codes "cancelled") node (last_of until) until
-end_text f node until Failed = mark_text f (codes "failed") node (last_of until) until
+end_text f node until Cancelled = if has_slot f (last_of until) then mark_text f (codes "cancelled") node (last_of until) until else []
+end_text f node until Failed = if has_slot f (last_of until) then mark_text f (codes "failed") node (last_of until) until else []
 end_text f node until RunsOn = []
 
 -- the slot before which a bar has no mark of its end

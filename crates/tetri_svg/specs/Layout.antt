@@ -1,10 +1,11 @@
 -- The sizes of a picture as plain data.
 use Rattle.std.specs.Prelude.{ℕ, ◌+◌, ◌≤◌}
 
--- how many slots and nodes it has, how wide a slot and how high a node is, the gap between a bar and the ends of its row, and where the plot
--- begins at the left
+-- the first slot that it shows and the first behind those, how many nodes it has, how wide a slot and how high a node is, the gap between a
+-- bar and the ends of its row, and where the plot begins at the left
 pub record Layout : Type 0 where
-  pub slots : ℕ
+  pub first : ℕ
+  pub until : ℕ
   pub nodes : ℕ
   pub column : ℕ
   pub row : ℕ
@@ -13,7 +14,7 @@ pub record Layout : Type 0 where
 
 -- no picture is larger
 pub record IsSmall (f : Layout) : Type 0 where
-  pub slots : f.slots ≤ 20000
+  pub until : f.until ≤ 20000
   pub nodes : f.nodes ≤ 10000
   pub column : f.column ≤ 32
   pub row : f.row ≤ 24

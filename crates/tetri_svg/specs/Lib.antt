@@ -2,8 +2,10 @@ pub mod Layout
 pub mod Sizes
 pub mod Areas
 pub mod Plain
+pub mod Clock
 pub mod Bars
 pub mod Shade
 pub mod Front
 pub mod Back
+pub mod Strips
 pub mod Style

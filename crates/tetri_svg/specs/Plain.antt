@@ -1,5 +1,5 @@
 -- Texts of given words and numbers.
-use Rattle.std.specs.Prelude.{ℕ, List, ◌++◌, codes, decimal}
+use Rattle.std.specs.Prelude.{ℕ, ◌/◌, ◌%◌, List, ◌++◌, codes, decimal}
 
 -- the opening of a rectangle of this class
 unfoldable pub rect_text : List ℕ → List ℕ
@@ -41,6 +41,14 @@ valued_text slot value = codes "><title>cycle " ++ decimal slot ++ codes ": valu
 unfoldable pub bounded_text : ℕ → List ℕ → List ℕ
 bounded_text bound mark = codes ", bound " ++ decimal bound ++ codes ", " ++ mark
 
+-- the title of the jobs that wait behind a cycle
+unfoldable pub waiting_text : ℕ → ℕ → List ℕ
+waiting_text slot jobs = codes "><title>slot " ++ (decimal slot ++ (codes ": " ++ (decimal jobs ++ codes " jobs wait")))
+
+-- the title of the nodes in use in a slot
+unfoldable pub used_text : ℕ → ℕ → ℕ → List ℕ
+used_text slot used nodes = codes "><title>slot " ++ (decimal slot ++ (codes ": " ++ (decimal used ++ (codes " of " ++ (decimal nodes ++ codes " nodes in use")))))
+
 -- a name, which ends at this place
 unfoldable pub named_text : ℕ → ℕ → List ℕ → List ℕ
 named_text x y name = codes "<text class=\"names\" x=\"" ++ decimal x ++ codes "\" y=\"" ++ decimal y ++ codes "\">" ++ name ++ codes "</text>\n"
@@ -65,6 +73,19 @@ level_text x y end = codes "<path class=\"grid\" d=\"M" ++ decimal x ++ codes " 
 unfoldable pub slot_text : ℕ → ℕ → List ℕ
 slot_text x slot = codes "<text class=\"axis\" x=\"" ++ decimal x ++ codes "\" y=\"36\">" ++ decimal slot ++ codes "</text>\n"
 
+-- the opening of the words at the axis
+unfoldable pub axis_at_text : ℕ → List ℕ
+axis_at_text x = codes "<text class=\"axis\" x=\"" ++ decimal x ++ codes "\" y=\"36\">"
+
+-- a date, with a space behind it
+unfoldable pub date_text : ℕ → ℕ → ℕ → List ℕ
+date_text year month day =
+    decimal year ++ codes "-" ++ decimal (month / 10) ++ decimal (month % 10) ++ codes "-" ++ decimal (day / 10) ++ decimal (day % 10) ++ codes " "
+
+-- a time of the day, and the end of the words at the axis
+unfoldable pub time_text : ℕ → ℕ → List ℕ
+time_text hour minute = decimal (hour / 10) ++ decimal (hour % 10) ++ codes ":" ++ decimal (minute / 10) ++ decimal (minute % 10) ++ codes "</text>\n"
+
 -- the line at which a cycle begins
 unfoldable pub cycle_line_text : ℕ → ℕ → List ℕ
 cycle_line_text x end = codes "<path class=\"asked\" d=\"M" ++ decimal x ++ codes " 39V" ++ decimal end ++ codes "\">"
@@ -72,6 +93,14 @@ cycle_line_text x end = codes "<path class=\"asked\" d=\"M" ++ decimal x ++ code
 -- what a picture is of
 unfoldable pub counts_text : ℕ → ℕ → ℕ → List ℕ
 counts_text pieces nodes slots = decimal pieces ++ codes " pieces on " ++ decimal nodes ++ codes " nodes in " ++ decimal slots ++ codes " slots"
+
+-- what a picture of a part is of
+unfoldable pub part_text : ℕ → ℕ → List ℕ
+part_text pieces nodes = decimal pieces ++ codes " pieces on " ++ decimal nodes ++ codes " nodes in "
+
+-- of which slots a part is
+unfoldable pub of_text : ℕ → List ℕ
+of_text slots = codes " of " ++ decimal slots
 
 -- the size of a picture
 unfoldable pub size_text : ℕ → ℕ → List ℕ

@@ -1,5 +1,5 @@
 -- Where things stand in a picture, in pixels.
-use Rattle.std.specs.Prelude.{ℕ, ◌+◌, ◌-◌, ◌*◌, ◌/◌, max, Bool, ◌&&◌, nat_le, if◌then◌else◌}
+use Rattle.std.specs.Prelude.{ℕ, ◌+◌, ◌-◌, ◌*◌, ◌/◌, max, min, Bool, ◌&&◌, nat_le, nat_lt, if◌then◌else◌}
 use Rattle.tetri_svg.specs.declared.area.Area.{Area}
 use Rattle.tetri_svg.specs.Layout.{Layout}
 
@@ -25,15 +25,30 @@ stride_for size room =
     if nat_le room size then 1 else (if nat_le room (size * 2) then 2 else (if nat_le room (size * 5) then 5
     else (if nat_le room (size * 10) then 10 else (if nat_le room (size * 20) then 20 else 50))))
 
--- the frame of a picture with so many slots and nodes, where the longest name of a node has so many letters
-abbrev pub frame_of : ℕ → ℕ → ℕ → Layout
-frame_of slots nodes longest =
-    record { slots = slots; nodes = nodes; column = column_of slots; row = row_of nodes; gap = gap_of (row_of nodes); left = 24 + 7 * longest }
+-- the frame of a picture from this slot on up to the one before that, with so many nodes, where the longest name of one has so many letters
+abbrev pub frame_of : ℕ → ℕ → ℕ → ℕ → Layout
+frame_of first until nodes longest = record {
+  first = first;
+  until = until;
+  nodes = nodes;
+  column = column_of (until - first);
+  row = row_of nodes;
+  gap = gap_of (row_of nodes);
+  left = 24 + 7 * longest;
+}
 
 module _ (f : Layout) where
-  -- where a slot begins, and where a node's row begins
+  -- the picture shows this slot
+  abbrev pub has_slot : ℕ → Bool
+  has_slot slot = nat_le f.first slot && nat_lt slot f.until
+
+  -- it shows some of these slots
+  abbrev pub shows : ℕ → ℕ → Bool
+  shows from until = nat_lt (max from f.first) (min until f.until)
+
+  -- where a slot begins, or the plot where the slot is before it, and where a node's row begins
   abbrev pub x_of : ℕ → ℕ
-  x_of slot = f.left + slot * f.column
+  x_of slot = f.left + (slot - f.first) * f.column
 
   abbrev pub y_of : ℕ → ℕ
   y_of node = 44 + node * f.row
@@ -42,20 +57,20 @@ module _ (f : Layout) where
   abbrev pub text_y : ℕ → ℕ
   text_y node = y_of node + (f.row + 8) / 2
 
-  -- how wide these slots are
+  -- how wide those of these slots are that it shows
   abbrev pub span_of : ℕ → ℕ → ℕ
-  span_of from until = (until - from) * f.column
+  span_of from until = (min until f.until - max from f.first) * f.column
 
-  -- these slots of a node's row
+  -- those of these slots that it shows, in a node's row
   abbrev pub area_of : ℕ → ℕ → ℕ → Area
   area_of node from until = record { x = x_of from; y = y_of node; width = span_of from until; height = f.row }
 
-  -- a bar over these slots in a node's row
+  -- a bar over those of these slots that it shows, in a node's row
   abbrev pub bar_of : ℕ → ℕ → ℕ → Area
   bar_of node from until = record { x = x_of from; y = y_of node + f.gap; width = span_of from until; height = f.row - f.gap - f.gap }
 
   abbrev pub right_of : ℕ
-  right_of = x_of f.slots
+  right_of = x_of f.until
 
   abbrev pub bottom_of : ℕ
   bottom_of = y_of f.nodes
@@ -64,11 +79,18 @@ module _ (f : Layout) where
   abbrev pub base_of : ℕ
   base_of = bottom_of + 96
 
+  -- the base lines of the queue and of the nodes in use
+  abbrev pub queue_base_of : ℕ
+  queue_base_of = base_of + 60
+
+  abbrev pub use_base_of : ℕ
+  use_base_of = base_of + 120
+
   abbrev pub width_of : ℕ
   width_of = max (right_of + 24) 620
 
   abbrev pub height_of : ℕ
-  height_of = base_of + 146
+  height_of = use_base_of + 170
 
   -- there is room for a line round each bar
   abbrev pub is_fine : Bool

@@ -12,7 +12,7 @@ use crate::plain::{
 use crate::sizes::last_of;
 use std::alloc::AllocError;
 
-/// Adds what waits on a node for these slots, as far as the picture goes.
+/// Adds what waits on a node for these slots, if the picture shows some of them.
 pub fn add_wait(
     out: &mut String,
     frame: &Frame,
@@ -24,19 +24,24 @@ pub fn add_wait(
 ) -> Result<(), AllocError>
     ensures { OnOk result (string_bytes out.new ≡ string_bytes out.old ++ wait_text frame.now job.now name.now node from until) }
 {
-    let end = until.min(frame.slots);
+    if !frame.shows(from, until) {
+        return Ok(());
+    }
     add_rect(out, "waits")?;
-    add_area(out, frame.bar(node, from, end))?;
+    add_area(out, frame.bar(node, from, until))?;
     add_awaited(out, job, name)?;
     add_slots(out, from, last_of(until))?;
     add_close(out)?;
-    add_name_over(out, frame, 0, job, node, from, end)
+    add_name_over(out, frame, 0, job, node, from, until)
 }
 
-/// Adds the line at which a cycle begins.
+/// Adds the line at which a cycle begins, if the picture shows its slot.
 pub fn add_asked(out: &mut String, frame: &Frame, cycle: u32) -> Result<(), AllocError>
     ensures { OnOk result (string_bytes out.new ≡ string_bytes out.old ++ asked_text frame.now cycle) }
 {
+    if !frame.has_slot(cycle) {
+        return Ok(());
+    }
     add_cycle_line(out, frame.x(cycle), frame.bottom())?;
     add_cycle_name(out, cycle)
 }

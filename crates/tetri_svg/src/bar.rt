@@ -49,7 +49,7 @@ fn add_title(out: &mut String, bar: Bar, job: &str, node: &str) -> Result<(), Al
     add_close(out)
 }
 
-// Adds the rectangle of a bar with its title.
+// Adds the rectangle of a bar, as far as the picture shows it, with its title.
 fn add_rectangle(
     out: &mut String,
     frame: &Frame,

@@ -1,11 +1,12 @@
 // The sizes of a picture.
 use std::marker::Model;
 
-/// The sizes of a picture: how many slots and nodes it has, how wide a slot and how high a node is, the gap between a bar and the ends of
-/// its row, and where the plot begins at the left.
+/// The sizes of a picture: the first slot that it shows and the first behind those, how many nodes it has, how wide a slot and how high a
+/// node is, the gap between a bar and the ends of its row, and where the plot begins at the left.
 #[derive(Debug, Drop)]
 pub struct Frame {
-    pub(crate) slots: u32,
+    pub(crate) first: u32,
+    pub(crate) until: u32,
     pub(crate) nodes: u32,
     pub(crate) column: u32,
     pub(crate) row: u32,
@@ -19,7 +20,8 @@ impl Model for Frame {
     ghost Value = { Layout };
 
     ghost view = { λ f. record {
-      slots = f.slots;
+      first = f.first;
+      until = f.until;
       nodes = f.nodes;
       column = f.column;
       row = f.row;
@@ -28,7 +30,8 @@ impl Model for Frame {
     } };
 
     ghost invariant = { λ f. IsSmall (record {
-      slots = f.slots;
+      first = f.first;
+      until = f.until;
       nodes = f.nodes;
       column = f.column;
       row = f.row;

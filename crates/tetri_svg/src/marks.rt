@@ -25,7 +25,7 @@ fn add_mark(
     out.push_str("/>\n")
 }
 
-/// Adds the mark of the part beyond the end that was expected, if there is one.
+/// Adds the mark of the part beyond the end that was expected, if the picture shows some of it.
 pub(crate) fn add_over(
     out: &mut String,
     frame: &Frame,
@@ -35,13 +35,13 @@ pub(crate) fn add_over(
 ) -> Result<(), AllocError>
     ensures { OnOk result (string_bytes out.new ≡ string_bytes out.old ++ over_text frame.now node expected until) }
 {
-    if until <= expected {
+    if !frame.shows(expected, until) {
         return Ok(());
     }
     add_mark(out, frame, "over", node, expected, until)
 }
 
-/// Adds the mark on the last slot before the end of what was cancelled or failed.
+/// Adds the mark on the last slot before the end of what was cancelled or failed, if the picture shows that slot.
 pub(crate) fn add_end(
     out: &mut String,
     frame: &Frame,
@@ -51,6 +51,9 @@ pub(crate) fn add_end(
 ) -> Result<(), AllocError>
     ensures { OnOk result (string_bytes out.new ≡ string_bytes out.old ++ end_text frame.now node until fate) }
 {
+    if !frame.has_slot(last_of(until)) {
+        return Ok(());
+    }
     match fate {
         Fate::Cancelled => add_mark(out, frame, "cancelled", node, last_of(until), until),
         Fate::Failed => add_mark(out, frame, "failed", node, last_of(until), until),

@@ -1,7 +1,8 @@
 // Texts of given words and numbers.
 ghost use Rattle.std.specs.Prelude.{◌≡◌, ◌++◌, OnOk, string_bytes};
-ghost use Rattle.tetri_svg.specs.Plain.{awaited_text, bounded_text, coloured_text, counts_text, close_text, cycle_line_text, cycle_name_text, fared_text, font_text, label_text, legend_at_text, level_text, marked_text, named_text, number_text, out_text, ran_text, rect_text, size_text, slot_text, slots_text, svg_text, upright_text, valued_text, view_text};
+ghost use Rattle.tetri_svg.specs.Plain.{awaited_text, axis_at_text, bounded_text, coloured_text, counts_text, close_text, cycle_line_text, cycle_name_text, date_text, fared_text, font_text, label_text, legend_at_text, level_text, marked_text, named_text, number_text, of_text, out_text, part_text, ran_text, rect_text, size_text, slot_text, slots_text, svg_text, time_text, upright_text, used_text, valued_text, view_text, waiting_text};
 
+use crate::clock::Date;
 use std::alloc::AllocError;
 use std::fmt::Write;
 
@@ -97,6 +98,22 @@ pub(crate) fn add_bounded(out: &mut String, bound: u64, mark: &str) -> Result<()
     write!(out, ", bound {bound}, {mark}")
 }
 
+/// Adds the title of the jobs that wait behind a cycle.
+#[tactic(auto, unfolding(crate::specs::Plain::waiting_text))]
+pub(crate) fn add_waiting(out: &mut String, slot: u32, jobs: u64) -> Result<(), AllocError>
+    ensures { OnOk result (string_bytes out.new ≡ string_bytes out.old ++ waiting_text slot jobs) }
+{
+    write!(out, "><title>slot {slot}: {jobs} jobs wait")
+}
+
+/// Adds the title of the nodes in use in a slot.
+#[tactic(auto, unfolding(crate::specs::Plain::used_text))]
+pub(crate) fn add_used(out: &mut String, slot: u32, used: u32, nodes: u32) -> Result<(), AllocError>
+    ensures { OnOk result (string_bytes out.new ≡ string_bytes out.old ++ used_text slot used nodes) }
+{
+    write!(out, "><title>slot {slot}: {used} of {nodes} nodes in use")
+}
+
 /// Adds a name, which ends at this place.
 #[tactic(auto, unfolding(crate::specs::Plain::named_text))]
 pub(crate) fn add_named(out: &mut String, x: u64, y: u64, name: &str) -> Result<(), AllocError>
@@ -163,6 +180,45 @@ pub(crate) fn add_slot(out: &mut String, x: u64, slot: u32) -> Result<(), AllocE
     )
 }
 
+/// Adds the opening of the words at the axis.
+#[tactic(auto, unfolding(crate::specs::Plain::axis_at_text))]
+pub(crate) fn add_axis_at(out: &mut String, x: u64) -> Result<(), AllocError>
+    ensures { OnOk result (string_bytes out.new ≡ string_bytes out.old ++ axis_at_text x) }
+{
+    write!(out, "<text class=\"axis\" x=\"{x}\" y=\"36\">")
+}
+
+/// Adds a date, with a space behind it.
+#[tactic(auto, unfolding(crate::specs::Plain::date_text))]
+pub(crate) fn add_date(out: &mut String, date: Date) -> Result<(), AllocError>
+    ensures { OnOk result (string_bytes out.new ≡ string_bytes out.old ++ date_text date.year date.month date.day) }
+{
+    write!(
+        out,
+        "{}-{}{}-{}{} ",
+        date.year,
+        date.month / 10,
+        date.month % 10,
+        date.day / 10,
+        date.day % 10
+    )
+}
+
+/// Adds a time of the day, and the end of the words at the axis.
+#[tactic(auto, unfolding(crate::specs::Plain::time_text))]
+pub(crate) fn add_time(out: &mut String, hour: u64, minute: u64) -> Result<(), AllocError>
+    ensures { OnOk result (string_bytes out.new ≡ string_bytes out.old ++ time_text hour minute) }
+{
+    write!(
+        out,
+        "{}{}:{}{}</text>\n",
+        hour / 10,
+        hour % 10,
+        minute / 10,
+        minute % 10
+    )
+}
+
 /// Adds the line at which a cycle begins.
 #[tactic(auto, unfolding(crate::specs::Plain::cycle_line_text))]
 pub(crate) fn add_cycle_line(out: &mut String, x: u64, end: u64) -> Result<(), AllocError>
@@ -182,6 +238,22 @@ pub(crate) fn add_counts(
     ensures { OnOk result (string_bytes out.new ≡ string_bytes out.old ++ counts_text pieces nodes slots) }
 {
     write!(out, "{pieces} pieces on {nodes} nodes in {slots} slots")
+}
+
+/// Adds what a picture of a part is of.
+#[tactic(auto, unfolding(crate::specs::Plain::part_text))]
+pub(crate) fn add_part(out: &mut String, pieces: usize, nodes: u32) -> Result<(), AllocError>
+    ensures { OnOk result (string_bytes out.new ≡ string_bytes out.old ++ part_text pieces nodes) }
+{
+    write!(out, "{pieces} pieces on {nodes} nodes in ")
+}
+
+/// Adds of which slots a part is.
+#[tactic(auto, unfolding(crate::specs::Plain::of_text))]
+pub(crate) fn add_of(out: &mut String, slots: u32) -> Result<(), AllocError>
+    ensures { OnOk result (string_bytes out.new ≡ string_bytes out.old ++ of_text slots) }
+{
+    write!(out, " of {slots}")
 }
 
 /// Adds the size of a picture.

@@ -8,7 +8,7 @@ use crate::plain::{add_close, add_out, add_rect};
 use crate::sizes::last_of;
 use std::alloc::AllocError;
 
-/// Adds the shade of these slots of a node's row, if there are some, of this class and with these words.
+/// Adds the shade of those of these slots of a node's row that the picture shows, if it shows some, of this class and with these words.
 pub fn add_shade(
     out: &mut String,
     frame: &Frame,
@@ -21,7 +21,7 @@ pub fn add_shade(
 ) -> Result<(), AllocError>
     ensures { OnOk result (string_bytes out.new ≡ string_bytes out.old ++ shade_text frame.now class.now words.now name.now node from until) }
 {
-    if until <= from {
+    if !frame.shows(from, until) {
         return Ok(());
     }
     add_rect(out, class)?;

@@ -1,6 +1,6 @@
 // Where things stand in a picture, in pixels.
 ghost use Rattle.std.specs.Prelude.{◌≡◌, ◌<◌, ◌≤◌, ◌^◌, ◌+◌};
-ghost use Rattle.tetri_svg.specs.Sizes.{area_of, bar_of, base_of, bottom_of, column_of, frame_of, gap_of, has_room, height_of, is_fine, last_of, right_of, row_of, span_of, stride_for, text_y, width_of, x_of, y_of};
+ghost use Rattle.tetri_svg.specs.Sizes.{area_of, bar_of, base_of, bottom_of, column_of, frame_of, gap_of, has_room, has_slot, height_of, is_fine, last_of, queue_base_of, right_of, row_of, shows, span_of, stride_for, text_y, use_base_of, width_of, x_of, y_of};
 
 use crate::area::Area;
 use crate::frame::Frame;
@@ -62,6 +62,7 @@ pub fn stride_for(size: u32, room: u32) -> u32
     requires { size ≤ 32 }
     ensures value { result ≡ stride_for size room }
     ensures some { 0 < result }
+    ensures most { result ≤ 50 }
 {
     if size >= room {
         1
@@ -79,30 +80,46 @@ pub fn stride_for(size: u32, room: u32) -> u32
 }
 
 impl Frame {
-    /// The frame of a picture with so many slots and nodes, where the longest name of a node has so many letters.
-    pub fn of(slots: u32, nodes: u32, longest: u32) -> Frame
-        requires few_slots { slots ≤ 20000 }
+    /// The frame of a picture from this slot on up to the one before that, with so many nodes, where the longest name of one has so many
+    /// letters.
+    pub fn of(first: u32, until: u32, nodes: u32, longest: u32) -> Frame
+        requires few_slots { until ≤ 20000 }
         requires few_nodes { nodes ≤ 10000 }
         requires short { longest ≤ 100 }
-        ensures { result ≡ frame_of slots nodes longest }
+        ensures { result ≡ frame_of first until nodes longest }
     {
         let row = row_of(nodes);
         Frame {
-            slots,
+            first,
+            until,
             nodes,
-            column: column_of(slots),
+            column: column_of(until.saturating_sub(first)),
             row,
             gap: gap_of(row),
             left: 24 + 7 * longest,
         }
     }
 
-    /// How many slots the picture has.
-    pub fn slots(&self) -> u32
-        ensures value { result ≡ self.now.slots }
+    /// The first slot behind those that the picture shows.
+    pub fn until(&self) -> u32
+        ensures value { result ≡ self.now.until }
         ensures most { result ≤ 20000 }
     {
-        self.slots
+        self.until
+    }
+
+    /// Whether the picture shows this slot.
+    pub fn has_slot(&self, slot: u32) -> bool
+        ensures { result ≡ has_slot self.now slot }
+    {
+        self.first <= slot && slot < self.until
+    }
+
+    /// Whether it shows some of these slots.
+    pub fn shows(&self, from: u32, until: u32) -> bool
+        ensures { result ≡ shows self.now from until }
+    {
+        from.max(self.first) < until.min(self.until)
     }
 
     /// How many nodes it has.
@@ -121,12 +138,12 @@ impl Frame {
         self.row
     }
 
-    /// Where a slot begins.
+    /// Where a slot begins, or the plot where the slot is before it.
     pub fn x(&self, slot: u32) -> u64
         ensures value { result ≡ x_of self.now slot }
         ensures small { result ≤ 2 ^ 40 }
     {
-        u64::from(self.left) + self.span(0, slot)
+        u64::from(self.left) + u64::from(slot.saturating_sub(self.first)) * u64::from(self.column)
     }
 
     /// Where a node's row begins.
@@ -144,7 +161,7 @@ impl Frame {
         self.y(node) + u64::from((self.row + 8) / 2)
     }
 
-    /// These slots of a node's row.
+    /// Those of these slots that the picture shows, in a node's row.
     pub fn area(&self, node: u32, from: u32, until: u32) -> Area
         ensures { result ≡ area_of self.now node from until }
     {
@@ -156,7 +173,7 @@ impl Frame {
         }
     }
 
-    /// A bar over these slots in a node's row.
+    /// A bar over those of these slots that the picture shows, in a node's row.
     pub fn bar(&self, node: u32, from: u32, until: u32) -> Area
         ensures { result ≡ bar_of self.now node from until }
     {
@@ -173,7 +190,7 @@ impl Frame {
         ensures value { result ≡ right_of self.now }
         ensures small { result ≤ 2 ^ 40 }
     {
-        self.x(self.slots)
+        self.x(self.until)
     }
 
     /// The lower end of the rows.
@@ -193,6 +210,24 @@ impl Frame {
         self.bottom() + 96
     }
 
+    /// The base line of the queue.
+    pub fn queue_base(&self) -> u64
+        ensures value { result ≡ queue_base_of self.now }
+        ensures low { 96 ≤ result }
+        ensures small { result ≤ 2 ^ 42 }
+    {
+        self.base() + 60
+    }
+
+    /// The base line of the nodes in use.
+    pub fn use_base(&self) -> u64
+        ensures value { result ≡ use_base_of self.now }
+        ensures low { 96 ≤ result }
+        ensures small { result ≤ 2 ^ 42 }
+    {
+        self.base() + 120
+    }
+
     /// The width of the whole picture.
     pub fn width(&self) -> u64
         ensures { result ≡ width_of self.now }
@@ -204,7 +239,7 @@ impl Frame {
     pub fn height(&self) -> u64
         ensures { result ≡ height_of self.now }
     {
-        self.base() + 146
+        self.use_base() + 170
     }
 
     /// Whether there is room for a line round each bar.
@@ -221,11 +256,12 @@ impl Frame {
         self.row >= 16 && letters <= 64 && letters as u64 * 7 + 8 <= self.span(from, until)
     }
 
-    // How wide so many slots are.
+    // How wide those of these slots are that the picture shows.
     fn span(&self, from: u32, until: u32) -> u64
         ensures { result ≡ span_of self.now from until }
     {
-        u64::from(until.saturating_sub(from)) * u64::from(self.column)
+        let slots = until.min(self.until).saturating_sub(from.max(self.first));
+        u64::from(slots) * u64::from(self.column)
     }
 }
 

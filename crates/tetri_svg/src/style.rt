@@ -22,7 +22,7 @@ fn add_colours(out: &mut String) -> Result<(), AllocError>
     ensures { OnOk result (string_bytes out.new ≡ string_bytes out.old ++ colours_text) }
 {
     out.push_str(
-        "}\n.j0{fill:#e69f00}.j1{fill:#56b4e9}.j2{fill:#009e73}.j3{fill:#f0e442}.j4{fill:#0072b2}.j5{fill:#cc79a7}.j6{fill:#d55e00}\n.label{fill:#000;pointer-events:none}.l4{fill:#fff}.mark{pointer-events:none}\n.over{fill:url(#over)}.cancelled{fill:url(#cancelled)}.failed{fill:url(#failed)}\n.drained{fill:url(#drained)}.broken{fill:url(#broken)}.closed{fill:url(#closed)}\n.waits{fill:#fff;fill-opacity:.85;stroke:#222;stroke-dasharray:4 3}\n.asked{stroke:#000;stroke-width:2;fill:none}.value{fill:#56b4e9}.bound{fill:#000}\n</style>\n",
+        "}\n.j0{fill:#e69f00}.j1{fill:#56b4e9}.j2{fill:#009e73}.j3{fill:#f0e442}.j4{fill:#0072b2}.j5{fill:#cc79a7}.j6{fill:#d55e00}\n.label{fill:#000;pointer-events:none}.l4{fill:#fff}.mark{pointer-events:none}\n.over{fill:url(#over)}.cancelled{fill:url(#cancelled)}.failed{fill:url(#failed)}\n.drained{fill:url(#drained)}.broken{fill:url(#broken)}.closed{fill:url(#closed)}\n.waits{fill:#fff;fill-opacity:.85;stroke:#222;stroke-dasharray:4 3}\n.asked{stroke:#000;stroke-width:2;fill:none}.value{fill:#56b4e9}.bound{fill:#000}.queue{fill:#d55e00}.used{fill:#009e73}\n</style>\n",
     )
 }
 
@@ -42,7 +42,7 @@ fn add_entries(out: &mut String) -> Result<(), AllocError>
     ensures { OnOk result (string_bytes out.new ≡ string_bytes out.old ++ entries_text) }
 {
     out.push_str(
-        "<rect class=\"bar j0\" x=\"0\" y=\"24\" width=\"24\" height=\"14\"/><text x=\"32\" y=\"35\">a piece of a job on a node, coloured by job</text>\n<rect class=\"swatch over\" x=\"0\" y=\"48\" width=\"24\" height=\"14\"/><text x=\"32\" y=\"59\">beyond its expected end</text>\n<rect class=\"swatch cancelled\" x=\"0\" y=\"72\" width=\"24\" height=\"14\"/><text x=\"32\" y=\"83\">last slot of a cancelled piece</text>\n<rect class=\"swatch failed\" x=\"0\" y=\"96\" width=\"24\" height=\"14\"/><text x=\"32\" y=\"107\">last slot of a piece whose job failed</text>\n<rect class=\"waits\" x=\"0\" y=\"120\" width=\"24\" height=\"14\"/><text x=\"32\" y=\"131\">planned for a later slot</text>\n<rect class=\"swatch drained\" x=\"290\" y=\"24\" width=\"24\" height=\"14\"/><text x=\"322\" y=\"35\">drained node</text>\n<rect class=\"swatch broken\" x=\"290\" y=\"48\" width=\"24\" height=\"14\"/><text x=\"322\" y=\"59\">failed node</text>\n<rect class=\"swatch closed\" x=\"290\" y=\"72\" width=\"24\" height=\"14\"/><text x=\"322\" y=\"83\">closed node</text>\n<rect class=\"value\" x=\"290\" y=\"96\" width=\"24\" height=\"14\"/><text x=\"322\" y=\"107\">value of a cycle's plan</text>\n<rect class=\"bound\" x=\"290\" y=\"126\" width=\"24\" height=\"2\"/><text x=\"322\" y=\"131\">bound of a cycle's plan</text>\n</g>\n",
+        "<rect class=\"bar j0\" x=\"0\" y=\"24\" width=\"24\" height=\"14\"/><text x=\"32\" y=\"35\">a piece of a job on a node, coloured by job</text>\n<rect class=\"swatch over\" x=\"0\" y=\"48\" width=\"24\" height=\"14\"/><text x=\"32\" y=\"59\">beyond its expected end</text>\n<rect class=\"swatch cancelled\" x=\"0\" y=\"72\" width=\"24\" height=\"14\"/><text x=\"32\" y=\"83\">last slot of a cancelled piece</text>\n<rect class=\"swatch failed\" x=\"0\" y=\"96\" width=\"24\" height=\"14\"/><text x=\"32\" y=\"107\">last slot of a piece whose job failed</text>\n<rect class=\"waits\" x=\"0\" y=\"120\" width=\"24\" height=\"14\"/><text x=\"32\" y=\"131\">planned for a later slot</text>\n<rect class=\"swatch drained\" x=\"290\" y=\"24\" width=\"24\" height=\"14\"/><text x=\"322\" y=\"35\">drained node</text>\n<rect class=\"swatch broken\" x=\"290\" y=\"48\" width=\"24\" height=\"14\"/><text x=\"322\" y=\"59\">failed node</text>\n<rect class=\"swatch closed\" x=\"290\" y=\"72\" width=\"24\" height=\"14\"/><text x=\"322\" y=\"83\">closed node</text>\n<rect class=\"value\" x=\"290\" y=\"96\" width=\"24\" height=\"14\"/><text x=\"322\" y=\"107\">value of a cycle's plan</text>\n<rect class=\"bound\" x=\"290\" y=\"126\" width=\"24\" height=\"2\"/><text x=\"322\" y=\"131\">bound of a cycle's plan</text>\n<rect class=\"queue\" x=\"0\" y=\"144\" width=\"24\" height=\"14\"/><text x=\"32\" y=\"155\">jobs that wait behind a cycle</text>\n<rect class=\"used\" x=\"290\" y=\"144\" width=\"24\" height=\"14\"/><text x=\"322\" y=\"155\">nodes in use</text>\n</g>\n",
     )
 }
 
@@ -60,6 +60,6 @@ pub fn add_style(out: &mut String, frame: &Frame) -> Result<(), AllocError>
 pub fn add_legend(out: &mut String, frame: &Frame) -> Result<(), AllocError>
     ensures { OnOk result (string_bytes out.new ≡ string_bytes out.old ++ legend_text frame.now) }
 {
-    add_legend_at(out, frame.base())?;
+    add_legend_at(out, frame.use_base())?;
     add_entries(out)
 }

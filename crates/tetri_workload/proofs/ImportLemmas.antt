@@ -1,9 +1,10 @@
 -- What follows of a trace that is read as what was taken.
-use Rattle.std.proofs.Common.{◌≡◌, ◌+◌, ◌∙◌, ◌++◌, ℕ, List, length, ap, sym, subst, arith, length-append}
+use Rattle.std.proofs.Common.{◌≡◌, ◌+◌, ◌∙◌, ◌++◌, ℕ, Bool, true, false, cond, List, length, map, ap, refl, sym, subst, arith, length-append}
 use Rattle.std.specs.Prelude.{string_bytes, None}
 use Rattle.std.proofs.lemmas.List.{length-map}
 use Rattle.std.proofs.lemmas.List.Sorted.{length_permutation}
 use Rattle.tetri_base.specs.Lists.{count}
+use Rattle.tetri_cluster.specs.declared.cluster.NodeText.{NodeText}
 use Rattle.tetri_logs.specs.declared.entry.Entry.{Entry}
 use Rattle.tetri_logs.specs.declared.entry.LoggedJob.{LoggedJob}
 use Rattle.tetri_logs.specs.Origin.{begun, gap_of}
@@ -13,28 +14,38 @@ use Rattle.tetri_logs.specs.declared.options.Settings.{Settings}
 use Rattle.tetri_trace.specs.Scenario.{submission}
 use Rattle.tetri_trace.specs.declared.trace.Event.{Event}
 use Rattle.tetri_workload.specs.Import.{IsDraft, IsImportOf}
+use Rattle.tetri_workload.specs.Kinds.{are_mixed, settled, settled_all}
 use Rattle.tetri_workload.specs.Ordering.{IsOrderBy}
-use Rattle.tetri_workload.specs.Saying.{IsReadAs, header_of}
+use Rattle.tetri_workload.specs.Saying.{AreSeated, IsReadAs, header_of}
 use Rattle.tetri_workload.specs.Taking.{Tally, so_far, taken_all}
 use Rattle.tetri_workload.specs.Text.{text_of}
 use Rattle.tetri_workload.specs.declared.importing.Imported.{Imported}
 use Rattle.tetri_workload.specs.declared.taking.Taken.{Taken}
 use Rattle.tetri_workload.proofs.TakingLemmas.{all_taken_or_left}
 
-pub imported : (es : List Entry) (o : Options) (i : Imported) (draft s : Settings) (order : List LoggedJob) (t : Taken) (events : List Event)
-    → IsDraft es o draft order
+-- as many jobs as before
+length-either : (b : Bool) (nodes : List NodeText) (jobs : List LoggedJob) → length (cond b (map (settled nodes) jobs) jobs) ≡ length jobs
+length-either true nodes jobs = length-map jobs (settled nodes)
+length-either false nodes jobs = refl
+
+length-settled_all : (nodes : List NodeText) (jobs : List LoggedJob) → length (settled_all nodes jobs) ≡ length jobs
+length-settled_all nodes jobs = length-either (are_mixed nodes) nodes jobs
+
+pub imported : (es : List Entry) (nodes : List NodeText) (o : Options) (i : Imported) (draft s : Settings) (order : List LoggedJob) (t : Taken) (events : List Event)
+    → IsDraft es nodes o draft order
     → s ≡ begun draft order
     → gap_of o s order ≡ None
     → so_far t ≡ taken_all s order
     → IsOrderBy (λ e. e.at) t.events.items events
-    → (read : IsReadAs s (record (so_far t) { events = events }) (string_bytes i.trace))
+    → (read : IsReadAs s nodes (record (so_far t) { events = events }) (string_bytes i.trace))
     → IsOrderBy (λ r. r.line) (left_in es ++ t.left.items) i.left.items
     → i.jobs ≡ length t.jobs
     → i.rounded ≡ length t.rounded.items
     → i.comments ≡ count is_comment es
+    → i.mixed ≡ are_mixed nodes
     → length (jobs_in es) + length (left_in es) + i.comments ≡ length es
-    → IsImportOf es o i draft order read.0
-imported es o i draft s order t events drafted is gap tally in_order read left jobs rounded comments whole =
+    → IsImportOf es nodes o i draft order read.0
+imported es nodes o i draft s order t events drafted is gap tally in_order read left jobs rounded comments mixed whole =
     let tallied : so_far t ≡ taken_all (begun draft order) order = tally ∙ ap (λ b. taken_all b order) is in
     let lefts : IsOrderBy (λ r. r.line) (left_in es ++ (taken_all (begun draft order) order).left) i.left.items =
     subst (λ rs. IsOrderBy (λ r. r.line) (left_in es ++ rs) i.left.items) (ap (λ u. u.left) tallied) left in
@@ -46,22 +57,24 @@ imported es o i draft s order t events drafted is gap tally in_order read left j
       together = ap (λ b. gap_of o b order) (sym is) ∙ gap;
       trace = record {
         read = read.1;
-        header = read.2.header ∙ ap (λ u. header_of s u.until) tallied ∙ ap (λ b. header_of b (taken_all (begun draft order) order).until) is;
-        nodes = read.2.nodes ∙ ap (λ b. b.nodes) is;
-        jobs = read.2.jobs ∙ ap (λ u. u.jobs) tallied;
+        header = read.2.most.header ∙ ap (λ u. header_of s u.until) tallied ∙ ap (λ b. header_of b (taken_all (begun draft order) order).until) is;
+        count = read.2.most.count ∙ ap (λ b. b.nodes) is;
+        jobs = read.2.most.jobs ∙ ap (λ u. u.jobs) tallied;
         events = subst (λ xs. IsOrderBy (λ e. e.at) xs read.0.events) (ap (λ u. u.events) tallied)
-            (subst (λ ys. IsOrderBy (λ e. e.at) t.events.items ys) (sym read.2.events) in_order);
+            (subst (λ ys. IsOrderBy (λ e. e.at) t.events.items ys) (sym read.2.most.events) in_order);
+        seated = subst (λ u. AreSeated nodes u.sets read.0) tallied read.2.seated;
       };
       whole = record {
         left = lefts;
         jobs = taken;
         rounded = rounded ∙ ap (λ u. length u.rounded) tallied;
         comments = comments;
-        lines = omega (arith, taken, number, moved, whole, all_taken_or_left (begun draft order) order, length_permutation (jobs_in es) order drafted.ordered.moved);
+        mixed = mixed;
+        lines = omega (arith, taken, number, moved, whole, all_taken_or_left (begun draft order) order, length-settled_all nodes (jobs_in es), length_permutation (settled_all nodes (jobs_in es)) order drafted.ordered.moved);
       };
     }
 
 -- what is read as what was taken is so by any names of the same settings, the same tally and the same text
-pub same_reading : (s r : Settings) (t u : Tally) (text : List ℕ) → s ≡ r → t ≡ u → text ≡ text_of s t → IsReadAs r u (text_of r u) → IsReadAs s t text
-same_reading s r t u text p q e read =
-    subst (λ x. IsReadAs s t x) (sym e) (subst (λ b. IsReadAs b t (text_of b t)) (sym p) (subst (λ v. IsReadAs r v (text_of r v)) (sym q) read))
+pub same_reading : (s r : Settings) (nodes : List NodeText) (t u : Tally) (text : List ℕ) → s ≡ r → t ≡ u → text ≡ text_of s nodes t → IsReadAs r nodes u (text_of r nodes u) → IsReadAs s nodes t text
+same_reading s r nodes t u text p q e read =
+    subst (λ x. IsReadAs s nodes t x) (sym e) (subst (λ b. IsReadAs b nodes t (text_of b nodes t)) (sym p) (subst (λ v. IsReadAs r nodes v (text_of r nodes v)) (sym q) read))

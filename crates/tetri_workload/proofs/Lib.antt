@@ -1,3 +1,4 @@
+pub mod KnownLemmas
 pub mod SameLemmas
 pub mod TakingLemmas
 pub mod ImportLemmas

@@ -1,3 +1,6 @@
+pub mod Kinds
+pub mod Known
+pub mod Partitions
 pub mod Taking
 pub mod Ordering
 pub mod Saying

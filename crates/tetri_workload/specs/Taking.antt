@@ -13,8 +13,8 @@ use Rattle.tetri_logs.specs.declared.options.Settings.{Settings}
 use Rattle.tetri_logs.specs.declared.placing.Placing.{Placing}
 use Rattle.tetri_workload.specs.declared.taking.Taken.{Taken}
 
--- the jobs that are taken, in order of submission, the second of each submission, with what happens to each, why others are left out, how many slots a run has, and on
--- which lines jobs stand that take a whole node for fewer processors
+-- the jobs that are taken, in order of submission, the second of each submission, with what happens to each, why others are left out, how many slots a run has, on
+-- which lines jobs stand that take a whole node for fewer processors, and the set of each job
 pub record Tally : Type 0 where
   pub jobs : List Submission
   pub submits : List ℕ
@@ -22,12 +22,13 @@ pub record Tally : Type 0 where
   pub left : List Reject
   pub until : ℕ
   pub rounded : List ℕ
+  pub sets : List (List ℕ)
 
 abbrev pub so_far : Taken → Tally
-so_far t = record { jobs = map submission t.jobs; submits = t.submits.items; events = t.events.items; left = t.left.items; until = t.until; rounded = t.rounded.items }
+so_far t = record { jobs = map submission t.jobs; submits = t.submits.items; events = t.events.items; left = t.left.items; until = t.until; rounded = t.rounded.items; sets = t.sets.items }
 
 abbrev pub nothing_taken : Tally
-nothing_taken = record { jobs = []; submits = []; events = []; left = []; until = 1; rounded = [] }
+nothing_taken = record { jobs = []; submits = []; events = []; left = []; until = 1; rounded = []; sets = [] }
 
 abbrev pub left_out : Tally → ℕ → Cause → Tally
 left_out t line cause = record t { left = t.left ++ (record { line = line; cause = cause }) ∷ [] }
@@ -56,21 +57,22 @@ end_of p = min (last_of (p.arrival + p.ask.deadline) p.cancel) 9999 + 1
 abbrev pub rounded_of : ℕ → Placing → List ℕ
 rounded_of line p = if p.part_node then line ∷ [] else []
 
-abbrev pub taken : Tally → ℕ → ℕ → List ℕ → Placing → Tally
-taken t line submit name p = record {
+abbrev pub taken : Tally → ℕ → ℕ → List ℕ → List ℕ → Placing → Tally
+taken t line submit name set p = record {
   jobs = t.jobs ++ submitted name p ∷ [];
   submits = t.submits ++ submit ∷ [];
   events = t.events ++ events_of (length t.jobs) p;
   left = t.left;
   until = max t.until (end_of p);
   rounded = t.rounded ++ rounded_of line p;
+  sets = t.sets ++ set ∷ [];
 }
 
 -- a job is taken under a name unless so many are there as are wanted or possible
-abbrev pub kept : Settings → Tally → ℕ → ℕ → List ℕ → Placing → Tally
-kept s t line submit name p =
+abbrev pub kept : Settings → Tally → ℕ → ℕ → List ℕ → List ℕ → Placing → Tally
+kept s t line submit name set p =
     if nat_le s.most (length t.jobs) then left_out t line Outside
-    else (if nat_le 100000 (length t.jobs) then left_out t line Beyond else taken t line submit name p)
+    else (if nat_le 100000 (length t.jobs) then left_out t line Beyond else taken t line submit name set p)
 
 -- the mark of a job that was submitted again: when that was
 abbrev pub again_mark : ℕ → List ℕ
@@ -81,9 +83,9 @@ abbrev pub again_name : List ℕ → ℕ → List ℕ
 again_name name submit = name ++ again_mark submit
 
 -- a job that was submitted again is taken under that name, unless one has it
-abbrev pub again : Settings → Tally → ℕ → ℕ → List ℕ → Placing → Tally
-again s t line submit name p =
-    if is_name name then (if is_among name (job_names t.jobs) then left_out t line Repeated else kept s t line submit name p) else left_out t line Beyond
+abbrev pub again : Settings → Tally → ℕ → ℕ → List ℕ → List ℕ → Placing → Tally
+again s t line submit name set p =
+    if is_name name then (if is_among name (job_names t.jobs) then left_out t line Repeated else kept s t line submit name set p) else left_out t line Beyond
 
 -- whether it was submitted in this second
 abbrev pub is_second : Option ℕ → ℕ → Bool
@@ -91,18 +93,18 @@ is_second None submit = false
 is_second (Some second) submit = second == submit
 
 -- where an earlier job has its name, a job is that one once more if both were submitted in one second, and else it was submitted again
-abbrev pub named : Settings → Tally → ℕ → ℕ → List ℕ → Placing → Option ℕ → Tally
-named s t line submit name p None = kept s t line submit name p
-named s t line submit name p (Some number) =
-    if is_second (slice_get t.submits number) submit then left_out t line Repeated else again s t line submit (again_name name submit) p
+abbrev pub named : Settings → Tally → ℕ → ℕ → List ℕ → List ℕ → Placing → Option ℕ → Tally
+named s t line submit name set p None = kept s t line submit name set p
+named s t line submit name set p (Some number) =
+    if is_second (slice_get t.submits number) submit then left_out t line Repeated else again s t line submit (again_name name submit) set p
 
-abbrev pub with_placed : Settings → Tally → ℕ → ℕ → List ℕ → Result Placing Cause → Tally
-with_placed s t line submit name (Err cause) = left_out t line cause
-with_placed s t line submit name (Ok p) = named s t line submit name p (number_of name (job_names t.jobs))
+abbrev pub with_placed : Settings → Tally → ℕ → ℕ → List ℕ → List ℕ → Result Placing Cause → Tally
+with_placed s t line submit name set (Err cause) = left_out t line cause
+with_placed s t line submit name set (Ok p) = named s t line submit name set p (number_of name (job_names t.jobs))
 
 -- with one job of the log more
 abbrev pub with_logged : Settings → Tally → LoggedJob → Tally
-with_logged s t job = with_placed s t job.line job.account.submit job.name (place s job.account)
+with_logged s t job = with_placed s t job.line job.account.submit job.name job.set (place s job.account)
 
 -- what is taken of jobs in this order
 abbrev pub taken_all : Settings → List LoggedJob → Tally

@@ -1,8 +1,8 @@
 -- What is told of an import.
-use Rattle.std.specs.Prelude.{ℕ, ◌-◌, ◌==◌, Bool, List, [], ◌++◌, count_by, codes, decimal, flat_map, slice_index_or}
+use Rattle.std.specs.Prelude.{ℕ, ◌-◌, ◌==◌, Bool, List, [], ◌++◌, count_by, codes, decimal, flat_map, slice_index_or, if◌then◌else◌}
 use Rattle.tetri_logs.specs.Lines.{log_lines}
 use Rattle.tetri_logs.specs.declared.entry.Cause.{Cause}
-use Rattle.tetri_logs.specs.declared.entry.Cause.TheVariants.{Unreadable, Step, NoNodes, Backwards, TooLarge, PartNode, Outside, Repeated, Beyond}
+use Rattle.tetri_logs.specs.declared.entry.Cause.TheVariants.{Unreadable, Step, NoNodes, Backwards, TooLarge, PartNode, Outside, Repeated, Beyond, Constraint, NoSet}
 use Rattle.tetri_logs.specs.declared.entry.Reject.{Reject}
 use Rattle.tetri_logs.specs.declared.options.OptionFault.{OptionFault}
 use Rattle.tetri_logs.specs.declared.options.OptionFault.TheVariants.{Slot, Processors, Window, Budget, Unit as UnitRange, Slack, Nodes, LogNodes}
@@ -20,6 +20,8 @@ cause_number PartNode = 5
 cause_number Outside = 6
 cause_number Repeated = 7
 cause_number Beyond = 8
+cause_number Constraint = 9
+cause_number NoSet = 10
 
 -- whether a line is left out for a cause, in whatever column
 abbrev pub is_for : Cause → Reject → Bool
@@ -38,6 +40,8 @@ cause_word PartNode = codes "part-nodes"
 cause_word Outside = codes "outside"
 cause_word Repeated = codes "repeated"
 cause_word Beyond = codes "beyond"
+cause_word Constraint = codes "constraint"
+cause_word NoSet = codes "no-set"
 
 -- a line with a word and a number
 abbrev pub count_line : List ℕ → ℕ → List ℕ
@@ -54,10 +58,14 @@ first_causes left = cause_line left (Unreadable 0) ++ cause_line left Step ++ ca
 abbrev pub last_causes : List Reject → List ℕ
 last_causes left = cause_line left TooLarge ++ cause_line left PartNode ++ cause_line left Outside ++ cause_line left Repeated ++ cause_line left Beyond
 
+-- how many lines are left out for the nodes that they ask for, where nodes differ
+abbrev pub mixed_causes : Imported → List ℕ
+mixed_causes i = if i.mixed then cause_line i.left.items Constraint ++ cause_line i.left.items NoSet else []
+
 -- how many jobs are taken, how many of them take a whole node for fewer processors, how many lines are comments, and these
 abbrev pub counts_text : Imported → List ℕ
 counts_text i =
-    count_line (codes "taken") i.jobs ++ count_line (codes "rounded-up") i.rounded ++ count_line (codes "comments") i.comments ++ first_causes i.left.items ++ last_causes i.left.items
+    count_line (codes "taken") i.jobs ++ count_line (codes "rounded-up") i.rounded ++ count_line (codes "comments") i.comments ++ first_causes i.left.items ++ last_causes i.left.items ++ mixed_causes i
 
 -- the column at which a line stops being one
 abbrev pub column_text : Cause → List ℕ
@@ -70,6 +78,8 @@ column_text PartNode = []
 column_text Outside = []
 column_text Repeated = []
 column_text Beyond = []
+column_text Constraint = []
+column_text NoSet = []
 
 -- the number of a line that is left out, and why
 abbrev pub reason_text : Reject → List ℕ

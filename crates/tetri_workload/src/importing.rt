@@ -1,14 +1,18 @@
 // From a log to a trace.
-ghost use Rattle.std.specs.Prelude.{IfErr, IfOk};
-ghost use Rattle.tetri_logs.specs.Reading.{entries};
-ghost use Rattle.tetri_workload.specs.Import.{IsImport, IsRefused};
+ghost use Rattle.std.specs.Prelude.{◌≡◌, ◌+◌, IfErr, IfOk, length};
+ghost use Rattle.tetri_base.specs.Lists.{count};
+ghost use Rattle.tetri_logs.specs.Reading.{entries, facts_in, is_comment, jobs_in, left_in, no_facts};
+ghost use Rattle.tetri_workload.specs.Import.{IsImport, IsImportOn, IsRefused};
+ghost use Rattle.tetri_workload.specs.Kinds.{are_mixed, fitted};
 
 use crate::confirming::is_read_as;
+use crate::kinds::{Kinds, are_mixed, fitted};
 use crate::ordering::{by_line, by_slot, by_submission};
 use crate::taking::take_all;
 use crate::text::trace_text;
 use std::alloc::{AllocError, Global};
-use tetri_logs::{Format, OptionFault, Options, Reject, begun, gap_of, read_log, settings_of};
+use tetri_cluster::NodeText;
+use tetri_logs::{Format, Log, OptionFault, Options, Reject, begun, gap_of, read_log, settings_of};
 
 /// Why a log is not imported.
 #[derive(Clone, Copy, Debug, PartialEq, Eq)]
@@ -56,22 +60,36 @@ pub struct Imported {
     pub left: Vec<Reject>,
     /// How many lines are comments, among them blank ones and headers.
     pub comments: usize,
+    /// Whether nodes differ.
+    pub mixed: bool,
 }
 
-/// The trace of a log, and what was left out. `Options` comes exactly with the first option that cannot be, `Apart` exactly with a gap in the
-/// log as long as a trace, and `Unlike` only where the text that is made of what is taken is not read back as the trace that says so.
-pub fn import(
+// What a log says, with the set of each job where nodes differ.
+fn read_on(alloc: Global, format: Format, nodes: &[NodeText], log: &[u8]) -> Result<Log, AllocError>
+    ensures jobs { IfOk result (λ l. l.jobs.items ≡ jobs_in (entries (are_mixed nodes.now) format log.now)) }
+    ensures left { IfOk result (λ l. l.left.items ≡ left_in (entries (are_mixed nodes.now) format log.now)) }
+    ensures facts { IfOk result (λ l. l.facts ≡ facts_in no_facts (entries (are_mixed nodes.now) format log.now)) }
+    ensures comments { IfOk result (λ l. l.comments ≡ count is_comment (entries (are_mixed nodes.now) format log.now)) }
+    ensures whole { IfOk result (λ l. length l.jobs.items + length l.left.items + l.comments ≡ length (entries (are_mixed nodes.now) format log.now)) }
+{
+    read_log(alloc, are_mixed(nodes), format, log)
+}
+
+// The same as `import`, where the options have as many nodes as are given.
+fn import_on(
     alloc: Global,
     format: Format,
     options: &Options,
+    nodes: &[NodeText],
     log: &[u8],
 ) -> Result<Imported, ImportFault>
-    ensures trace { IfOk result (IsImport format options.now log.now) }
-    ensures refused { IfErr result (IsRefused (entries format log.now) options.now) }
+    ensures trace { IfOk result (IsImportOn format options.now nodes.now log.now) }
+    ensures refused { IfErr result (IsRefused (entries (are_mixed nodes.now) format log.now) nodes.now options.now) }
 {
-    let log = read_log(alloc, format, log)?;
+    let log = read_on(alloc, format, nodes, log)?;
     let draft = settings_of(options, log.facts)?;
-    let mut jobs = log.jobs;
+    let mut kinds = Kinds::new(alloc);
+    let mut jobs = kinds.settle(alloc, nodes, log.jobs)?;
     by_submission(&mut jobs)?;
     let settings = begun(&draft, &jobs);
     match gap_of(options, &settings, &jobs) {
@@ -80,8 +98,8 @@ pub fn import(
     }
     let mut taken = take_all(alloc, &settings, jobs)?;
     by_slot(&mut taken.events)?;
-    let trace = trace_text(alloc, &settings, &taken)?;
-    let alike = is_read_as(alloc, &settings, &taken, &trace)?;
+    let trace = trace_text(alloc, &settings, nodes, &taken)?;
+    let alike = is_read_as(alloc, &mut kinds, &settings, nodes, &taken, &trace)?;
     if !alike {
         return Err(ImportFault::Unlike);
     }
@@ -94,5 +112,24 @@ pub fn import(
         rounded: taken.rounded.as_slice().len(),
         left,
         comments: log.comments,
+        mixed: are_mixed(nodes),
     })
+}
+
+/// The trace of a log, and what was left out. Where nodes are given, these are the trace's, and each job asks for those of its partition that
+/// have its features; else so many as the options or the log say, all alike. `Options` comes exactly with the first option that cannot be,
+/// `Apart` exactly with a gap in the log as long as a trace, and `Unlike` only where the text that is made of what is taken is not read back
+/// as the trace that says so.
+pub fn import(
+    alloc: Global,
+    format: Format,
+    options: &Options,
+    nodes: &[NodeText],
+    log: &[u8],
+) -> Result<Imported, ImportFault>
+    ensures trace { IfOk result (IsImport format options.now nodes.now log.now) }
+    ensures refused { IfErr result (IsRefused (entries (are_mixed nodes.now) format log.now) nodes.now (fitted nodes.now options.now)) }
+{
+    let options = fitted(options, nodes);
+    import_on(alloc, format, &options, nodes, log)
 }

@@ -3,11 +3,14 @@
 
 mod confirming;
 mod importing;
+mod kinds;
 mod ordering;
+mod partitions;
 mod shelf;
 mod taking;
 mod telling;
 mod text;
 
 pub use importing::{ImportFault, Imported, import};
+pub use partitions::add_partition;
 pub use telling::{counts_text, fault_text, reason_text, rejects_text};

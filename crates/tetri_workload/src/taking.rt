@@ -8,7 +8,7 @@ ghost use Rattle.tetri_workload.specs.Taking.{again, again_mark, again_name, end
 
 use std::alloc::{AllocError, Global};
 use tetri_cluster::{Name, NameFault};
-use tetri_logs::{Cause, LoggedJob, Placing, Reject, Settings, place};
+use tetri_logs::{Cause, LoggedJob, Placing, Reject, SetText, Settings, place};
 use tetri_trace::{Event, Happening, Job, Jobs, Work};
 
 /// The jobs that are taken, with what happens to each, and why others are not.
@@ -25,6 +25,8 @@ pub struct Taken {
     pub until: u32,
     /// On which lines jobs stand that take a whole node for fewer processors.
     pub rounded: Vec<usize>,
+    /// The set of each job.
+    pub sets: Vec<SetText>,
 }
 
 // The jobs that a trace has at most.
@@ -55,6 +57,7 @@ impl Taken {
             left: Vec::new(alloc),
             until: 1,
             rounded: Vec::new(alloc),
+            sets: Vec::new(alloc),
         }
     }
 
@@ -72,12 +75,13 @@ impl Taken {
         line: usize,
         submit: u32,
         name: Name,
+        set: SetText,
         placing: &Placing,
     ) -> Result<(), AllocError>
         requires few { length self.old.jobs < 100000 }
         requires new { is_among name (job_names (map submission self.old.jobs)) ≡ false }
         requires placed { IsPlaced placing.now }
-        ensures { OnOk result (so_far self.new ≡ taken (so_far self.old) line submit name placing.now) }
+        ensures { OnOk result (so_far self.new ≡ taken (so_far self.old) line submit name set placing.now) }
     {
         let number = self.jobs.len() as u32;
         self.jobs.push(Job {
@@ -87,6 +91,7 @@ impl Taken {
             work: Work::Asked(placing.ask),
         })?;
         self.submits.push(submit)?;
+        self.sets.push(set)?;
         self.events.push(Event {
             at: placing.arrival,
             what: Happening::Arrive(number),
@@ -108,11 +113,12 @@ impl Taken {
         line: usize,
         submit: u32,
         name: Name,
+        set: SetText,
         placing: &Placing,
     ) -> Result<(), AllocError>
         requires new { is_among name (job_names (map submission self.old.jobs)) ≡ false }
         requires placed { IsPlaced placing.now }
-        ensures { OnOk result (so_far self.new ≡ kept settings.now (so_far self.old) line submit name placing.now) }
+        ensures { OnOk result (so_far self.new ≡ kept settings.now (so_far self.old) line submit name set placing.now) }
     {
         if settings.most as usize <= self.jobs.len() {
             return self.leave(line, Cause::Outside);
@@ -120,7 +126,7 @@ impl Taken {
         if MOST_JOBS <= self.jobs.len() {
             return self.leave(line, Cause::Beyond);
         }
-        self.take(line, submit, name, placing)
+        self.take(line, submit, name, set, placing)
     }
 
     // A job that was submitted again, under this name.
@@ -131,10 +137,11 @@ impl Taken {
         line: usize,
         submit: u32,
         name: &str,
+        set: SetText,
         placing: &Placing,
     ) -> Result<(), AllocError>
         requires { IsPlaced placing.now }
-        ensures { OnOk result (so_far self.new ≡ again settings.now (so_far self.old) line submit name.now placing.now) }
+        ensures { OnOk result (so_far self.new ≡ again settings.now (so_far self.old) line submit name.now set placing.now) }
     {
         let name = match Name::read(alloc, name.as_bytes()) {
             Ok(name) => name,
@@ -144,7 +151,7 @@ impl Taken {
         if self.jobs.find(name.bytes()).is_some() {
             return self.leave(line, Cause::Repeated);
         }
-        self.keep(settings, line, submit, name, placing)
+        self.keep(settings, line, submit, name, set, placing)
     }
 
     // Whether a job was submitted in this second.
@@ -166,22 +173,23 @@ impl Taken {
         placing: &Placing,
     ) -> Result<(), AllocError>
         requires { IsPlaced placing.now }
-        ensures { OnOk result (so_far self.new ≡ named settings.now (so_far self.old) job.line job.account.submit job.name placing.now (number_of job.name (job_names (map submission self.old.jobs)))) }
+        ensures { OnOk result (so_far self.new ≡ named settings.now (so_far self.old) job.line job.account.submit job.name job.set placing.now (number_of job.name (job_names (map submission self.old.jobs)))) }
     {
         let LoggedJob {
             line,
             name,
             account,
+            set,
         } = job;
         let submit = account.submit;
         match self.jobs.find(name.bytes()) {
-            None => self.keep(settings, line, submit, name, placing),
+            None => self.keep(settings, line, submit, name, set, placing),
             Some(number) => {
                 if self.is_second(number, submit) {
                     return self.leave(line, Cause::Repeated);
                 }
                 let again = again_name(alloc, name.text(), submit)?;
-                self.add_again(alloc, settings, line, submit, again.as_str(), placing)
+                self.add_again(alloc, settings, line, submit, again.as_str(), set, placing)
             }
         }
     }

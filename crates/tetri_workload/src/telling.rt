@@ -1,6 +1,6 @@
 // What is told of an import.
 ghost use Rattle.std.specs.Prelude.{◌≡◌, ◌-◌, ◌++◌, [], IfOk, OnOk, flat_map, map, slice_index_or, string_bytes};
-ghost use Rattle.tetri_workload.specs.Telling.{cause_line, cause_number, cause_word, column_text, count_line, count_of, counts_text, fault_words, first_causes, from_words, gap_words, is_for, last_causes, option_words, reason_text, reject_text, rejects_text, to_words};
+ghost use Rattle.tetri_workload.specs.Telling.{cause_line, cause_number, cause_word, column_text, count_line, count_of, counts_text, fault_words, first_causes, from_words, gap_words, is_for, last_causes, mixed_causes, option_words, reason_text, reject_text, rejects_text, to_words};
 
 use crate::importing::{ImportFault, Imported};
 use std::alloc::{AllocError, Global};
@@ -19,6 +19,8 @@ fn cause_number(cause: Cause) -> u8
         Cause::Outside => 6,
         Cause::Repeated => 7,
         Cause::Beyond => 8,
+        Cause::Constraint => 9,
+        Cause::NoSet => 10,
     }
 }
 
@@ -49,6 +51,8 @@ fn cause_word(cause: Cause) -> &'static str
         Cause::Outside => "outside",
         Cause::Repeated => "repeated",
         Cause::Beyond => "beyond",
+        Cause::Constraint => "constraint",
+        Cause::NoSet => "no-set",
     }
 }
 
@@ -87,6 +91,18 @@ fn add_last_causes(text: &mut String, left: &[Reject]) -> Result<(), AllocError>
     add_cause(text, Cause::Beyond, left)
 }
 
+// How many lines are left out for the nodes that they ask for, where nodes differ.
+fn add_mixed_causes(text: &mut String, imported: &Imported) -> Result<(), AllocError>
+    ensures { OnOk result (string_bytes text.new ≡ string_bytes text.old ++ mixed_causes imported.now) }
+{
+    if !imported.mixed {
+        return Ok(());
+    }
+    let left = imported.left.as_slice();
+    add_cause(text, Cause::Constraint, left)?;
+    add_cause(text, Cause::NoSet, left)
+}
+
 /// How many jobs are taken, how many of them take a whole node for fewer processors, how many comments there are, and how many lines are
 /// left out for each cause, a line each. Its only error is want of memory.
 pub fn counts_text(alloc: Global, imported: &Imported) -> Result<String, AllocError>
@@ -99,6 +115,7 @@ pub fn counts_text(alloc: Global, imported: &Imported) -> Result<String, AllocEr
     add_count(&mut text, "comments", imported.comments)?;
     add_first_causes(&mut text, left)?;
     add_last_causes(&mut text, left)?;
+    add_mixed_causes(&mut text, imported)?;
     Ok(text)
 }
 

@@ -37,6 +37,7 @@ fn with_word(options: Options, word: &str) -> Options {
         "slack" => options.slack = number,
         "worth" => options.worth = Worth::Job,
         "whole-nodes-only" => options.whole_nodes_only = true,
+        "node" | "partition" => {}
         _ => options.class = Class::Decay,
     }
     options

@@ -20,7 +20,7 @@ loop-offer-preserved c =
     let o = c.offer-item.result in
     let os = c.deref-offer-items.result.now in
     let p : Bid → Bool = λ b. has c.args.launched.now b.job in
-    let f : Bid → Row = row_of c.args.grants.now (drop c.args.from c.args.state.now.pieces) c.args.inst.now.now in
+    let f : Bid → Row = row_of c.args.grants.now c.args.pieces.now c.args.inst.now.now in
     let rest : List Bid = drop (i + 1) (map bid os) in
     ap (λ rs. rs ++ map f (filter p rest)) c.in_ok-add_row.ensures
     ∙ append_assoc l.running.items (map f (filter p (bid o ∷ []))) (map f (filter p rest))

@@ -6,5 +6,5 @@ use Rattle.tetri_accounts.proofs.slot.add_rows.Given as goal
 
 abbrev pub invariant-loop-offer : goal.invariant-loop-offer
 invariant-loop-offer l =
-    l.running.items ++ map (row_of l.grants (drop l.from l.state.pieces) l.inst.now) (filter (λ b. has l.launched b.job) (drop l.offer-index (map bid l.offer-items)))
-    ≡ l.initial.running.items ++ map (row_of l.grants (drop l.from l.state.pieces) l.inst.now) (filter (λ b. has l.launched b.job) (space l.inst).bids)
+    l.running.items ++ map (row_of l.grants l.pieces l.inst.now) (filter (λ b. has l.launched b.job) (drop l.offer-index (map bid l.offer-items)))
+    ≡ l.initial.running.items ++ map (row_of l.grants l.pieces l.inst.now) (filter (λ b. has l.launched b.job) (space l.inst).bids)

@@ -7,7 +7,7 @@ use Rattle.tetri_chart.proofs.back.add_slots.Goals as goal
 
 pub loop-slot-preserved : goal.loop-slot-preserved
 loop-slot-preserved c =
-    let f : ℕ → List ℕ = slot_text c.args.frame.now c.args.most c.args.cycles.now in
+    let f : ℕ → List ℕ = slot_text c.args.frame.now c.args.most c.args.longest c.args.cycles.now in
     let l = c.loop-slot in
     let before : List ℕ = string_bytes c.args.out.now in
     c.in_ok-add_slot.ensures ∙ ap (λ xs. xs ++ f l.slot) l.invariant ∙ append_assoc before (flat_map f (range_with_len 0 l.slot)) (f l.slot)

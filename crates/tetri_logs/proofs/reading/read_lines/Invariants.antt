@@ -4,6 +4,6 @@ use Rattle.tetri_logs.proofs.reading.read_lines.Given as goal
 
 abbrev pub invariant-loop-i : goal.invariant-loop-i
 invariant-loop-i l =
-    let rest = entries_from l.layout (l.i + 1) (map (λ x. x.now) (drop l.i l.lines)) in
-    let all = entries_of l.fn.format (map (λ x. x.now) l.lines) in
+    let rest = entries_from l.mixed l.layout (l.i + 1) (map (λ x. x.now) (drop l.i l.lines)) in
+    let all = entries_of l.fn.mixed l.fn.format (map (λ x. x.now) l.lines) in
     record { jobs : l.read.jobs.items ++ jobs_in rest ≡ jobs_in all; left : l.read.left.items ++ left_in rest ≡ left_in all; facts : facts_in l.read.facts rest ≡ facts_in no_facts all }

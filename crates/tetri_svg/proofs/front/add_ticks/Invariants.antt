@@ -5,4 +5,4 @@ use Rattle.tetri_svg.specs.Front.{tick_at}
 use Rattle.tetri_svg.proofs.front.add_ticks.Given as goal
 
 abbrev pub invariant-loop-slot : goal.invariant-loop-slot
-invariant-loop-slot l = string_bytes l.out ≡ string_bytes l.initial.out ++ flat_map (tick_at l.frame l.stride) (range_with_len 0 l.slot)
+invariant-loop-slot l = string_bytes l.out ≡ string_bytes l.initial.out ++ flat_map (tick_at l.frame l.clock l.stride) (range_with_len 0 l.slot)

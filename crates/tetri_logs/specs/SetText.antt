@@ -1,0 +1,56 @@
+-- The set of nodes that a job asks for, as the text that a trace has for it: tags with & between them, and nothing where all nodes may serve.
+use Rattle.std.specs.Prelude.{ℕ, ◌==◌, Bool, true, false, List, [], ◌∷◌, ◌++◌, fold, length, take, position, Option, Some, None, if◌then◌else◌, codes}
+use Rattle.tetri_cluster.specs.Names.{is_name}
+use Rattle.tetri_hosts.specs.Columns.{is_feature, partition_tag}
+use Rattle.tetri_io.specs.Words.{parts_at}
+use Rattle.tetri_logs.specs.declared.entry.Cause.TheVariants.{NoSet, Constraint}
+use Rattle.tetri_logs.specs.declared.entry.Entry.{Entry}
+use Rattle.tetri_logs.specs.declared.entry.Entry.TheVariants.{Job, Comment, Left}
+use Rattle.tetri_logs.specs.declared.entry.LoggedJob.{LoggedJob}
+
+-- those of a set's nodes that have one tag more
+abbrev pub with_tag : List ℕ → List ℕ → List ℕ
+with_tag set tag = if length set == 0 then tag else set ++ codes "&" ++ tag
+
+abbrev pub with_feature : List ℕ → List ℕ → List ℕ
+with_feature set feature = if is_name feature then with_tag set feature else set
+
+abbrev pub before_comma : List ℕ → Option ℕ → List ℕ
+before_comma partitions None = partitions
+before_comma partitions (Some i) = take i partitions
+
+-- the first of several partitions, between which are commas
+abbrev pub first_partition : List ℕ → List ℕ
+first_partition partitions = before_comma partitions (position (λ b. b == 44) partitions)
+
+-- the nodes of a partition, or all where it is not told; none where its tag is no name
+abbrev pub partition_set : List ℕ → Option (List ℕ)
+partition_set partition = if length partition == 0 then Some [] else partition_tag partition
+
+-- what constraints ask for: a, or a&b
+abbrev pub features_of : List ℕ → List (List ℕ)
+features_of constraints = if length constraints == 0 then [] else parts_at 38 constraints
+
+abbrev pub are_features : List (List ℕ) → Bool
+are_features [] = true
+are_features (part ∷ parts) = if is_feature part then are_features parts else false
+
+-- a job that asks for nodes of a set with all of these features, if they are some
+abbrev pub set_by_features : LoggedJob → List ℕ → List (List ℕ) → Entry
+set_by_features job set features =
+    if are_features features then Job (record job { set = fold with_feature set features }) else Left (record { line = job.line; cause = Constraint })
+
+abbrev pub set_by_partition : LoggedJob → Option (List ℕ) → List (List ℕ) → Entry
+set_by_partition job None features = Left (record { line = job.line; cause = NoSet })
+set_by_partition job (Some set) features = set_by_features job set features
+
+-- a job with the set that its partitions and constraints say
+abbrev pub with_set : LoggedJob → List ℕ → List ℕ → Entry
+with_set job partitions constraints = set_by_partition job (partition_set (first_partition partitions)) (features_of constraints)
+
+-- an entry with the set of its job, where nodes differ
+abbrev pub seated : Bool → Entry → List ℕ → List ℕ → Entry
+seated false entry partitions constraints = entry
+seated true (Job job) partitions constraints = with_set job partitions constraints
+seated true (Comment fact) partitions constraints = Comment fact
+seated true (Left reject) partitions constraints = Left reject
