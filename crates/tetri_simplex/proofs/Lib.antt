@@ -11,6 +11,7 @@ pub mod EachPlace
 pub mod EndFacts
 pub mod EndForms
 pub mod Entries
+pub mod FirstHolders
 pub mod FirstKept
 pub mod FirstRows
 pub mod FirstPairs

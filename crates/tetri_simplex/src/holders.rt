@@ -3,16 +3,18 @@
 
 ghost use Rattle.std.specs.Prelude.{◌≡◌, ◌≢◌, ◌⊎◌, ℕ, ◌+◌, ◌/◌, ◌<◌, ◌≤◌, ◌^◌, [], All, length, get_or, suc, pos, Ok, IfOk, MatchResult};
 ghost use Rattle.tetri_algebra.specs.RationalRing.{zero_ℚ};
+ghost use Rattle.tetri_ip.specs.Points.{IsFit, coefficient, column_at, terms_of};
 ghost use Rattle.tetri_rows.specs.Terms.{ArePlaces};
 ghost use Rattle.tetri_simplex.specs.Below.{below_of};
 ghost use Rattle.tetri_simplex.specs.Faults.{IsFault};
-ghost use Rattle.tetri_simplex.specs.Holders.{bit, words_at, IsHolder, AreHolders};
+ghost use Rattle.tetri_simplex.specs.Holders.{bit, number_in, words_at, IsHolder, AreHolders};
 ghost use Rattle.tetri_simplex.specs.Mixed.{mixed_row, mixed_rows, IsMixedRow, AreMixedRows, AreTermsOfRow};
 ghost use Rattle.tetri_simplex.specs.Pivots.{pivoted_rows};
 
 use crate::fault::PivotFault;
 use crate::mixed::{MixedRow, is_zero_at, pivot_mixed};
 use std::alloc::{AllocError, Global};
+use tetri_ip::{Program, Term};
 use tetri_rows::Terms;
 
 /// The first row from `from` on whose bit is set, or `end` where none before it is.
@@ -154,6 +156,21 @@ fn none(alloc: Global, columns: u32, words: usize) -> Result<Vec<Vec<u64>>, Allo
     Ok(holders)
 }
 
+// Sets the bits of the rows from `first` on.
+fn hold_rows(columns: u32, holders: &mut [Vec<u64>], words: usize, rows: &[MixedRow], first: usize)
+    requires rows { AreMixedRows columns rows.now }
+    requires columns { length holders.old ≡ columns }
+    requires words { All (λ v. length v.items ≡ words) holders.old }
+    requires wide { words ≡ length rows.now / 64 + 1 }
+    ensures words { All (λ v. length v.items ≡ words) holders.new }
+    ensures before { (p q : ℕ) → bit (words_at holders.new p) q ≡ 0 → bit (words_at holders.old p) q ≡ 0 }
+    ensures own { (p q : ℕ) → p < columns → first ≤ q → bit (words_at holders.new p) q ≡ 0 → number_in (mixed_rows rows.now) q p ≡ zero_ℚ }
+{
+    for k in first..rows.len() {
+        hold_row(columns, holders, words, &rows[k], k);
+    }
+}
+
 /// The bits of a dictionary's rows.
 pub(crate) fn holders_of(
     alloc: Global,
@@ -165,9 +182,57 @@ pub(crate) fn holders_of(
 {
     let words = rows.len() / 64 + 1;
     let mut holders = none(alloc, columns, words)?;
-    for k in 0..rows.len() {
-        hold_row(columns, &mut holders, words, &rows[k], k);
+    hold_rows(columns, &mut holders, words, rows, 0);
+    Ok(holders)
+}
+
+// Sets a row's bit in each column of which the row has a term.
+fn hold_terms(holders: &mut [Vec<u64>], words: usize, terms: &[Term], k: usize)
+    requires columns { (t : ℕ) → t < length terms.now → column_at terms.now t < length holders.old }
+    requires words { All (λ v. length v.items ≡ words) holders.old }
+    requires within { k / 64 < words }
+    ensures words { All (λ v. length v.items ≡ words) holders.new }
+    ensures before { (p q : ℕ) → bit (words_at holders.new p) q ≡ 0 → bit (words_at holders.old p) q ≡ 0 }
+    ensures own { (p t : ℕ) → bit (words_at holders.new p) k ≡ 0 → t < length terms.now → column_at terms.now t ≢ p }
+{
+    for t in 0..terms.len() {
+        set_bit(&mut holders[terms[t].column as usize], k);
     }
+}
+
+// Sets the bits of the program's rows in the columns of their terms.
+fn hold_program(holders: &mut [Vec<u64>], words: usize, p: &Program)
+    requires fit { IsFit p.now }
+    requires columns { length holders.old ≡ length p.now.costs.items }
+    requires words { All (λ v. length v.items ≡ words) holders.old }
+    requires wide { length p.now.rows.items / 64 < words }
+    ensures words { All (λ v. length v.items ≡ words) holders.new }
+    ensures own { (j k : ℕ) → k < length p.now.rows.items → bit (words_at holders.new j) k ≡ 0 → coefficient (terms_of p.now.rows.items k) j ≡ pos 0 }
+{
+    for k in 0..p.rows.len() {
+        hold_terms(holders, words, &p.rows[k].terms, k);
+    }
+}
+
+/// The bits of a dictionary's rows, of which the first are those of a program, each with 0 where the program's
+/// has no term.
+pub(crate) fn first_holders(
+    alloc: Global,
+    p: &Program,
+    columns: u32,
+    rows: &[MixedRow],
+) -> Result<Vec<Vec<u64>>, AllocError>
+    requires fit { IsFit p.now }
+    requires columns { length p.now.costs.items ≡ columns }
+    requires rows { AreMixedRows columns rows.now }
+    requires count { length p.now.rows.items ≤ length rows.now }
+    requires numbers { (j k : ℕ) → k < length p.now.rows.items → coefficient (terms_of p.now.rows.items k) j ≡ pos 0 → number_in (mixed_rows rows.now) k j ≡ zero_ℚ }
+    ensures { IfOk result (λ h. AreHolders columns h.items (mixed_rows rows.now)) }
+{
+    let words = rows.len() / 64 + 1;
+    let mut holders = none(alloc, columns, words)?;
+    hold_program(&mut holders, words, p);
+    hold_rows(columns, &mut holders, words, rows, p.rows.len());
     Ok(holders)
 }
 

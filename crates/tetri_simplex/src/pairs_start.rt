@@ -1,18 +1,19 @@
 //! The first dictionary that keeps one row for the two variables of a column.
 
-ghost use Rattle.std.specs.Prelude.{◌≡◌, ◌≢◌, ℕ, ◌+◌, ◌-◌, ◌<◌, ◌≤◌, ◌≤ℤ◌, ◌^◌, ◌∷◌, ◌++◌, [], All, length, get_or, map, pos, None, IfOk, IfSome, IsTrue};
+ghost use Rattle.std.specs.Prelude.{◌≡◌, ◌≢◌, ℕ, ◌+◌, ◌-◌, ◌<◌, ◌≤◌, ◌≤ℤ◌, ◌^◌, ◌∷◌, ◌++◌, [], All, length, get_or, map, take, pos, None, IfOk, IfSome, IsTrue};
 ghost use Rattle.tetri_algebra.specs.Rational.{whole_ℚ};
 ghost use Rattle.tetri_algebra.specs.Range.{IsWithin};
 ghost use Rattle.tetri_ip.specs.Points.{IsFit, IsInBox, bounds_of};
 ghost use Rattle.tetri_simplex.specs.declared.origins.Origin.TheVariants.{Kept};
 ghost use Rattle.tetri_simplex.specs.Drafts.{draft_rows, IsDraft};
+ghost use Rattle.tetri_simplex.specs.Holders.{AreHolders};
 ghost use Rattle.tetri_simplex.specs.Mirrors.{mirror, variable_row, IsMirrorWithin};
-ghost use Rattle.tetri_simplex.specs.Mixed.{mixed_row, AreMixedRows, IsMixedRow};
+ghost use Rattle.tetri_simplex.specs.Mixed.{mixed_row, mixed_rows, AreMixedRows, IsMixedRow};
 ghost use Rattle.tetri_simplex.specs.Pairs.{table_of, origin_at, IsPairs, IsWholeRow};
 ghost use Rattle.tetri_simplex.specs.Start.{IsStart, bound_rows, first_table, minus_one_at, slack_row};
 
 use crate::first_rows::{bound, objective, slack};
-use crate::holders::holders_of;
+use crate::holders::first_holders;
 use crate::mixed::{MixedRow, below_of, is_negative_at};
 use crate::origins::Origin;
 use crate::pairs::Pairs;
@@ -41,6 +42,7 @@ pub(crate) struct Draft {
 fn no_places(alloc: Global, columns: u32) -> Result<Draft, AllocError>
     ensures draft { IfOk result (λ d. IsDraft columns d) }
     ensures rows { IfOk result (λ d. draft_rows columns d ≡ []) }
+    ensures kept { IfOk result (λ d. d.rows.items ≡ []) }
     ensures free { IfOk result (λ d. (p : ℕ) → get_or d.columns.items p None ≡ None) }
 {
     Ok(Draft {
@@ -59,6 +61,7 @@ fn keep(columns: u32, draft: &mut Draft, row: MixedRow) -> Result<(), AllocError
     ensures draft { IfOk result (λ _. IsDraft columns draft.new) }
     ensures rows { IfOk result (λ _.
         draft_rows columns draft.new ≡ draft_rows columns draft.old ++ (mixed_row row ∷ [])) }
+    ensures kept { IfOk result (λ _. draft.new.rows.items ≡ draft.old.rows.items ++ (row ∷ [])) }
     ensures last { IfOk result (λ _. origin_at draft.new.origins.items (length draft.old.origins.items)
         ≡ Kept (length draft.new.rows.items - 1)) }
     ensures some { IfOk result (λ _. 0 < length draft.new.rows.items) }
@@ -84,6 +87,7 @@ fn mirror_column(
     ensures draft { IfOk result (λ _. IsDraft columns draft.new) }
     ensures rows { IfOk result (λ _. draft_rows columns draft.new
         ≡ draft_rows columns draft.old ++ (mirror width (variable_row columns place) ∷ [])) }
+    ensures kept { IfOk result (λ _. draft.new.rows.items ≡ draft.old.rows.items) }
     ensures others { IfOk result (λ _. (q : ℕ) → q ≢ place →
         get_or draft.new.columns.items q None ≡ get_or draft.old.columns.items q None) }
 {
@@ -106,6 +110,8 @@ fn add_slacks(
     ensures draft { IfOk result (λ _. IsDraft (length p.now.costs.items) draft.new) }
     ensures rows { IfOk result (λ _. draft_rows (length p.now.costs.items) draft.new
         ≡ draft_rows (length p.now.costs.items) draft.old
+        ++ map (map whole_ℚ) (map (slack_row p.now.costs.items start.now) p.now.rows.items)) }
+    ensures kept { IfOk result (λ _. mixed_rows draft.new.rows.items ≡ mixed_rows draft.old.rows.items
         ++ map (map whole_ℚ) (map (slack_row p.now.costs.items start.now) p.now.rows.items)) }
     ensures columns { IfOk result (λ _. draft.new.columns.items ≡ draft.old.columns.items) }
 {
@@ -134,6 +140,7 @@ fn add_bound(
     ensures rows { IfOk result (λ _. draft_rows (length p.now.costs.items) draft.new
         ≡ draft_rows (length p.now.costs.items) draft.old
         ++ (map whole_ℚ (width ∷ minus_one_at j 0 p.now.costs.items) ∷ [])) }
+    ensures kept { IfOk result (λ _. take (length draft.old.rows.items) draft.new.rows.items ≡ draft.old.rows.items) }
     ensures others { IfOk result (λ _. (q : ℕ) → q ≢ j →
         get_or draft.new.columns.items q None ≡ get_or draft.old.columns.items q None) }
 {
@@ -155,6 +162,7 @@ fn add_bounds(alloc: Global, p: &Program, r: &Region, draft: &mut Draft) -> Resu
     ensures rows { IfOk result (λ _. draft_rows (length p.now.costs.items) draft.new
         ≡ draft_rows (length p.now.costs.items) draft.old
         ++ map (map whole_ℚ) (bound_rows 0 p.now.costs.items r.now.lower.items r.now.upper.items)) }
+    ensures kept { IfOk result (λ _. take (length draft.old.rows.items) draft.new.rows.items ≡ draft.old.rows.items) }
 {
     for j in 0..p.costs.len() {
         add_bound(alloc, p, j, width_at(p, r, j), draft)?;
@@ -192,8 +200,10 @@ fn pairs_of(
     nonbasic: Vec<usize>,
     basic: Vec<usize>,
     draft: Draft,
+    holders: Vec<Vec<u64>>,
 ) -> Result<Option<Pairs>, AllocError>
     requires draft { IsDraft (length nonbasic.items) draft }
+    requires holders { AreHolders (length nonbasic.items) holders.items (mixed_rows draft.rows.items) }
     requires some { 0 < length draft.rows.items }
     requires objective { origin_at draft.origins.items (length basic.items) ≡ Kept (length draft.rows.items - 1) }
     requires count { length draft.origins.items ≡ length basic.items + 1 }
@@ -208,7 +218,6 @@ fn pairs_of(
         return Ok(None);
     }
     let row_below = below_of(alloc, columns, &draft.rows)?;
-    let holders = holders_of(alloc, columns, &draft.rows)?;
     let mirrors = vec![in alloc; None; draft.rows.len()]?;
     Ok(Some(Pairs {
         nonbasic,
@@ -245,5 +254,6 @@ pub(crate) fn first_pairs(
     keep(columns as u32, &mut draft, objective(alloc, p, &start)?)?;
     let nonbasic = numbers_from(alloc, 0, columns)?;
     let basic = numbers_from(alloc, columns, p.rows.len() + columns)?;
-    pairs_of(alloc, nonbasic, basic, draft)
+    let holders = first_holders(alloc, p, columns as u32, &draft.rows)?;
+    pairs_of(alloc, nonbasic, basic, draft, holders)
 }

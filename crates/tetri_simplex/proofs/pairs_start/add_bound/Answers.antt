@@ -1,12 +1,15 @@
-use Rattle.std.proofs.Common.{◌≡◌, true, ◌<◌, ◌++◌, [], ◌∷◌, List, ℕ, None, get_or, length, map, sym, ap, subst, ◌∙◌}
+use Rattle.std.proofs.Common.{◌≡◌, true, ◌<◌, ◌++◌, [], ◌∷◌, List, None, get_or, length, map, take, arith, sym, ap, subst, ◌∙◌}
 use Rattle.std.specs.Prelude.{IfOk, ◌≤ℤ◌, pos}
 use Rattle.std.proofs.lemmas.Int.{to_z-of_z}
+use Rattle.std.proofs.lemmas.List.{take_all}
+use Rattle.std.proofs.Math.Seq.{take-append_seam}
 use lib.IntN.{ℤ}
 use lib.Signed.{lt_z}
 use mir.Val.{to_z, of_z}
 use mir.Syntax.{w64, w128}
 use Rattle.tetri_algebra.specs.Rational.{ℚ, whole_ℚ}
 use Rattle.tetri_rows.proofs.RowLaws.{from_test}
+use Rattle.tetri_simplex.specs.declared.mixed.MixedRow.{MixedRow}
 use Rattle.tetri_simplex.specs.Drafts.{draft_rows, IsDraft}
 use Rattle.tetri_simplex.specs.Mirrors.{mirror, variable_row, IsWidth}
 use Rattle.tetri_simplex.specs.Mixed.{mixed_row, IsMixedRow}
@@ -71,3 +74,13 @@ returns-in_ok-bound-clause-rows c =
 pub returns-in_ok-bound-clause-others : goal.returns-in_ok-bound-clause-others
 returns-in_ok-bound-clause-others c =
     if_ok c.keep.result _ _ (λ e. λ q d. ap (λ us. get_or us q None) e) c.keep.ensures.columns
+
+pub returns-then-width-lt-WIDE-clause-kept : goal.returns-then-width-lt-WIDE-clause-kept
+returns-then-width-lt-WIDE-clause-kept c =
+    let rows = c.args.draft.now.rows.items in
+    if_ok c.mirror_column.result _ _ (λ e. ap (λ (us : List MixedRow). take (length rows) us) e ∙ take_all (length rows) rows (omega arith)) c.mirror_column.ensures.kept
+
+pub returns-in_ok-bound-clause-kept : goal.returns-in_ok-bound-clause-kept
+returns-in_ok-bound-clause-kept c =
+    let rows = c.args.draft.now.rows.items in
+    if_ok c.keep.result _ _ (λ e. ap (λ (us : List MixedRow). take (length rows) us) e ∙ take-append_seam rows (c.in_ok-bound.field-0 ∷ [])) c.keep.ensures.kept

@@ -2,6 +2,7 @@ use Rattle.std.proofs.Common.{◌≡◌, ◌+◌, ◌<◌, ◌≤◌, ◌∷◌,
 use Rattle.tetri_algebra.specs.Rational.{whole_ℚ}
 use Rattle.tetri_simplex.specs.Drafts.{draft_rows}
 use Rattle.tetri_simplex.specs.Start.{minus_one_at}
+use Rattle.tetri_simplex.proofs.FirstHolders.{front_of_front}
 use Rattle.tetri_simplex.proofs.FirstTable.{bounds_more}
 use Rattle.tetri_simplex.proofs.Numbers.{number_read}
 use Rattle.tetri_simplex.proofs.WholeStart.{rows_step}
@@ -25,5 +26,6 @@ loop-j-preserved c =
           rows_step (draft_rows n c.loop-j.draft) (draft_rows n c.add_bound.new.draft) _ _ _ _ c.in_ok-add_bound.ensures.rows
           (ap (λ z. map whole_ℚ (z ∷ minus_one_at j 0 cs)) (number_read c.width_at.result c.width_at.ensures.within ∙ c.width_at.ensures.value)) (bounds_more cs ls us j h g)
           ∙ c.loop-j.invariant.rows;
+      kept = front_of_front c.args.draft.now.rows.items c.loop-j.draft.rows.items c.add_bound.new.draft.rows.items c.loop-j.invariant.kept c.in_ok-add_bound.ensures.kept;
       free = λ q l. c.in_ok-add_bound.ensures.others q (above j q l) ∙ c.loop-j.invariant.free q (omega (arith, l));
     }

@@ -1,4 +1,4 @@
-use Rattle.std.proofs.Common.{◌≡◌, ◌≤◌, ◌++◌, ℕ, None, drop, get_or, map, length}
+use Rattle.std.proofs.Common.{◌≡◌, ◌≤◌, ◌++◌, ℕ, None, drop, get_or, map, length, take}
 use Rattle.tetri_algebra.specs.Rational.{whole_ℚ}
 use Rattle.tetri_simplex.specs.Drafts.{draft_rows, IsDraft}
 use Rattle.tetri_simplex.specs.Start.{bound_rows}
@@ -10,5 +10,6 @@ invariant-loop-j l = record {
   rows :
       draft_rows (length l.p.costs.items) l.draft ++ map (map whole_ℚ) (bound_rows l.j l.p.costs.items (drop l.j l.r.lower.items) (drop l.j l.r.upper.items))
       ≡ draft_rows (length l.p.costs.items) l.fn.draft ++ map (map whole_ℚ) (bound_rows 0 l.p.costs.items l.r.lower.items l.r.upper.items);
+  kept : take (length l.fn.draft.rows.items) l.draft.rows.items ≡ l.fn.draft.rows.items;
   free : (q : ℕ) → l.j ≤ q → get_or l.draft.columns.items q None ≡ None;
 }

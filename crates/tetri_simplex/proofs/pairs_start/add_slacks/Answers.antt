@@ -2,7 +2,7 @@ use Rattle.std.proofs.Common.{◌≡◌, ◌<◌, ◌++◌, [], ◌∷◌, lengt
 use Rattle.tetri_simplex.specs.Drafts.{draft_rows, IsDraft}
 use Rattle.tetri_simplex.specs.Mixed.{mixed_row, IsMixedRow}
 use Rattle.tetri_simplex.proofs.FirstTable.{fit_row, slacks_more}
-use Rattle.tetri_simplex.proofs.WholeStart.{rows_step}
+use Rattle.tetri_simplex.proofs.WholeStart.{row_pushed, rows_step}
 use Rattle.tetri_simplex.proofs.pairs_start.add_slacks.Goals as goal
 
 pub slack-requires-clause-row : goal.slack-requires-clause-row
@@ -33,5 +33,9 @@ loop-i-preserved c =
           (subst (λ k. draft_rows k c.keep.new.draft ≡ draft_rows k c.loop-i.draft ++ (mixed_row c.in_ok-slack.field-0 ∷ [])) ne c.in_ok-keep.ensures.rows)
           c.in_ok-slack.ensures.numbers (slacks_more cs c.args.start.now c.args.p.now.rows.items c.loop-i.i c.index.result.now h c.index.ensures)
           ∙ c.loop-i.invariant.rows;
+      kept =
+          row_pushed c.loop-i.draft.rows.items c.keep.new.draft.rows.items c.in_ok-slack.field-0 _ _ _ c.in_ok-keep.ensures.kept c.in_ok-slack.ensures.numbers
+          (slacks_more cs c.args.start.now c.args.p.now.rows.items c.loop-i.i c.index.result.now h c.index.ensures)
+          ∙ c.loop-i.invariant.kept;
       columns = c.in_ok-keep.ensures.columns ∙ c.loop-i.invariant.columns;
     }

@@ -1,14 +1,17 @@
-use Rattle.std.proofs.Common.{◌≡◌, ◌+◌, ◌-◌, List, length, map, sym, ap, subst, ◌∙◌, arith}
+use Rattle.std.proofs.Common.{◌≡◌, ◌+◌, ◌++◌, List, length, map, sym, ap, subst, ◌∙◌, arith}
 use Rattle.std.specs.Prelude.{IfOk, IfSome}
+use Rattle.std.proofs.lemmas.List.FromFn.{length-range_with_len}
 use lib.IntN.{ℤ}
 use Rattle.tetri_algebra.specs.Rational.{whole_ℚ}
 use Rattle.tetri_ip.specs.Points.{bounds_of}
-use Rattle.tetri_simplex.specs.declared.origins.Origin.TheVariants.{Kept}
+use Rattle.tetri_simplex.specs.declared.mixed.MixedRow.{MixedRow}
 use Rattle.tetri_simplex.specs.Drafts.{draft_rows, IsDraft}
-use Rattle.tetri_simplex.specs.Mixed.{IsMixedRow}
+use Rattle.tetri_simplex.specs.Holders.{AreHolders}
+use Rattle.tetri_simplex.specs.Mixed.{mixed_rows, AreMixedRows, IsMixedRow}
 use Rattle.tetri_simplex.specs.Pairs.{origin_at, table_of}
-use Rattle.tetri_simplex.specs.Start.{first_rows, objective_row}
+use Rattle.tetri_simplex.specs.Start.{first_rows, objective_row, slack_row}
 use Rattle.tetri_simplex.specs.Tables.{Table}
+use Rattle.tetri_simplex.proofs.FirstHolders.{kept_front, slacks_among, slacks_held}
 use Rattle.tetri_simplex.proofs.FirstPairs.{all_rows, last_place, row_for_each}
 use Rattle.tetri_simplex.proofs.FirstTable.{wholes}
 use Rattle.tetri_simplex.proofs.WholeStart.{first_is, sized}
@@ -22,6 +25,30 @@ keep-requires-clause-draft c = subst (λ k. IsDraft k c.add_bounds.new.draft) (s
 
 pub keep-requires-clause-row : goal.keep-requires-clause-row
 keep-requires-clause-row c = subst (λ k. IsMixedRow k c.in_ok-objective.field-0) (sym (c.len-columns.ensures ∙ c.args.p.now.costs.ok.0)) c.in_ok-objective.ensures.sound
+
+pub first_holders-requires-clause-rows : goal.first_holders-requires-clause-rows
+first_holders-requires-clause-rows c = subst (λ (us : List MixedRow). AreMixedRows c.len-columns.result us) (sym c.deref-3.ensures.value) c.in_ok-keep.ensures.draft.rows
+
+pub first_holders-requires-clause-count : goal.first_holders-requires-clause-count
+first_holders-requires-clause-count c =
+    let p = c.args.p.now in
+    let d = c.add_slacks.new.draft.rows.items in
+    slacks_among p.costs.items c.deref.result.now p.rows.items d c.deref-3.result.now
+    (c.in_ok-add_slacks.ensures.kept ∙ ap (λ (us : List MixedRow). mixed_rows us ++ wholes (map (slack_row p.costs.items c.deref.result.now) p.rows.items)) c.in_ok-draft.ensures.kept)
+    (kept_front d c.add_bounds.new.draft.rows.items c.keep.new.draft.rows.items c.deref-3.result.now c.in_ok-objective.field-0 c.in_ok-add_bounds.ensures.kept c.in_ok-keep.ensures.kept c.deref-3.ensures.value)
+
+pub first_holders-requires-clause-numbers : goal.first_holders-requires-clause-numbers
+first_holders-requires-clause-numbers c =
+    let p = c.args.p.now in
+    let d = c.add_slacks.new.draft.rows.items in
+    slacks_held p.costs.items c.deref.result.now p.rows.items d c.deref-3.result.now
+    (c.in_ok-add_slacks.ensures.kept ∙ ap (λ (us : List MixedRow). mixed_rows us ++ wholes (map (slack_row p.costs.items c.deref.result.now) p.rows.items)) c.in_ok-draft.ensures.kept)
+    (kept_front d c.add_bounds.new.draft.rows.items c.keep.new.draft.rows.items c.deref-3.result.now c.in_ok-objective.field-0 c.in_ok-add_bounds.ensures.kept c.in_ok-keep.ensures.kept c.deref-3.ensures.value)
+
+pub pairs_of-requires-clause-holders : goal.pairs_of-requires-clause-holders
+pairs_of-requires-clause-holders c =
+    subst (λ n. AreHolders n c.in_ok-holders.holders.items (mixed_rows c.keep.new.draft.rows.items)) (sym (ap length c.in_ok-nonbasic.ensures ∙ length-range_with_len 0 c.len-columns.result))
+    (subst (λ (us : List MixedRow). AreHolders c.len-columns.result c.in_ok-holders.holders.items (mixed_rows us)) c.deref-3.ensures.value c.in_ok-holders.ensures)
 
 pub pairs_of-requires-clause-draft : goal.pairs_of-requires-clause-draft
 pairs_of-requires-clause-draft c =
