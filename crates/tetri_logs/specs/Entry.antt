@@ -1,11 +1,12 @@
 -- What a line of a log is.
-use Rattle.std.specs.Prelude.{ℕ, ◌+◌, ◌==◌, Bool, List, [], length, Option, Some, None, unwrap_or, Result, Ok, Err, if◌then◌else◌}
+use Rattle.std.specs.Prelude.{ℕ, ◌+◌, ◌==◌, Bool, List, [], ◌∷◌, length, map, Option, Some, None, unwrap_or, Result, Ok, Err, if◌then◌else◌}
 use Rattle.tetri_cluster.specs.Names.{is_name}
 use Rattle.tetri_logs.specs.Facts.{fact_in}
 use Rattle.tetri_logs.specs.Header.{header_in, is_header}
 use Rattle.tetri_logs.specs.Sacct.{cell, id_name, row_of, sacct_account, told_cell, without_return}
 use Rattle.tetri_logs.specs.SetText.{seated}
 use Rattle.tetri_logs.specs.Swf.{is_comment, swf_account, swf_partition}
+use Rattle.tetri_logs.specs.Tasks.{ids_of}
 use Rattle.tetri_logs.specs.Words.{word_at, words_of}
 use Rattle.tetri_logs.specs.declared.account.Account.{Account}
 use Rattle.tetri_logs.specs.declared.entry.Cause.{Cause}
@@ -34,17 +35,29 @@ abbrev pub header_entry : ℕ → List (List ℕ) → Option Header → Entry
 header_entry line row (Some h) = Comment None
 header_entry line row None = left_at line (Unreadable (length row + 1))
 
-abbrev pub table_entry : Bool → Header → ℕ → List ℕ → Entry
-table_entry mixed h line text =
-    let row = row_of text in
-    if length (without_return text) == 0 then Comment None
-    else (if is_header row then header_entry line row (header_in row) else
-    seated mixed (with_name line (id_name (cell row h.id)) (sacct_account h row)) (told_cell row h.partitions) (told_cell row h.constraints))
+-- a job with this identifier
+abbrev pub row_entry : Bool → Header → ℕ → List (List ℕ) → Result Account Cause → List ℕ → Entry
+row_entry mixed h line row account id = seated mixed (with_name line (id_name id) account) (told_cell row h.partitions) (told_cell row h.constraints)
 
--- what a line with this number is, in a layout, where nodes differ or not
-abbrev pub entry_of : Bool → Layout → ℕ → List ℕ → Entry
-entry_of mixed Words line text = swf_entry mixed line text
-entry_of mixed (Table h) line text = table_entry mixed h line text
+-- the jobs that an identifier stands for, where a line says some
+abbrev pub ids_if : Result Account Cause → List ℕ → List (List ℕ)
+ids_if (Err cause) id = id ∷ []
+ids_if (Ok account) id = ids_of id
+
+-- the jobs of a line, which have all its account and its set
+abbrev pub row_entries : Bool → Header → ℕ → List (List ℕ) → List Entry
+row_entries mixed h line row = let account = sacct_account h row in map (row_entry mixed h line row account) (ids_if account (cell row h.id))
+
+abbrev pub table_entries : Bool → Header → ℕ → List ℕ → List Entry
+table_entries mixed h line text =
+    let row = row_of text in
+    if length (without_return text) == 0 then Comment None ∷ []
+    else (if is_header row then header_entry line row (header_in row) ∷ [] else row_entries mixed h line row)
+
+-- What a line with this number is, in a layout, where nodes differ or not: one entry, or as many as it has tasks of an array.
+abbrev pub line_entries : Bool → Layout → ℕ → List ℕ → List Entry
+line_entries mixed Words line text = swf_entry mixed line text ∷ []
+line_entries mixed (Table h) line text = table_entries mixed h line text
 
 -- the columns of a line and of those behind it: a header says which there are
 abbrev pub header_at : Header → List ℕ → Header

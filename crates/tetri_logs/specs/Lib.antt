@@ -7,6 +7,7 @@ pub mod Times
 pub mod Swf
 pub mod Header
 pub mod Limits
+pub mod Tasks
 pub mod Sacct
 pub mod Layout
 pub mod SetText

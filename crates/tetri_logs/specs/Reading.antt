@@ -1,6 +1,6 @@
 -- What a log says.
-use Rattle.std.specs.Prelude.{ℕ, ◌+◌, List, [], ◌∷◌, Bool, true, false, Option, Some, None}
-use Rattle.tetri_logs.specs.Entry.{entry_of, layout_at}
+use Rattle.std.specs.Prelude.{ℕ, ◌+◌, List, [], ◌∷◌, ◌++◌, Bool, true, false, Option, Some, None}
+use Rattle.tetri_logs.specs.Entry.{layout_at, line_entries}
 use Rattle.tetri_logs.specs.Layout.{first_layout}
 use Rattle.tetri_logs.specs.Lines.{log_lines}
 use Rattle.tetri_logs.specs.declared.entry.Reject.{Reject}
@@ -16,7 +16,7 @@ use Rattle.tetri_logs.specs.declared.reading.Facts.{Facts}
 -- what lines are, where the first has this number and those before it left this layout, and nodes differ or not
 abbrev pub entries_from : Bool → Layout → ℕ → List (List ℕ) → List Entry
 entries_from mixed layout number [] = []
-entries_from mixed layout number (line ∷ lines) = entry_of mixed layout number line ∷ entries_from mixed (layout_at layout line) (number + 1) lines
+entries_from mixed layout number (line ∷ lines) = line_entries mixed layout number line ++ entries_from mixed (layout_at layout line) (number + 1) lines
 
 -- what all lines of a log are
 abbrev pub entries_of : Bool → Format → List (List ℕ) → List Entry
@@ -32,7 +32,7 @@ jobs_in (Job job ∷ es) = job ∷ jobs_in es
 jobs_in (Comment fact ∷ es) = jobs_in es
 jobs_in (Left reject ∷ es) = jobs_in es
 
--- the lines that bring no job
+-- the lines that bring no job, and the tasks of an array that bring none
 abbrev pub left_in : List Entry → List Reject
 left_in [] = []
 left_in (Job job ∷ es) = left_in es

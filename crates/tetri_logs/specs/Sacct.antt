@@ -1,5 +1,5 @@
 -- A line of sacct.
-use Rattle.std.specs.Prelude.{ℕ, ◌+◌, ◌-◌, ◌*◌, ◌==◌, ◌&&◌, ◌||◌, Bool, not, List, [], length, map, min, nat_lt, slice_index, take, Option, Some, None, option_map, ok_or, Result, Ok, Err, if◌then◌else◌, bytes_eq, codes}
+use Rattle.std.specs.Prelude.{ℕ, ◌+◌, ◌-◌, ◌*◌, ◌==◌, ◌&&◌, ◌||◌, Bool, not, List, [], length, map, min, nat_lt, slice_index, take, Option, Some, None, is_none, option_map, ok_or, Result, Ok, Err, if◌then◌else◌, bytes_eq, codes}
 use Rattle.std.specs.List.{list_any, starts_with}
 use Rattle.tetri_base.specs.ResultSteps.{◌>>=◌}
 use Rattle.tetri_io.specs.Numbers.{digits_below}
@@ -7,6 +7,7 @@ use Rattle.tetri_io.specs.Words.{parts_at}
 use Rattle.tetri_logs.specs.Account.{account_of, positive}
 use Rattle.tetri_logs.specs.Limits.{limit_in}
 use Rattle.tetri_logs.specs.Swf.{refused}
+use Rattle.tetri_logs.specs.Tasks.{before_bracket}
 use Rattle.tetri_logs.specs.Times.{seconds_in}
 use Rattle.tetri_logs.specs.Words.{count_in, word_at}
 use Rattle.tetri_logs.specs.declared.account.Account.{Account}
@@ -35,9 +36,9 @@ told_cell row (Some column) = cell row column
 abbrev pub is_row : Header → List (List ℕ) → Bool
 is_row h row = length row == h.count || (length row - 1 == h.count && length (word_at row h.count) == 0)
 
--- the identifier of a step has a point
+-- the identifier of a step has a point, and is no list of tasks
 abbrev pub is_step : List ℕ → Bool
-is_step id = list_any (λ b. b == 46) id
+is_step id = list_any (λ b. b == 46) id && is_none (before_bracket id)
 
 -- a point in the place of a plus
 abbrev pub pointed : ℕ → ℕ

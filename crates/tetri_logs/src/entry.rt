@@ -1,6 +1,6 @@
 // What a line of a log is.
-ghost use Rattle.std.specs.Prelude.{◌≡◌, IfOk, OnOk, map};
-ghost use Rattle.tetri_logs.specs.Entry.{entry_of, header_at, header_entry, layout_at, swf_entry, table_entry, with_name};
+ghost use Rattle.std.specs.Prelude.{◌≡◌, ◌∷◌, [], IfOk, OnOk, map, unwrap_or};
+ghost use Rattle.tetri_logs.specs.Entry.{header_at, header_entry, ids_if, layout_at, line_entries, row_entries, row_entry, swf_entry, table_entries, with_name};
 ghost use Rattle.tetri_logs.specs.Sacct.{id_name};
 
 use crate::account::Account;
@@ -10,8 +10,10 @@ use crate::layout::Layout;
 use crate::sacct::{cell, pointed_id, row_of, sacct_account, told_cell, without_return};
 use crate::set_text::{SetText, seated};
 use crate::swf::{is_comment, swf_account, swf_partition};
+use crate::tasks::{Ids, task_ids};
 use crate::words::{word_at, words_of};
 use std::alloc::{AllocError, Global};
+use tetri_base::Items;
 use tetri_cluster::{Name, NameFault};
 
 /// Why a line of a log brings no job, or why a job of it is not taken.
@@ -41,7 +43,7 @@ pub enum Cause {
     Beyond,
 }
 
-/// A line that brings no job, or a job that is not taken, by the number of the line, counted from 1.
+/// A line that brings no job, or a job that is not taken, by the number of the line, counted from 1. Tasks of one line have one number.
 #[derive(Clone, Copy)]
 pub struct Reject {
     pub line: usize,
@@ -57,7 +59,7 @@ pub enum Format {
     Sacct,
 }
 
-/// A job of a log, with the number of its line.
+/// A job of a log, with the number of its line. The tasks of an array that wait are jobs of one line.
 #[derive(Drop)]
 pub struct LoggedJob {
     pub line: usize,
@@ -144,52 +146,130 @@ fn with_id(
     }
 }
 
-// What the columns of a line are. A header says which columns there are.
-fn table_entry(
+// An entry alone.
+fn one_entry(alloc: Global, entry: Entry) -> Result<Vec<Entry>, AllocError>
+    ensures { IfOk result (λ es. es.items ≡ entry ∷ []) }
+{
+    let mut entries = Vec::new(alloc);
+    entries.push(entry)?;
+    Ok(entries)
+}
+
+// The job of a line by its identifier.
+fn row_entry(
     alloc: Global,
     mixed: bool,
-    header: &mut Header,
+    header: &Header,
     line: usize,
-    text: &[u8],
+    row: &[&[u8]],
+    account: Result<Account, Cause>,
+    id: &[u8],
 ) -> Result<Entry, AllocError>
-    ensures entry { IfOk result (λ e. e ≡ table_entry mixed header.old line text.now) }
-    ensures header { OnOk result (header.new ≡ header_at header.old text.now) }
+    ensures { IfOk result (λ e. e ≡ row_entry mixed header.now line (map (λ w. w.now) row.now) account id.now) }
 {
-    if without_return(text).is_empty() {
-        return Ok(Entry::Comment(None));
-    }
-    let row = row_of(alloc, text)?;
-    if is_header(&row) {
-        let named = header_in(&row);
-        *header = named.unwrap_or(*header);
-        return Ok(header_entry(line, &row, named));
-    }
-    let account = sacct_account(header, &row);
-    let entry = with_id(alloc, line, cell(&row, header.id), account)?;
-    let partitions = told_cell(&row, header.partitions);
+    let entry = with_id(alloc, line, id, account)?;
+    let partitions = told_cell(row, header.partitions);
     seated(
         alloc,
         mixed,
         entry,
         partitions,
-        told_cell(&row, header.constraints),
+        told_cell(row, header.constraints),
     )
 }
 
-/// What a line with this number is, where the lines before it have left this layout, and nodes differ or not. Its only error is want of
-/// memory.
-pub fn read_entry(
+// The jobs of a line by their identifiers.
+fn entries_by(
+    alloc: Global,
+    mixed: bool,
+    header: &Header,
+    line: usize,
+    row: &[&[u8]],
+    account: Result<Account, Cause>,
+    ids: &[Items<u8>],
+) -> Result<Vec<Entry>, AllocError>
+    ensures { IfOk result (λ es. es.items ≡ map (row_entry mixed header.now line (map (λ w. w.now) row.now) account) ids.now) }
+{
+    let mut entries = Vec::new(alloc);
+    for id in ids {
+        let entry = row_entry(alloc, mixed, header, line, row, account, id.as_slice())?;
+        entries.push(entry)?;
+    }
+    Ok(entries)
+}
+
+// The tasks that an identifier stands for, where a line says a job and they are some.
+fn tasks_if(
+    alloc: Global,
+    account: Result<Account, Cause>,
+    id: &[u8],
+) -> Result<Option<Ids>, AllocError>
+    ensures { IfOk result (λ ids. unwrap_or ids (id.now ∷ []) ≡ ids_if account id.now) }
+{
+    match account {
+        Ok(_) => task_ids(alloc, id),
+        Err(_) => Ok(None),
+    }
+}
+
+// The jobs of a line.
+fn row_entries(
+    alloc: Global,
+    mixed: bool,
+    header: &Header,
+    line: usize,
+    row: &[&[u8]],
+) -> Result<Vec<Entry>, AllocError>
+    ensures { IfOk result (λ es. es.items ≡ row_entries mixed header.now line (map (λ w. w.now) row.now)) }
+{
+    let account = sacct_account(header, row);
+    let id = cell(row, header.id);
+    match tasks_if(alloc, account, id)? {
+        None => {
+            let entry = row_entry(alloc, mixed, header, line, row, account, id)?;
+            one_entry(alloc, entry)
+        }
+        Some(ids) => entries_by(alloc, mixed, header, line, row, account, ids.as_slice()),
+    }
+}
+
+// What the columns of a line are. A header says which columns there are.
+fn table_entries(
+    alloc: Global,
+    mixed: bool,
+    header: &mut Header,
+    line: usize,
+    text: &[u8],
+) -> Result<Vec<Entry>, AllocError>
+    ensures entries { IfOk result (λ es. es.items ≡ table_entries mixed header.old line text.now) }
+    ensures header { OnOk result (header.new ≡ header_at header.old text.now) }
+{
+    if without_return(text).is_empty() {
+        return one_entry(alloc, Entry::Comment(None));
+    }
+    let row = row_of(alloc, text)?;
+    if is_header(&row) {
+        let named = header_in(&row);
+        *header = named.unwrap_or(*header);
+        return one_entry(alloc, header_entry(line, &row, named));
+    }
+    row_entries(alloc, mixed, header, line, &row)
+}
+
+/// What a line with this number is, where the lines before it have left this layout, and nodes differ or not: one entry, or as many as the
+/// line has tasks of an array, in their order. Its only error is want of memory.
+pub fn read_entries(
     alloc: Global,
     mixed: bool,
     layout: &mut Layout,
     line: usize,
     text: &[u8],
-) -> Result<Entry, AllocError>
-    ensures entry { IfOk result (λ e. e ≡ entry_of mixed layout.old line text.now) }
+) -> Result<Vec<Entry>, AllocError>
+    ensures entries { IfOk result (λ es. es.items ≡ line_entries mixed layout.old line text.now) }
     ensures layout { OnOk result (layout.new ≡ layout_at layout.old text.now) }
 {
     match layout {
-        Layout::Words => swf_entry(alloc, mixed, line, text),
-        Layout::Table(header) => table_entry(alloc, mixed, header, line, text),
+        Layout::Words => one_entry(alloc, swf_entry(alloc, mixed, line, text)?),
+        Layout::Table(header) => table_entries(alloc, mixed, header, line, text),
     }
 }

@@ -18,12 +18,13 @@ mod sacct;
 mod scale;
 mod set_text;
 mod swf;
+mod tasks;
 mod times;
 mod words;
 
 pub use account::Account;
 pub use comments::Fact;
-pub use entry::{Cause, Entry, Format, LoggedJob, Reject, read_entry};
+pub use entry::{Cause, Entry, Format, LoggedJob, Reject, read_entries};
 pub use header::Header;
 pub use layout::{Layout, first_layout};
 pub use lines::log_lines;

@@ -1,10 +1,10 @@
 // What a log says.
-ghost use Rattle.std.specs.Prelude.{◌≡◌, ◌+◌, ◌≤◌, ◌++◌, ◌∷◌, [], IfOk, OnOk, length, map};
+ghost use Rattle.std.specs.Prelude.{◌≡◌, ◌+◌, ◌++◌, ◌∷◌, [], IfOk, OnOk, length, map};
 ghost use Rattle.tetri_base.specs.Lists.{count};
 ghost use Rattle.tetri_logs.specs.Reading.{entries, entries_of, facts_in, is_comment, jobs_in, left_in, no_facts, with_fact};
 
 use crate::comments::Fact;
-use crate::entry::{Entry, Format, LoggedJob, Reject, read_entry};
+use crate::entry::{Entry, Format, LoggedJob, Reject, read_entries};
 use crate::layout::first_layout;
 use crate::lines::log_lines;
 use std::alloc::{AllocError, Global};
@@ -53,11 +53,12 @@ fn with_fact(facts: Facts, fact: Option<Fact>) -> Facts
     }
 }
 
-// With what one line more says.
+// With what one entry more says, but for the number of comments.
 fn add(log: &mut Log, entry: Entry) -> Result<(), AllocError>
     ensures jobs { OnOk result (log.new.jobs.items ≡ log.old.jobs.items ++ jobs_in (entry ∷ [])) }
     ensures left { OnOk result (log.new.left.items ≡ log.old.left.items ++ left_in (entry ∷ [])) }
     ensures facts { OnOk result (log.new.facts ≡ facts_in log.old.facts (entry ∷ [])) }
+    ensures comments { OnOk result (log.new.comments ≡ log.old.comments) }
 {
     match entry {
         Entry::Job(job) => log.jobs.push(job)?,
@@ -67,12 +68,36 @@ fn add(log: &mut Log, entry: Entry) -> Result<(), AllocError>
     Ok(())
 }
 
-// What is left of a number without two others.
-fn rest_of(all: usize, one: usize, other: usize) -> usize
-    requires { one + other ≤ all }
-    ensures { one + other + result ≡ all }
+// With what these entries say, but for the number of comments.
+fn add_all(log: &mut Log, entries: Vec<Entry>) -> Result<(), AllocError>
+    ensures jobs { OnOk result (log.new.jobs.items ≡ log.old.jobs.items ++ jobs_in entries.items) }
+    ensures left { OnOk result (log.new.left.items ≡ log.old.left.items ++ left_in entries.items) }
+    ensures facts { OnOk result (log.new.facts ≡ facts_in log.old.facts entries.items) }
+    ensures comments { OnOk result (log.new.comments ≡ log.old.comments) }
 {
-    all - one - other
+    for entry in entries {
+        add(log, entry)?;
+    }
+    Ok(())
+}
+
+fn is_comment(entry: &Entry) -> bool
+    ensures { result ≡ is_comment entry.now }
+{
+    matches!(entry, Entry::Comment(_))
+}
+
+// How many of these are comments.
+fn comments_in(entries: &[Entry]) -> usize
+    ensures { result ≡ count is_comment entries.now }
+{
+    let mut count = 0;
+    for entry in entries {
+        if is_comment(entry) {
+            count += 1;
+        }
+    }
+    count
 }
 
 // What the lines of a log say. Its only error is want of memory.
@@ -85,6 +110,7 @@ fn read_lines(
     ensures jobs { IfOk result (λ l. l.jobs.items ≡ jobs_in (entries_of mixed format (map (λ x. x.now) lines.now))) }
     ensures left { IfOk result (λ l. l.left.items ≡ left_in (entries_of mixed format (map (λ x. x.now) lines.now))) }
     ensures facts { IfOk result (λ l. l.facts ≡ facts_in no_facts (entries_of mixed format (map (λ x. x.now) lines.now))) }
+    ensures comments { IfOk result (λ l. l.comments ≡ count is_comment (entries_of mixed format (map (λ x. x.now) lines.now))) }
 {
     let mut read = Log {
         jobs: Vec::new(alloc),
@@ -94,8 +120,9 @@ fn read_lines(
     };
     let mut layout = first_layout(format);
     for (i, line) in lines.iter().enumerate() {
-        let entry = read_entry(alloc, mixed, &mut layout, i + 1, line)?;
-        add(&mut read, entry)?;
+        let entries = read_entries(alloc, mixed, &mut layout, i + 1, line)?;
+        read.comments += comments_in(&entries);
+        add_all(&mut read, entries)?;
     }
     Ok(read)
 }
@@ -107,11 +134,9 @@ pub fn read_log(alloc: Global, mixed: bool, format: Format, log: &[u8]) -> Resul
     ensures facts { IfOk result (λ l. l.facts ≡ facts_in no_facts (entries mixed format log.now)) }
     ensures comments { IfOk result (λ l. l.comments ≡ count is_comment (entries mixed format log.now)) }
 
-    // Each line is a job, a comment or left out.
+    // Each line is a job, a comment or left out, but for one with tasks of an array, of which each is a job or left out.
     ensures whole { IfOk result (λ l. length l.jobs.items + length l.left.items + l.comments ≡ length (entries mixed format log.now)) }
 {
     let lines = log_lines(alloc, log)?;
-    let mut read = read_lines(alloc, mixed, format, &lines)?;
-    read.comments = rest_of(lines.len(), read.jobs.len(), read.left.len());
-    Ok(read)
+    read_lines(alloc, mixed, format, &lines)
 }

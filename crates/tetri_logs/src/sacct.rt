@@ -6,6 +6,7 @@ use crate::account::{Account, Columns, account_of, positive};
 use crate::entry::Cause;
 use crate::header::Header;
 use crate::limits::limit_in;
+use crate::tasks::before_bracket;
 use crate::times::seconds_in;
 use crate::words::{count_in, is_text, word_at};
 use std::alloc::{AllocError, Global};
@@ -57,7 +58,7 @@ fn is_row(header: &Header, row: &[&[u8]]) -> bool
 fn is_step(id: &[u8]) -> bool
     ensures { result ≡ is_step id.now }
 {
-    id.contains(&b'.')
+    id.contains(&b'.') && before_bracket(id).is_none()
 }
 
 // A point in the place of a plus.

@@ -35,7 +35,8 @@ pub record IsTraceOf (s : Settings) (nodes : List NodeText) (order : List Logged
   pub events : IsOrderBy (λ e. e.at) (taken_all s order).events said.events
   pub seated : AreSeated nodes (taken_all s order).sets said
 
--- Each line of a log is a job that is taken, a comment, or counted under the cause why it brings no job, in the order of the lines.
+-- Each line of a log is a job that is taken, a comment, or counted under the cause why it brings no job, in the order of the lines; a line with tasks of an array
+-- is as many jobs.
 pub record IsWhole (es : List Entry) (differ : Bool) (s : Settings) (order : List LoggedJob) (i : Imported) : Type 0 where
   pub left : IsOrderBy (λ r. r.line) (left_in es ++ (taken_all s order).left) i.left.items
   pub jobs : i.jobs ≡ length (taken_all s order).jobs

@@ -56,7 +56,7 @@ pub struct Imported {
     pub jobs: usize,
     /// How many of them take a whole node for fewer processors than it has.
     pub rounded: usize,
-    /// Why other lines brought none, in their order.
+    /// Why other lines, or tasks of a line, brought none, in the order of the lines.
     pub left: Vec<Reject>,
     /// How many lines are comments, among them blank ones and headers.
     pub comments: usize,

@@ -1,19 +1,33 @@
-use Rattle.std.proofs.Common.{◌+◌, ◌∙◌, ◌++◌, [], map, drop, ap, sym}
-use Rattle.tetri_logs.specs.Reading.{entries_from, facts_in, jobs_in, left_in}
-use Rattle.tetri_logs.proofs.ReadingLemmas.{entries_from-next, facts_in-first, jobs_in-first, left_in-first}
+use Rattle.std.proofs.Common.{◌≡◌, ◌+◌, ◌≤◌, ◌∙◌, ◌++◌, [], map, drop, get_or, ap, sym, arith}
+use Rattle.tetri_base.specs.Lists.{count}
+use Rattle.tetri_logs.specs.Entry.{line_entries}
+use Rattle.tetri_logs.specs.Reading.{entries_from, facts_in, is_comment, jobs_in, left_in}
+use Rattle.tetri_logs.proofs.CommentLemmas.{line-one}
+use Rattle.tetri_logs.proofs.ReadingLemmas.{comments-append, entries_from-next, facts_in-append, jobs_in-more, left_in-more}
 use Rattle.tetri_logs.proofs.reading.read_lines.Goals as goal
+
+pub overflow_add-read : goal.overflow_add-read
+overflow_add-read c =
+    let text = (get_or c.args.lines.now c.loop-i.i (record { ref_ptr = (0, 0); now = [] })).now in
+    let found : c.comments_in.result ≡ count is_comment (line_entries c.args.mixed c.loop-i.layout (c.loop-i.i + 1) text) =
+    c.comments_in.ensures ∙ ap (count is_comment) (c.deref.ensures.value ∙ c.in_ok-entries.ensures.entries) in
+    omega (arith, found, line-one c.args.mixed c.loop-i.layout (c.loop-i.i + 1) text, c.loop-i.invariant.few, c.loop-i-test.true)
 
 pub loop-i-preserved : goal.loop-i-preserved
 loop-i-preserved c =
     let xs = c.args.lines.now in
     let i = c.loop-i.i in
     let inv = c.loop-i.invariant in
-    let e = c.in_ok-entry.entry in
-    let next = c.read_entry.new.layout in
+    let es = c.in_ok-entries.entries.items in
+    let next = c.read_entries.new.layout in
     let rest = entries_from c.args.mixed next (i + 1 + 1) (map (λ x. x.now) (drop (i + 1) xs)) in
-    let step = entries_from-next c.args.mixed c.loop-i.layout next (i + 1) i xs (record { ref_ptr = (0, 0); now = [] }) e c.loop-i-test.true c.in_ok-entry.ensures.entry c.in_ok-entry.ensures.layout in
+    let text = (get_or xs i (record { ref_ptr = (0, 0); now = [] })).now in
+    let found : c.comments_in.result ≡ count is_comment es = c.comments_in.ensures ∙ ap (count is_comment) c.deref.ensures.value in
+    let step = entries_from-next c.args.mixed c.loop-i.layout next (i + 1) i xs (record { ref_ptr = (0, 0); now = [] }) es c.loop-i-test.true c.in_ok-entries.ensures.entries c.in_ok-entries.ensures.layout in
     record {
-      jobs = ap (λ js. js ++ jobs_in rest) c.in_ok-add.ensures.jobs ∙ jobs_in-first c.loop-i.read.jobs.items e rest ∙ ap (λ es. c.loop-i.read.jobs.items ++ jobs_in es) (sym step) ∙ inv.jobs;
-      left = ap (λ rs. rs ++ left_in rest) c.in_ok-add.ensures.left ∙ left_in-first c.loop-i.read.left.items e rest ∙ ap (λ es. c.loop-i.read.left.items ++ left_in es) (sym step) ∙ inv.left;
-      facts = ap (λ f. facts_in f rest) c.in_ok-add.ensures.facts ∙ facts_in-first c.loop-i.read.facts e rest ∙ ap (facts_in c.loop-i.read.facts) (sym step) ∙ inv.facts;
+      jobs = ap (λ js. js ++ jobs_in rest) c.in_ok-add_all.ensures.jobs ∙ jobs_in-more c.loop-i.read.jobs.items es rest ∙ ap (λ zs. c.loop-i.read.jobs.items ++ jobs_in zs) (sym step) ∙ inv.jobs;
+      left = ap (λ rs. rs ++ left_in rest) c.in_ok-add_all.ensures.left ∙ left_in-more c.loop-i.read.left.items es rest ∙ ap (λ zs. c.loop-i.read.left.items ++ left_in zs) (sym step) ∙ inv.left;
+      facts = ap (λ f. facts_in f rest) c.in_ok-add_all.ensures.facts ∙ sym (facts_in-append c.loop-i.read.facts es rest) ∙ ap (facts_in c.loop-i.read.facts) (sym step) ∙ inv.facts;
+      comments = omega (arith, c.in_ok-add_all.ensures.comments, found, comments-append es rest, ap (count is_comment) step, inv.comments);
+      few = omega (arith, c.in_ok-add_all.ensures.comments, found, line-one c.args.mixed c.loop-i.layout (i + 1) text, ap (count is_comment) c.in_ok-entries.ensures.entries, inv.few);
     }

@@ -1,0 +1,6 @@
+use Rattle.std.proofs.Common.{◌≡◌, map, take}
+use Rattle.tetri_logs.specs.Entry.{row_entry}
+use Rattle.tetri_logs.proofs.entry.entries_by.Given as goal
+
+abbrev pub invariant-loop-id : goal.invariant-loop-id
+invariant-loop-id l = l.entries.items ≡ map (row_entry l.mixed l.header l.line (map (λ w. w.now) l.row) l.account) (take l.id-index l.ids)
