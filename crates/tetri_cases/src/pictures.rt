@@ -1,19 +1,37 @@
 // Pictures of reports that are accepted, and answers to those that are not, with their traces in the folder that the program runs in.
+use std::alloc::Global;
 use std::io;
-use tetri_chart::{View, chart, clock_of};
+use tetri_chart::{Colours, View, chart, clock_of};
+use tetri_cluster::{Name, NameFault, NameList};
 use tetri_io::{FileShelf, StdSink};
 use tetri_run::{Status, conclude};
 
-// A trace, its report, the cycle whose waiting grants are shown, if one is, and the slots that are.
-type Case = (&'static str, &'static str, Option<u32>, View);
+// What the colours of bars tell. The tags are those of the trace's header, in its order.
+#[derive(Clone, Copy)]
+enum By {
+    Job,
+    Class,
+    Tag(&'static [&'static str]),
+}
 
-const ALL: View = View {
+// The slots that a picture shows, and what its colours tell.
+#[derive(Clone, Copy)]
+struct Part {
+    from: Option<u32>,
+    to: Option<u32>,
+    by: By,
+}
+
+// A trace, its report, the cycle whose waiting grants are shown, if one is, and how the picture shows the run.
+type Case = (&'static str, &'static str, Option<u32>, Part);
+
+const ALL: Part = Part {
     from: None,
     to: None,
-    clock: None,
+    by: By::Job,
 };
 
-const CASES: [Case; 20] = [
+const CASES: [Case; 24] = [
     ("all.jsonl", "all.report", None, ALL),
     ("all.jsonl", "all.report", Some(4), ALL),
     ("all.jsonl", "all.report", Some(12), ALL),
@@ -23,84 +41,124 @@ const CASES: [Case; 20] = [
         "all.jsonl",
         "all.report",
         Some(4),
-        View {
+        Part {
             from: Some(3),
             to: Some(7),
-            clock: None,
+            by: By::Job,
         },
     ),
     (
         "all.jsonl",
         "all.report",
         Some(4),
-        View {
+        Part {
             from: Some(5),
             to: Some(5),
-            clock: None,
+            by: By::Job,
         },
     ),
     (
         "all.jsonl",
         "all.report",
         None,
-        View {
+        Part {
             from: Some(0),
             to: Some(11),
-            clock: None,
+            by: By::Job,
         },
     ),
     (
         "all.jsonl",
         "all.report",
         None,
-        View {
+        Part {
             from: Some(10),
             to: None,
-            clock: None,
+            by: By::Job,
         },
     ),
     (
         "all.jsonl",
         "all.report",
         None,
-        View {
+        Part {
             from: None,
             to: Some(2),
-            clock: None,
+            by: By::Job,
         },
     ),
     (
         "all.jsonl",
         "all.report",
         None,
-        View {
+        Part {
             from: Some(7),
             to: Some(6),
-            clock: None,
+            by: By::Job,
         },
     ),
     (
         "all.jsonl",
         "all.report",
         None,
-        View {
+        Part {
             from: None,
             to: Some(12),
-            clock: None,
+            by: By::Job,
         },
     ),
     (
         "all.jsonl",
         "all.report",
         None,
-        View {
+        Part {
             from: Some(12),
             to: None,
-            clock: None,
+            by: By::Job,
         },
     ),
     ("clock.jsonl", "day.report", None, ALL),
     ("century.jsonl", "day.report", None, ALL),
+    (
+        "day.jsonl",
+        "day.report",
+        None,
+        Part {
+            from: None,
+            to: None,
+            by: By::Class,
+        },
+    ),
+    (
+        "busy.jsonl",
+        "busy.report",
+        Some(0),
+        Part {
+            from: None,
+            to: None,
+            by: By::Class,
+        },
+    ),
+    (
+        "all.jsonl",
+        "all.report",
+        None,
+        Part {
+            from: None,
+            to: None,
+            by: By::Tag(&["a"]),
+        },
+    ),
+    (
+        "tagged.jsonl",
+        "day.report",
+        None,
+        Part {
+            from: Some(6),
+            to: Some(12),
+            by: By::Tag(&["gpu", "fast", "r1", "r2", "r3", "r4", "r5", "r6"]),
+        },
+    ),
     ("all.jsonl", "forged.report", None, ALL),
     ("all.jsonl", "cut.report", None, ALL),
     ("all.jsonl", "unlawful.report", None, ALL),
@@ -108,30 +166,65 @@ const CASES: [Case; 20] = [
     ("none.jsonl", "all.report", None, ALL),
 ];
 
+// The word for what the colours tell, but for the usual.
+fn colour_word(by: By) -> Option<&'static str> {
+    match by {
+        By::Job => None,
+        By::Class => Some("class"),
+        By::Tag(_) => Some("tag"),
+    }
+}
+
 // Prints what a case asks for.
 fn print_case(rt: &HostRuntime, case: &Case) -> io::Result<()> {
-    let (trace, report, cycle, view) = *case;
+    let (trace, report, cycle, part) = *case;
     print!(rt; "== {trace} {report}")?;
     if let Some(cycle) = cycle {
         print!(rt; " --cycle {cycle}")?;
     }
-    if let Some(from) = view.from {
+    if let Some(from) = part.from {
         print!(rt; " --from {from}")?;
     }
-    if let Some(to) = view.to {
+    if let Some(to) = part.to {
         print!(rt; " --to {to}")?;
     }
+    if let Some(word) = colour_word(part.by) {
+        print!(rt; " --colour {word}")?;
+    }
     println!(rt; "")
+}
+
+// The tags as names.
+fn names_of(alloc: Global, tags: &[&str]) -> Result<NameList, NameFault> {
+    let mut names = NameList::new(alloc);
+    for tag in tags {
+        names.push(Name::read(alloc, tag.as_bytes())?)?;
+    }
+    Ok(names)
+}
+
+// What the colours tell.
+fn colours_of(alloc: Global, by: By) -> Result<Colours, NameFault> {
+    match by {
+        By::Job => Ok(Colours::ByJob),
+        By::Class => Ok(Colours::ByClass),
+        By::Tag(tags) => Ok(Colours::ByTag(names_of(alloc, tags)?)),
+    }
 }
 
 // Draws a report, and prints how the call ended.
 fn try_case(rt: &HostRuntime, case: &Case) -> io::Result<()> {
     print_case(rt, case)?;
-    let (trace, report, cycle, view) = *case;
+    let (trace, report, cycle, part) = *case;
     let mut shelf = FileShelf::new(rt);
+    let Ok(colours) = colours_of(rt.alloc(), part.by) else {
+        return println!(rt; "no such names");
+    };
     let view = View {
+        from: part.from,
+        to: part.to,
         clock: clock_of(rt.alloc(), &mut shelf, trace),
-        ..view
+        colours,
     };
     let mut sink = StdSink::new(rt.stdout());
     let status = chart(
@@ -139,7 +232,7 @@ fn try_case(rt: &HostRuntime, case: &Case) -> io::Result<()> {
         trace,
         report,
         cycle,
-        view,
+        &view,
         &mut shelf,
         &mut sink,
     );

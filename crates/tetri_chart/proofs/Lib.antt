@@ -1,4 +1,5 @@
 pub mod ChartLemmas
+pub mod ColourLemmas
 pub mod FramingLemmas
 pub mod FromLemmas
 pub mod GatherLemmas

@@ -14,6 +14,8 @@ use Rattle.tetri_chart.specs.Picture.{Picture}
 use Rattle.tetri_chart.specs.Text.{meeting}
 use Rattle.tetri_chart.specs.declared.picture.Span.{Span}
 use Rattle.tetri_chart.specs.declared.view.View.{View}
+use Rattle.tetri_chart.specs.declared.colours.Paint.{Paint}
+use Rattle.tetri_chart.specs.Colours.{paint_of}
 use Rattle.tetri_chart.specs.Svg.{AppendsFront, bars_text, svg_in, svg_text}
 
 pub append_none : (known : Option (List ℕ)) → append_known known [] ≡ known
@@ -95,38 +97,40 @@ module _ (front bars back : List ℕ) (old : Option (List ℕ)) where
           e ∙ ap (λ o. append_known o back) both ∙ append_known-append old (front ++ bars) back ∙ ap (append_known old) (append_assoc front bars back)
 
 -- The parts of the picture of a run.
-module _ (t : Scenario) (v : View) (p : Picture) (frame : Layout) (pieces : ℕ) (is : frame ≡ framed t v p) (counted : pieces ≡ meeting frame p.spans) (spans : List Span) (are : spans ≡ p.spans)
-    (old : Option (List ℕ)) where
+module _ (t : Scenario) (v : View) (p : Picture) (frame : Layout) (pieces : ℕ) (is : frame ≡ framed t v p) (counted : pieces ≡ meeting frame p.spans) (paint : Paint)
+    (painted : paint ≡ paint_of t v.colours) (spans : List Span) (are : spans ≡ p.spans) (old : Option (List ℕ)) where
   abbrev before : List ℕ
-  before = front_text t frame v.clock pieces
+  before = front_text t frame v pieces
 
   abbrev bars : List ℕ
-  bars = bars_text t frame spans
+  bars = bars_text t frame paint spans
 
   abbrev behind : List ℕ
-  behind = back_text t frame p
+  behind = back_text t frame v.colours p
 
   parts : before ++ (bars ++ behind) ≡ svg_text t v p
   parts =
-      ap (λ n. front_text t frame v.clock n ++ (bars_text t frame spans ++ back_text t frame p)) counted
-      ∙ ap (λ xs. front_text t frame v.clock (meeting frame p.spans) ++ (bars_text t frame xs ++ back_text t frame p)) are ∙ ap (λ f. svg_in t f v.clock p) is
+      ap (λ n. front_text t frame v n ++ (bars_text t frame paint spans ++ back_text t frame v.colours p)) counted
+      ∙ ap (λ c. front_text t frame v (meeting frame p.spans) ++ (bars_text t frame c spans ++ back_text t frame v.colours p)) painted
+      ∙ ap (λ xs. front_text t frame v (meeting frame p.spans) ++ (bars_text t frame (paint_of t v.colours) xs ++ back_text t frame v.colours p)) are
+      ∙ ap (λ f. svg_in t f v p) is
 
-  pub drawn_before : (new : Option (List ℕ)) → AppendsPart old new (front_text t frame v.clock pieces) → AppendsPart old new (svg_text t v p)
+  pub drawn_before : (new : Option (List ℕ)) → AppendsPart old new (front_text t frame v pieces) → AppendsPart old new (svg_text t v p)
   drawn_before new h = subst (AppendsPart old new) parts (front_part before bars behind old new h)
 
-  module _ (middle : Option (List ℕ)) (first : middle ≡ append_known old (front_text t frame v.clock pieces)) where
-    pub drawn_bars : (new : Option (List ℕ)) → AppendsPart middle new (bars_text t frame spans) → AppendsPart old new (svg_text t v p)
+  module _ (middle : Option (List ℕ)) (first : middle ≡ append_known old (front_text t frame v pieces)) where
+    pub drawn_bars : (new : Option (List ℕ)) → AppendsPart middle new (bars_text t frame paint spans) → AppendsPart old new (svg_text t v p)
     drawn_bars new h = subst (AppendsPart old new) parts (bars_part before bars behind old middle first new h)
 
-    pub stopped_bars : (new : Option (List ℕ)) → AppendsFront middle new (bars_text t frame spans) → AppendsFront old new (svg_text t v p)
+    pub stopped_bars : (new : Option (List ℕ)) → AppendsFront middle new (bars_text t frame paint spans) → AppendsFront old new (svg_text t v p)
     stopped_bars new h = subst (AppendsFront old new) parts (bars_front before bars behind old middle first new h)
 
-    module _ (late : Option (List ℕ)) (second : late ≡ append_known middle (bars_text t frame spans)) where
-      pub drawn_behind : (new : Option (List ℕ)) → AppendsPart late new (back_text t frame p) → AppendsPart old new (svg_text t v p)
+    module _ (late : Option (List ℕ)) (second : late ≡ append_known middle (bars_text t frame paint spans)) where
+      pub drawn_behind : (new : Option (List ℕ)) → AppendsPart late new (back_text t frame v.colours p) → AppendsPart old new (svg_text t v p)
       drawn_behind new h = subst (AppendsPart old new) parts (back_part before bars behind old middle first late second new h)
 
       pub stopped_behind : (new : Option (List ℕ)) → new ≡ late → AppendsFront old new (svg_text t v p)
       stopped_behind new h = subst (AppendsFront old new) parts (back_front before bars behind old middle first late second new h)
 
-      pub drawn_all : (new : Option (List ℕ)) → new ≡ append_known late (back_text t frame p) → new ≡ append_known old (svg_text t v p)
+      pub drawn_all : (new : Option (List ℕ)) → new ≡ append_known late (back_text t frame v.colours p) → new ≡ append_known old (svg_text t v p)
       drawn_all new h = all_written before bars behind old middle first late second new h ∙ ap (append_known old) parts

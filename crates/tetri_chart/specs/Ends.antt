@@ -10,12 +10,14 @@ use Rattle.tetri_svg.specs.Front.{axis_text, heading_text, name_text, opening_te
 use Rattle.tetri_svg.specs.Sizes.{has_slot, stride_for}
 use Rattle.tetri_svg.specs.Style.{legend_text, style_text}
 use Rattle.tetri_svg.specs.Layout.{Layout}
-use Rattle.tetri_svg.specs.declared.clock.Clock.{Clock}
 use Rattle.tetri_trace.specs.Scenario.{Scenario}
+use Rattle.tetri_chart.specs.Colours.{by_text, further_text, keys_text}
 use Rattle.tetri_chart.specs.Picture.{Picture}
 use Rattle.tetri_chart.specs.Shades.{shades_text}
 use Rattle.tetri_chart.specs.declared.picture.CycleMark.{CycleMark}
 use Rattle.tetri_chart.specs.declared.picture.Wait.{Wait}
+use Rattle.tetri_chart.specs.declared.view.Colours.{Colours}
+use Rattle.tetri_chart.specs.declared.view.View.{View}
 
 -- the name of a node, where it is a multiple of the stride
 abbrev pub name_by : Scenario → Layout → ℕ → ℕ → List ℕ
@@ -25,9 +27,10 @@ abbrev pub names_by : Scenario → Layout → ℕ → List ℕ
 names_by t f stride = flat_map (name_by t f stride) (range_with_len 0 f.nodes)
 
 -- all that stands before the bars
-abbrev pub front_text : Scenario → Layout → Option Clock → ℕ → List ℕ
-front_text t f clock pieces =
-    opening_text f ++ style_text f ++ heading_text f pieces t.header.until ++ names_by t f (stride_for f.row 14) ++ shades_text t f ++ axis_text f clock
+abbrev pub front_text : Scenario → Layout → View → ℕ → List ℕ
+front_text t f v pieces =
+    opening_text f ++ style_text f ++ further_text v.colours ++ heading_text f pieces t.header.until ++ names_by t f (stride_for f.row 14)
+    ++ shades_text t f ++ axis_text f v.clock
 
 -- a waiting grant on a node, and on each of its nodes
 abbrev pub wait_bar : Scenario → Layout → Wait → ℕ → List ℕ
@@ -79,5 +82,5 @@ abbrev pub cycles_text : Layout → List CycleMark → List ℕ
 cycles_text f cs = slots_text f (most_of cs) (most_waiting cs) cs ++ scale_text f (most_of cs) ++ strips_scale f (most_waiting cs)
 
 -- all that stands behind the bars
-abbrev pub back_text : Scenario → Layout → Picture → List ℕ
-back_text t f p = waits_text t f p.asked p.waits ++ cycles_text f p.cycles ++ legend_text f ++ codes "</svg>\n"
+abbrev pub back_text : Scenario → Layout → Colours → Picture → List ℕ
+back_text t f c p = waits_text t f p.asked p.waits ++ cycles_text f p.cycles ++ legend_text f (by_text c) ++ keys_text f c ++ codes "</svg>\n"

@@ -4,6 +4,7 @@ pub mod Marks
 pub mod Picture
 pub mod Gathered
 pub mod Slots
+pub mod Colours
 pub mod Framing
 pub mod Text
 pub mod Shades

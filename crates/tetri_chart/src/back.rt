@@ -4,8 +4,10 @@ ghost use Rattle.tetri_cert.specs.Text.{mark_text};
 ghost use Rattle.tetri_chart.specs.Ends.{back_text, cycles_text, mark_text_at, most_of, most_waiting, slot_text, slots_text, wait_bar, wait_bars, waits_text};
 ghost use Rattle.tetri_trace.specs.Scenario.{scenario};
 
+use crate::colours::{add_keys, by_text};
 use crate::names::{job_name, node_name};
 use crate::picture::{Chart, CycleMark, Wait};
+use crate::view::Colours;
 use std::alloc::AllocError;
 use tetri_cert::PlanMark;
 use tetri_svg::{
@@ -173,12 +175,15 @@ pub(crate) fn add_back(
     out: &mut String,
     trace: &Trace,
     frame: &Frame,
+    colours: &Colours,
     chart: &Chart,
 ) -> Result<(), AllocError>
-    ensures { OnOk result (string_bytes out.new ≡ string_bytes out.old ++ back_text (scenario trace.entry.now) frame.now chart.entry.now) }
+    ensures { OnOk result (string_bytes out.new ≡ string_bytes out.old
+        ++ back_text (scenario trace.entry.now) frame.now colours.entry.now chart.entry.now) }
 {
     add_waits(out, trace, frame, chart.asked, &chart.waits)?;
     add_cycles(out, frame, &chart.cycles)?;
-    add_legend(out, frame)?;
+    add_legend(out, frame, by_text(colours))?;
+    add_keys(out, frame, colours)?;
     out.push_str("</svg>\n")
 }

@@ -4,6 +4,7 @@ ghost use Rattle.tetri_chart.specs.Framing.{framed, longest};
 ghost use Rattle.tetri_trace.specs.Scenario.{scenario};
 ghost use Rattle.tetri_trace.specs.Sound.{IsSound};
 
+use crate::colours::lines_of;
 use crate::picture::Chart;
 use crate::slots::shown;
 use crate::view::View;
@@ -23,10 +24,17 @@ fn longest_name(trace: &Trace) -> u32
 }
 
 /// The frame of the picture of a run of the trace.
-pub(crate) fn framed(trace: &Trace, chart: &Chart, view: View) -> Frame
+pub(crate) fn framed(trace: &Trace, chart: &Chart, view: &View) -> Frame
     requires { IsSound (scenario trace.now) }
-    ensures { result ≡ framed (scenario trace.entry.now) view chart.now }
+    ensures { result ≡ framed (scenario trace.entry.now) view.now chart.now }
 {
     let (first, until) = shown(trace, chart, view);
-    Frame::of(first, until, trace.cluster.count(), longest_name(trace))
+    let lines = lines_of(&view.colours);
+    Frame::of(
+        first,
+        until,
+        trace.cluster.count(),
+        longest_name(trace),
+        lines,
+    )
 }

@@ -4,12 +4,12 @@ ghost use Rattle.tetri_chart.specs.Ends.{front_text, name_by, names_by};
 ghost use Rattle.tetri_trace.specs.Scenario.{scenario};
 ghost use Rattle.tetri_trace.specs.Sound.{IsSound};
 
+use crate::colours::add_further;
 use crate::names::node_name;
 use crate::shades::add_shades;
+use crate::view::View;
 use std::alloc::{AllocError, Global};
-use tetri_svg::{
-    Clock, Frame, add_axis, add_heading, add_name, add_opening, add_style, stride_for,
-};
+use tetri_svg::{Frame, add_axis, add_heading, add_name, add_opening, add_style, stride_for};
 use tetri_trace::Trace;
 
 // Adds the name of a node, where it is a multiple of the stride.
@@ -46,16 +46,17 @@ pub(crate) fn add_front(
     out: &mut String,
     trace: &Trace,
     frame: &Frame,
-    clock: Option<Clock>,
+    view: &View,
     pieces: usize,
 ) -> Result<(), AllocError>
     requires { IsSound (scenario trace.now) }
-    ensures { OnOk result (string_bytes out.new ≡ string_bytes out.old ++ front_text (scenario trace.entry.now) frame.now clock pieces) }
+    ensures { OnOk result (string_bytes out.new ≡ string_bytes out.old ++ front_text (scenario trace.entry.now) frame.now view.entry.now pieces) }
 {
     add_opening(out, frame)?;
     add_style(out, frame)?;
+    add_further(out, &view.colours)?;
     add_heading(out, frame, pieces, trace.header.until)?;
     add_names(out, trace, frame, stride_for(frame.row(), 14))?;
     add_shades(alloc, out, trace, frame)?;
-    add_axis(out, frame, clock)
+    add_axis(out, frame, view.clock)
 }

@@ -3,6 +3,7 @@
 
 mod back;
 mod bars;
+mod colours;
 mod framing;
 mod front;
 mod gathering;
@@ -22,5 +23,5 @@ pub use header::clock_of;
 pub use laws::{pictures_tell_pieces, pieces_are_those_of_states};
 pub use picture::{Chart, CycleMark, Span, Wait};
 pub use top::chart;
-pub use view::View;
+pub use view::{Colours, View};
 pub use writing::draw;

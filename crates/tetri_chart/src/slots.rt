@@ -19,8 +19,8 @@ fn is_within(slots: u32, slot: Option<u32>) -> bool
 }
 
 // The first slot that is shown.
-fn first_of(view: View) -> u32
-    ensures { result ≡ first_of view }
+fn first_of(view: &View) -> u32
+    ensures { result ≡ first_of view.now }
 {
     view.from.unwrap_or(0)
 }
@@ -36,8 +36,8 @@ fn is_ordered(first: u32, to: Option<u32>) -> bool
 }
 
 /// Whether the run has the cycle and the slots that are asked for.
-pub(crate) fn has_slots(trace: &Trace, asked: Option<u32>, view: View) -> bool
-    ensures { result ≡ has_slots (scenario trace.now) asked view }
+pub(crate) fn has_slots(trace: &Trace, asked: Option<u32>, view: &View) -> bool
+    ensures { result ≡ has_slots (scenario trace.now) asked view.now }
 {
     let slots = trace.header.until;
     is_within(slots, asked)
@@ -89,10 +89,10 @@ fn wanted_end(chart: &Chart, to: Option<u32>) -> u64
 }
 
 /// The first slot that is shown, and the first behind those that are.
-pub(crate) fn shown(trace: &Trace, chart: &Chart, view: View) -> (u32, u32)
+pub(crate) fn shown(trace: &Trace, chart: &Chart, view: &View) -> (u32, u32)
     requires { IsSound (scenario trace.now) }
-    ensures first { result.0 ≡ first_of view }
-    ensures end { result.1 ≡ end_of (scenario trace.entry.now) view chart.now }
+    ensures first { result.0 ≡ first_of view.now }
+    ensures end { result.1 ≡ end_of (scenario trace.entry.now) view.now chart.now }
     ensures most { result.1 ≤ 20000 }
 {
     let first = first_of(view);

@@ -28,12 +28,12 @@ fn draw_gathered<K: Sink>(
     alloc: Global,
     trace: &Trace,
     gathering: Gathering,
-    view: View,
+    view: &View,
     sink: &mut K,
 ) -> Status
     requires { IsSound (scenario trace.now) }
     ensures answer { (s : Snapshot) → s.now ≡ (scenario trace.entry.now).header.until
-        → IsDrawn (scenario trace.entry.now) view (picture_with (scenario trace.entry.now) s gathering []) result
+        → IsDrawn (scenario trace.entry.now) view.entry.now (picture_with (scenario trace.entry.now) s gathering []) result
         (K.written sink.old) (K.written sink.new) }
     ensures write { result ≡ Status.WriteFault → Rose (K.faults sink.old) (K.faults sink.new) }
     ensures later { K.faults sink.old ≤ K.faults sink.new }
@@ -61,23 +61,23 @@ pub fn chart<S: Shelf, K: Sink>(
     trace: &str,
     report: &str,
     cycle: Option<u32>,
-    view: View,
+    view: &View,
     shelf: &mut S,
     sink: &mut K,
 ) -> Status
     ensures drawn { (content lines : List ℕ) → S.told shelf.old trace.now ≡ Some content → S.told shelf.old report.now ≡ Some lines
-        → IsChartPromised cycle view result (scenario_in content) lines (K.written sink.old) (K.written sink.new) }
+        → IsChartPromised cycle view.now result (scenario_in content) lines (K.written sink.old) (K.written sink.new) }
     ensures bad_trace { TellsBadTrace (S.told shelf.old) (S.faults shelf.old) (S.faults shelf.new) trace.now report.now result }
     ensures silent { result ≢ Status.Done → result ≢ Status.WriteFault → result ≢ Status.NoMemory → K.written sink.new ≡ K.written sink.old }
     ensures read { TellsReadFault (S.told shelf.old) (S.faults shelf.old) (S.faults shelf.new) trace.now report.now result }
     ensures write { result ≡ Status.WriteFault → Rose (K.faults sink.old) (K.faults sink.new) }
     ensures accepts { (content lines : List ℕ) (t : Scenario) → S.told shelf.old trace.now ≡ Some content → scenario_in content ≡ Ok t
-        → S.told shelf.old report.now ≡ Some lines → IsAccepted t lines → HasSlots t cycle view
+        → S.told shelf.old report.now ≡ Some lines → IsAccepted t lines → HasSlots t cycle view.now
         → ¬ RoseOf (to_check trace.now report.now) (S.faults shelf.old) (S.faults shelf.new)
         → ¬ Rose (K.faults sink.old) (K.faults sink.new)
         → (result ≡ Status.Done) ⊎ (result ≡ Status.NoMemory) }
     ensures no_slots { (content lines : List ℕ) (t : Scenario) → S.told shelf.old trace.now ≡ Some content → scenario_in content ≡ Ok t
-        → S.told shelf.old report.now ≡ Some lines → IsAccepted t lines → ¬ HasSlots t cycle view
+        → S.told shelf.old report.now ≡ Some lines → IsAccepted t lines → ¬ HasSlots t cycle view.now
         → ¬ RoseOf (to_check trace.now report.now) (S.faults shelf.old) (S.faults shelf.new)
         → (result ≡ Status.Usage) ⊎ (result ≡ Status.NoMemory) }
     ensures rejects { Rejects (S.told shelf.old) (S.faults shelf.old) (S.faults shelf.new) trace.now report.now result }

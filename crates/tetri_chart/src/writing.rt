@@ -11,14 +11,15 @@ ghost use Rattle.tetri_trace.specs.Sound.{IsSound};
 
 use crate::back::add_back;
 use crate::bars::{add_span, meeting};
+use crate::colours::{Paint, paint_of};
 use crate::framing::framed;
 use crate::front::add_front;
 use crate::picture::{Chart, Span};
-use crate::view::View;
+use crate::view::{Colours, View};
 use std::alloc::Global;
 use tetri_io::{Sink, send_all};
 use tetri_report::SendFault;
-use tetri_svg::{Clock, Frame};
+use tetri_svg::Frame;
 use tetri_trace::Trace;
 
 // Writes what stands before the bars, by one send.
@@ -26,20 +27,20 @@ fn send_front<K: Sink>(
     alloc: Global,
     trace: &Trace,
     frame: &Frame,
-    clock: Option<Clock>,
+    view: &View,
     pieces: usize,
     sink: &mut K,
 ) -> Result<(), SendFault>
     requires { IsSound (scenario trace.now) }
-    ensures ok { OnOk result (K.written sink.new ≡ append_known (K.written sink.old) (front_text (scenario trace.entry.now) frame.now clock pieces)) }
+    ensures ok { OnOk result (K.written sink.new ≡ append_known (K.written sink.old) (front_text (scenario trace.entry.now) frame.now view.entry.now pieces)) }
     ensures failed { IsErrOf result SendFault.Failed
-        → AppendsPart (K.written sink.old) (K.written sink.new) (front_text (scenario trace.entry.now) frame.now clock pieces) }
+        → AppendsPart (K.written sink.old) (K.written sink.new) (front_text (scenario trace.entry.now) frame.now view.entry.now pieces) }
     ensures memory { IsErrOf result SendFault.NoMemory → K.written sink.new ≡ K.written sink.old }
     ensures write { IsErrOf result SendFault.Failed → Rose (K.faults sink.old) (K.faults sink.new) }
     ensures later { K.faults sink.old ≤ K.faults sink.new }
 {
     let mut out = String::new(alloc);
-    add_front(alloc, &mut out, trace, frame, clock, pieces)?;
+    add_front(alloc, &mut out, trace, frame, view, pieces)?;
     send_all(sink, out.as_bytes())?;
     Ok(())
 }
@@ -49,18 +50,19 @@ fn send_span<K: Sink>(
     alloc: Global,
     trace: &Trace,
     frame: &Frame,
+    paint: &Paint,
     span: &Span,
     sink: &mut K,
 ) -> Result<(), SendFault>
-    ensures ok { OnOk result (K.written sink.new ≡ append_known (K.written sink.old) (span_text (scenario trace.entry.now) frame.now span.entry.now)) }
+    ensures ok { OnOk result (K.written sink.new ≡ append_known (K.written sink.old) (span_text (scenario trace.entry.now) frame.now paint.entry.now span.entry.now)) }
     ensures failed { IsErrOf result SendFault.Failed
-        → AppendsPart (K.written sink.old) (K.written sink.new) (span_text (scenario trace.entry.now) frame.now span.entry.now) }
+        → AppendsPart (K.written sink.old) (K.written sink.new) (span_text (scenario trace.entry.now) frame.now paint.entry.now span.entry.now) }
     ensures memory { IsErrOf result SendFault.NoMemory → K.written sink.new ≡ K.written sink.old }
     ensures write { IsErrOf result SendFault.Failed → Rose (K.faults sink.old) (K.faults sink.new) }
     ensures later { K.faults sink.old ≤ K.faults sink.new }
 {
     let mut out = String::new(alloc);
-    add_span(&mut out, trace, frame, span)?;
+    add_span(&mut out, trace, frame, paint, span)?;
     send_all(sink, out.as_bytes())?;
     Ok(())
 }
@@ -70,19 +72,20 @@ fn send_spans<K: Sink>(
     alloc: Global,
     trace: &Trace,
     frame: &Frame,
+    paint: &Paint,
     spans: &[Span],
     sink: &mut K,
 ) -> Result<(), SendFault>
-    ensures ok { OnOk result (K.written sink.new ≡ append_known (K.written sink.old) (bars_text (scenario trace.entry.now) frame.now spans.entry.now)) }
+    ensures ok { OnOk result (K.written sink.new ≡ append_known (K.written sink.old) (bars_text (scenario trace.entry.now) frame.now paint.entry.now spans.entry.now)) }
     ensures failed { IsErrOf result SendFault.Failed
-        → AppendsPart (K.written sink.old) (K.written sink.new) (bars_text (scenario trace.entry.now) frame.now spans.entry.now) }
+        → AppendsPart (K.written sink.old) (K.written sink.new) (bars_text (scenario trace.entry.now) frame.now paint.entry.now spans.entry.now) }
     ensures memory { IsErrOf result SendFault.NoMemory
-        → AppendsFront (K.written sink.old) (K.written sink.new) (bars_text (scenario trace.entry.now) frame.now spans.entry.now) }
+        → AppendsFront (K.written sink.old) (K.written sink.new) (bars_text (scenario trace.entry.now) frame.now paint.entry.now spans.entry.now) }
     ensures write { IsErrOf result SendFault.Failed → Rose (K.faults sink.old) (K.faults sink.new) }
     ensures later { K.faults sink.old ≤ K.faults sink.new }
 {
     for span in spans {
-        match send_span(alloc, trace, frame, span, sink) {
+        match send_span(alloc, trace, frame, paint, span, sink) {
             Ok(()) => {}
             Err(stop) => return Err(stop),
         }
@@ -95,18 +98,19 @@ fn send_back<K: Sink>(
     alloc: Global,
     trace: &Trace,
     frame: &Frame,
+    colours: &Colours,
     chart: &Chart,
     sink: &mut K,
 ) -> Result<(), SendFault>
-    ensures ok { OnOk result (K.written sink.new ≡ append_known (K.written sink.old) (back_text (scenario trace.entry.now) frame.now chart.entry.now)) }
+    ensures ok { OnOk result (K.written sink.new ≡ append_known (K.written sink.old) (back_text (scenario trace.entry.now) frame.now colours.entry.now chart.entry.now)) }
     ensures failed { IsErrOf result SendFault.Failed
-        → AppendsPart (K.written sink.old) (K.written sink.new) (back_text (scenario trace.entry.now) frame.now chart.entry.now) }
+        → AppendsPart (K.written sink.old) (K.written sink.new) (back_text (scenario trace.entry.now) frame.now colours.entry.now chart.entry.now) }
     ensures memory { IsErrOf result SendFault.NoMemory → K.written sink.new ≡ K.written sink.old }
     ensures write { IsErrOf result SendFault.Failed → Rose (K.faults sink.old) (K.faults sink.new) }
     ensures later { K.faults sink.old ≤ K.faults sink.new }
 {
     let mut out = String::new(alloc);
-    add_back(&mut out, trace, frame, chart)?;
+    add_back(&mut out, trace, frame, colours, chart)?;
     send_all(sink, out.as_bytes())?;
     Ok(())
 }
@@ -117,29 +121,30 @@ pub fn draw<K: Sink>(
     alloc: Global,
     trace: &Trace,
     chart: &Chart,
-    view: View,
+    view: &View,
     sink: &mut K,
 ) -> Result<(), SendFault>
     requires { IsSound (scenario trace.now) }
-    ensures ok { OnOk result (K.written sink.new ≡ append_known (K.written sink.old) (svg_text (scenario trace.entry.now) view chart.entry.now)) }
+    ensures ok { OnOk result (K.written sink.new ≡ append_known (K.written sink.old) (svg_text (scenario trace.entry.now) view.entry.now chart.entry.now)) }
     ensures failed { IsErrOf result SendFault.Failed
-        → AppendsPart (K.written sink.old) (K.written sink.new) (svg_text (scenario trace.entry.now) view chart.entry.now) }
+        → AppendsPart (K.written sink.old) (K.written sink.new) (svg_text (scenario trace.entry.now) view.entry.now chart.entry.now) }
     ensures memory { IsErrOf result SendFault.NoMemory
-        → AppendsFront (K.written sink.old) (K.written sink.new) (svg_text (scenario trace.entry.now) view chart.entry.now) }
+        → AppendsFront (K.written sink.old) (K.written sink.new) (svg_text (scenario trace.entry.now) view.entry.now chart.entry.now) }
     ensures write { IsErrOf result SendFault.Failed → Rose (K.faults sink.old) (K.faults sink.new) }
     ensures later { K.faults sink.old ≤ K.faults sink.new }
 {
+    let paint = paint_of(alloc, trace, &view.colours)?;
     let frame = framed(trace, chart, view);
     let pieces = meeting(&frame, &chart.spans);
-    match send_front(alloc, trace, &frame, view.clock, pieces, sink) {
+    match send_front(alloc, trace, &frame, view, pieces, sink) {
         Ok(()) => {}
         Err(stop) => return Err(stop),
     }
-    match send_spans(alloc, trace, &frame, &chart.spans, sink) {
+    match send_spans(alloc, trace, &frame, &paint, &chart.spans, sink) {
         Ok(()) => {}
         Err(stop) => return Err(stop),
     }
-    match send_back(alloc, trace, &frame, chart, sink) {
+    match send_back(alloc, trace, &frame, &view.colours, chart, sink) {
         Ok(()) => Ok(()),
         Err(stop) => Err(stop),
     }

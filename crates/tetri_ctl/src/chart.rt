@@ -4,7 +4,9 @@ use crate::refusals::end_of;
 use crate::said::{USAGE, complain};
 use clap::{Arg, ArgMatches, Command, value_parser};
 use std::alloc::{AllocError, Global};
-use tetri_chart::{View, chart, clock_of};
+use tetri_chart::{Colours, View, chart, clock_of};
+use tetri_cluster::{Name, NameFault, NameList};
+use tetri_figures::tags_of;
 use tetri_io::StdSink;
 use tetri_run::Status;
 
@@ -25,6 +27,11 @@ pub fn command<'a>(alloc: Global) -> Result<Command<'a>, AllocError> {
         .value_name("SLOT")
         .help("end with this slot of the run, and not with the last in which a piece runs")
         .value_parser(value_parser!(u32));
+    let colour = Arg::new(alloc, "colour")
+        .long("colour")
+        .value_name("WHAT")
+        .value_parser(["job", "class", "tag"].as_slice())
+        .help("colour bars by job, by the class of the job, or by the first tag of the node");
     Command::new(alloc, "chart")
         .about("Draws a report that is accepted, as SVG")
         .after_help("Example: tetri_ctl chart day.jsonl day.report > day.svg")
@@ -32,19 +39,61 @@ pub fn command<'a>(alloc: Global) -> Result<Command<'a>, AllocError> {
         .arg(report_word(alloc))?
         .arg(cycle)?
         .arg(from)?
-        .arg(to)
+        .arg(to)?
+        .arg(colour)
+}
+
+// The tags as names.
+fn names_of(alloc: Global, tags: &[String]) -> Result<NameList, AllocError> {
+    let mut names = NameList::new(alloc);
+    for tag in tags {
+        match Name::read(alloc, tag.as_bytes()) {
+            Ok(name) => names.push(name)?,
+            Err(NameFault::NoMemory) => return Err(AllocError),
+            Err(NameFault::NotName) => {}
+        }
+    }
+    Ok(names)
+}
+
+// What the colours are to tell. The tags are those of the trace's header.
+fn colours_of(
+    alloc: Global,
+    shelf: &mut Shelf<'_>,
+    trace: &str,
+    word: Option<&str>,
+) -> Result<Colours, AllocError> {
+    match word {
+        Some("class") => Ok(Colours::ByClass),
+        Some("tag") => {
+            let tags = tags_of(alloc, shelf, trace)?;
+            Ok(Colours::ByTag(names_of(alloc, &tags)?))
+        }
+        _ => Ok(Colours::ByJob),
+    }
 }
 
 // What is said where the run lacks what is asked for.
-fn lacking(view: View) -> &'static str {
-    match view {
-        View {
-            from: None,
-            to: None,
-            ..
-        } => "the run has no such cycle",
+fn lacking(words: &ArgMatches<'_>) -> &'static str {
+    match (words.get_one::<u32>("from"), words.get_one::<u32>("to")) {
+        (None, None) => "the run has no such cycle",
         _ => "the run has no such cycle or slots",
     }
+}
+
+// How the words ask for the run to be shown.
+fn view_of(
+    alloc: Global,
+    shelf: &mut Shelf<'_>,
+    trace: &str,
+    words: &ArgMatches<'_>,
+) -> Result<View, AllocError> {
+    Ok(View {
+        from: words.get_one::<u32>("from"),
+        to: words.get_one::<u32>("to"),
+        clock: clock_of(alloc, shelf, trace),
+        colours: colours_of(alloc, shelf, trace, words.get_str("colour"))?,
+    })
 }
 
 // Draws a report that can be read.
@@ -53,33 +102,26 @@ fn drawn(
     shelf: &mut Shelf<'_>,
     trace: &str,
     report: &str,
-    cycle: Option<u32>,
-    view: View,
+    words: &ArgMatches<'_>,
 ) -> Result<Status, u8> {
     open_trace(rt, shelf, trace)?;
     open_report(rt, shelf, report)?;
-    let view = View {
-        clock: clock_of(rt.alloc(), shelf, trace),
-        ..view
+    let Ok(view) = view_of(rt.alloc(), shelf, trace, words) else {
+        return Ok(Status::NoMemory);
     };
+    let cycle = words.get_one::<u32>("cycle");
     let mut sink = StdSink::new(rt.stdout());
-    Ok(chart(rt.alloc(), trace, report, cycle, view, shelf, &mut sink))
+    Ok(chart(rt.alloc(), trace, report, cycle, &view, shelf, &mut sink))
 }
 
 /// Draws what the words name, and gives the exit number.
 pub fn run(rt: &HostRuntime, words: &ArgMatches<'_>) -> u8 {
     let trace = words.get_str("TRACE").unwrap_or("");
     let report = words.get_str("REPORT").unwrap_or("");
-    let cycle = words.get_one::<u32>("cycle");
-    let view = View {
-        from: words.get_one::<u32>("from"),
-        to: words.get_one::<u32>("to"),
-        clock: None,
-    };
     let mut shelf = Shelf::new(rt.alloc(), rt);
-    match drawn(rt, &mut shelf, trace, report, cycle, view) {
+    match drawn(rt, &mut shelf, trace, report, words) {
         Ok(Status::Usage) => {
-            complain(rt, report, lacking(view));
+            complain(rt, report, lacking(words));
             USAGE
         }
         Ok(status) => end_of(rt, &mut shelf, &status, trace, report),

@@ -1,5 +1,5 @@
 -- The text of bars.
-use Rattle.std.specs.Prelude.{ℕ, ◌+◌, ◌%◌, List, [], ◌++◌, length, min, if◌then◌else◌, codes}
+use Rattle.std.specs.Prelude.{ℕ, ◌+◌, List, [], ◌++◌, length, min, if◌then◌else◌, codes}
 use Rattle.tetri_svg.specs.Areas.{area_text}
 use Rattle.tetri_svg.specs.Plain.{close_text, coloured_text, fared_text, label_text, marked_text, ran_text}
 use Rattle.tetri_svg.specs.Sizes.{bar_of, has_room, has_slot, last_of, shows, text_y, x_of}
@@ -21,7 +21,7 @@ titled_text b job node = ran_text job node b.from (last_of b.until) ++ fared_tex
 
 -- the rectangle of a bar, from its start to its end in its node's row as far as the picture shows it, with its title
 abbrev pub bar_text : Layout → Bar → List ℕ → List ℕ → List ℕ
-bar_text f b job node = coloured_text (b.job % 7) ++ area_text (bar_of f b.node b.from b.until) ++ titled_text b job node
+bar_text f b job node = coloured_text b.colour ++ area_text (bar_of f b.node b.from b.until) ++ titled_text b job node
 
 -- a mark over these slots of a bar, of this class
 abbrev pub mark_text : Layout → List ℕ → ℕ → ℕ → ℕ → List ℕ
@@ -53,4 +53,4 @@ name_over f colour name node from until = if has_room f (length name) from until
 abbrev pub drawn_bar : Layout → Bar → List ℕ → List ℕ → List ℕ
 drawn_bar f b job node =
     bar_text f b job node ++ over_text f b.node b.expected b.until ++ end_text f b.node b.until b.fate
-    ++ name_over f (b.job % 7) job b.node b.from (min (bare_end b.fate b.until) b.expected)
+    ++ name_over f b.colour job b.node b.from (min (bare_end b.fate b.until) b.expected)

@@ -2,7 +2,7 @@
 use Rattle.std.specs.Prelude.{ℕ, ◌+◌, ◌≤◌}
 
 -- the first slot that it shows and the first behind those, how many nodes it has, how wide a slot and how high a node is, the gap between a
--- bar and the ends of its row, and where the plot begins at the left
+-- bar and the ends of its row, where the plot begins at the left, and how many lines stand below the legend
 pub record Layout : Type 0 where
   pub first : ℕ
   pub until : ℕ
@@ -11,6 +11,7 @@ pub record Layout : Type 0 where
   pub row : ℕ
   pub gap : ℕ
   pub left : ℕ
+  pub lines : ℕ
 
 -- no picture is larger
 pub record IsSmall (f : Layout) : Type 0 where
@@ -21,3 +22,4 @@ pub record IsSmall (f : Layout) : Type 0 where
   pub gap : f.gap + f.gap ≤ f.row
   pub inset : 24 ≤ f.left
   pub left : f.left ≤ 1000
+  pub lines : f.lines ≤ 100

@@ -25,9 +25,10 @@ stride_for size room =
     if nat_le room size then 1 else (if nat_le room (size * 2) then 2 else (if nat_le room (size * 5) then 5
     else (if nat_le room (size * 10) then 10 else (if nat_le room (size * 20) then 20 else 50))))
 
--- the frame of a picture from this slot on up to the one before that, with so many nodes, where the longest name of one has so many letters
-abbrev pub frame_of : ℕ → ℕ → ℕ → ℕ → Layout
-frame_of first until nodes longest = record {
+-- the frame of a picture from this slot on up to the one before that, with so many nodes, where the longest name of one has so many letters, and
+-- with so many lines below the legend
+abbrev pub frame_of : ℕ → ℕ → ℕ → ℕ → ℕ → Layout
+frame_of first until nodes longest lines = record {
   first = first;
   until = until;
   nodes = nodes;
@@ -35,6 +36,7 @@ frame_of first until nodes longest = record {
   row = row_of nodes;
   gap = gap_of (row_of nodes);
   left = 24 + 7 * longest;
+  lines = lines;
 }
 
 module _ (f : Layout) where
@@ -90,7 +92,11 @@ module _ (f : Layout) where
   width_of = max (right_of + 24) 620
 
   abbrev pub height_of : ℕ
-  height_of = use_base_of + 170
+  height_of = use_base_of + 170 + f.lines * 24
+
+  -- where a line below the legend begins
+  abbrev pub line_y : ℕ → ℕ
+  line_y line = use_base_of + 168 + line * 24
 
   -- there is room for a line round each bar
   abbrev pub is_fine : Bool

@@ -14,8 +14,8 @@ use std::alloc::AllocError;
 /// A piece of a job on a node.
 #[derive(Clone, Copy, Debug, PartialEq, Eq)]
 pub struct Bar {
-    /// The number of the job.
-    pub job: u32,
+    /// Its colour, by the number of a class of the style: 0 to 6, or 7 beside `add_grey`.
+    pub colour: u32,
     /// The number of the node.
     pub node: u32,
     /// The slot in which it started.
@@ -59,7 +59,7 @@ fn add_rectangle(
 ) -> Result<(), AllocError>
     ensures { OnOk result (string_bytes out.new ≡ string_bytes out.old ++ bar_text frame.now bar job.now node.now) }
 {
-    add_coloured(out, bar.job % 7)?;
+    add_coloured(out, bar.colour)?;
     add_area(out, frame.bar(bar.node, bar.from, bar.until))?;
     add_title(out, bar, job, node)
 }
@@ -78,5 +78,5 @@ pub fn add_bar(
     add_over(out, frame, bar.node, bar.expected, bar.until)?;
     add_end(out, frame, bar.node, bar.until, bar.fate)?;
     let end = bare_end(bar.fate, bar.until).min(bar.expected);
-    add_name_over(out, frame, bar.job % 7, job, bar.node, bar.from, end)
+    add_name_over(out, frame, bar.colour, job, bar.node, bar.from, end)
 }

@@ -2,7 +2,7 @@
 use std::marker::Model;
 
 /// The sizes of a picture: the first slot that it shows and the first behind those, how many nodes it has, how wide a slot and how high a
-/// node is, the gap between a bar and the ends of its row, and where the plot begins at the left.
+/// node is, the gap between a bar and the ends of its row, where the plot begins at the left, and how many lines stand below the legend.
 #[derive(Debug, Drop)]
 pub struct Frame {
     pub(crate) first: u32,
@@ -12,6 +12,7 @@ pub struct Frame {
     pub(crate) row: u32,
     pub(crate) gap: u32,
     pub(crate) left: u32,
+    pub(crate) lines: u32,
 }
 
 impl Model for Frame {
@@ -27,6 +28,7 @@ impl Model for Frame {
       row = f.row;
       gap = f.gap;
       left = f.left;
+      lines = f.lines;
     } };
 
     ghost invariant = { λ f. IsSmall (record {
@@ -37,5 +39,6 @@ impl Model for Frame {
       row = f.row;
       gap = f.gap;
       left = f.left;
+      lines = f.lines;
     }) };
 }

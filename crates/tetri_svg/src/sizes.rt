@@ -1,6 +1,6 @@
 // Where things stand in a picture, in pixels.
 ghost use Rattle.std.specs.Prelude.{◌≡◌, ◌<◌, ◌≤◌, ◌^◌, ◌+◌};
-ghost use Rattle.tetri_svg.specs.Sizes.{area_of, bar_of, base_of, bottom_of, column_of, frame_of, gap_of, has_room, has_slot, height_of, is_fine, last_of, queue_base_of, right_of, row_of, shows, span_of, stride_for, text_y, use_base_of, width_of, x_of, y_of};
+ghost use Rattle.tetri_svg.specs.Sizes.{area_of, bar_of, base_of, bottom_of, column_of, frame_of, gap_of, has_room, has_slot, height_of, is_fine, last_of, line_y, queue_base_of, right_of, row_of, shows, span_of, stride_for, text_y, use_base_of, width_of, x_of, y_of};
 
 use crate::area::Area;
 use crate::frame::Frame;
@@ -81,12 +81,13 @@ pub fn stride_for(size: u32, room: u32) -> u32
 
 impl Frame {
     /// The frame of a picture from this slot on up to the one before that, with so many nodes, where the longest name of one has so many
-    /// letters.
-    pub fn of(first: u32, until: u32, nodes: u32, longest: u32) -> Frame
+    /// letters, and with so many lines below the legend.
+    pub fn of(first: u32, until: u32, nodes: u32, longest: u32, lines: u32) -> Frame
         requires few_slots { until ≤ 20000 }
         requires few_nodes { nodes ≤ 10000 }
         requires short { longest ≤ 100 }
-        ensures { result ≡ frame_of first until nodes longest }
+        requires few_lines { lines ≤ 100 }
+        ensures { result ≡ frame_of first until nodes longest lines }
     {
         let row = row_of(nodes);
         Frame {
@@ -97,6 +98,7 @@ impl Frame {
             row,
             gap: gap_of(row),
             left: 24 + 7 * longest,
+            lines,
         }
     }
 
@@ -237,9 +239,18 @@ impl Frame {
 
     /// The height of the whole picture.
     pub fn height(&self) -> u64
-        ensures { result ≡ height_of self.now }
+        ensures value { result ≡ height_of self.now }
+        ensures small { result ≤ 2 ^ 43 }
     {
-        self.use_base() + 170
+        self.use_base() + 170 + u64::from(self.lines) * 24
+    }
+
+    /// Where a line below the legend begins.
+    pub(crate) fn line_y(&self, line: u32) -> u64
+        ensures value { result ≡ line_y self.now line }
+        ensures small { result ≤ 2 ^ 43 }
+    {
+        self.use_base() + 168 + u64::from(line) * 24
     }
 
     /// Whether there is room for a line round each bar.

@@ -5,4 +5,4 @@ use Rattle.tetri_chart.specs.Text.{node_text}
 use Rattle.tetri_chart.proofs.bars.add_nodes.Given as goal
 
 abbrev pub invariant-loop-node : goal.invariant-loop-node
-invariant-loop-node l = string_bytes l.out ≡ string_bytes l.initial.out ++ flat_map (node_text (scenario l.trace) l.frame l.span) (take l.node-index l.node-items)
+invariant-loop-node l = string_bytes l.out ≡ string_bytes l.initial.out ++ flat_map (node_text (scenario l.trace) l.frame l.paint l.span) (take l.node-index l.node-items)

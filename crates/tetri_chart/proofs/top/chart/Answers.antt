@@ -12,8 +12,8 @@ returns-in-Ok-clause-drawn g c = λ content lines told told_lines.
     let before = g.K.Sink.written c.args.sink.now in
     let after = g.K.Sink.written c.draw_gathered.new.sink in
     let status = c.draw_gathered.result in
-    drawn_promised c.args.cycle c.args.view status (scenario_in content) t lines before after (c.in-Ok.ensures.kept content told)
-    (drawn_of t lines c.args.cycle c.args.view c.new-gathering.result c.check_seen.new.observer c.new-gathering.ensures.nothing (c.in-Ok.ensures.seen lines told_lines) status before after
+    drawn_promised c.args.cycle c.args.view.now status (scenario_in content) t lines before after (c.in-Ok.ensures.kept content told)
+    (drawn_of t lines c.args.cycle c.args.view.now c.new-gathering.result c.check_seen.new.observer c.new-gathering.ensures.nothing (c.in-Ok.ensures.seen lines told_lines) status before after
     c.draw_gathered.ensures.answer)
 
 pub returns-in-Ok-clause-bad_trace : goal.returns-in-Ok-clause-bad_trace
@@ -23,7 +23,7 @@ returns-in-Ok-clause-bad_trace g c = λ content line why told bad.
     let after = g.K.Sink.written c.draw_gathered.new.sink in
     let status = c.draw_gathered.result in
     let last = c.check_seen.new.observer in
-    absurd (never_bad t c.args.view last before after status (some_drawn t c.args.view last before after status c.draw_gathered.ensures.answer) line why bad)
+    absurd (never_bad t c.args.view.now last before after status (some_drawn t c.args.view.now last before after status c.draw_gathered.ensures.answer) line why bad)
 
 pub returns-in-Ok-clause-silent : goal.returns-in-Ok-clause-silent
 returns-in-Ok-clause-silent g c =
@@ -32,7 +32,7 @@ returns-in-Ok-clause-silent g c =
     let after = g.K.Sink.written c.draw_gathered.new.sink in
     let status = c.draw_gathered.result in
     let last = c.check_seen.new.observer in
-    silent t c.args.view last before after status (some_drawn t c.args.view last before after status c.draw_gathered.ensures.answer)
+    silent t c.args.view.now last before after status (some_drawn t c.args.view.now last before after status c.draw_gathered.ensures.answer)
 
 pub returns-in-Ok-clause-read : goal.returns-in-Ok-clause-read
 returns-in-Ok-clause-read g c = λ read.
@@ -41,7 +41,7 @@ returns-in-Ok-clause-read g c = λ read.
     let after = g.K.Sink.written c.draw_gathered.new.sink in
     let status = c.draw_gathered.result in
     let last = c.check_seen.new.observer in
-    absurd (never_read t c.args.view last before after status (some_drawn t c.args.view last before after status c.draw_gathered.ensures.answer) read)
+    absurd (never_read t c.args.view.now last before after status (some_drawn t c.args.view.now last before after status c.draw_gathered.ensures.answer) read)
 
 pub returns-in-Ok-clause-accepts : goal.returns-in-Ok-clause-accepts
 returns-in-Ok-clause-accepts g c = λ content lines t told is told_lines accepted has quiet writes.
@@ -50,10 +50,10 @@ returns-in-Ok-clause-accepts g c = λ content lines t told is told_lines accepte
     let after = g.K.Sink.written c.draw_gathered.new.sink in
     let status = c.draw_gathered.result in
     let same = same_scenario content t u is (c.in-Ok.ensures.kept content told) in
-    drawn_where_asked c.args.cycle c.args.view u lines before after status
-    (drawn_of u lines c.args.cycle c.args.view c.new-gathering.result c.check_seen.new.observer c.new-gathering.ensures.nothing (c.in-Ok.ensures.seen lines told_lines) status before after
+    drawn_where_asked c.args.cycle c.args.view.now u lines before after status
+    (drawn_of u lines c.args.cycle c.args.view.now c.new-gathering.result c.check_seen.new.observer c.new-gathering.ensures.nothing (c.in-Ok.ensures.seen lines told_lines) status before after
     c.draw_gathered.ensures.answer)
-    (subst (λ (v : Scenario). HasSlots v c.args.cycle c.args.view) same has) (λ fault. writes (c.draw_gathered.ensures.write fault))
+    (subst (λ (v : Scenario). HasSlots v c.args.cycle c.args.view.now) same has) (λ fault. writes (c.draw_gathered.ensures.write fault))
 
 pub returns-in-Ok-clause-no_slots : goal.returns-in-Ok-clause-no_slots
 returns-in-Ok-clause-no_slots g c = λ content lines t told is told_lines accepted lacks quiet.
@@ -62,14 +62,14 @@ returns-in-Ok-clause-no_slots g c = λ content lines t told is told_lines accept
     let after = g.K.Sink.written c.draw_gathered.new.sink in
     let status = c.draw_gathered.result in
     let same = same_scenario content t u is (c.in-Ok.ensures.kept content told) in
-    usage_where_not c.args.cycle c.args.view u lines before after status
-    (drawn_of u lines c.args.cycle c.args.view c.new-gathering.result c.check_seen.new.observer c.new-gathering.ensures.nothing (c.in-Ok.ensures.seen lines told_lines) status before after
+    usage_where_not c.args.cycle c.args.view.now u lines before after status
+    (drawn_of u lines c.args.cycle c.args.view.now c.new-gathering.result c.check_seen.new.observer c.new-gathering.ensures.nothing (c.in-Ok.ensures.seen lines told_lines) status before after
     c.draw_gathered.ensures.answer)
-    (λ has. lacks (subst (λ (v : Scenario). HasSlots v c.args.cycle c.args.view) (sym same) has))
+    (λ has. lacks (subst (λ (v : Scenario). HasSlots v c.args.cycle c.args.view.now) (sym same) has))
 
 pub returns-in-Err-clause-drawn : goal.returns-in-Err-clause-drawn
 returns-in-Err-clause-drawn g c = λ content lines told told_lines.
-    halted_promised c.args.cycle c.args.view c.in-Err.status (scenario_in content) lines (g.K.Sink.written c.args.sink.now) (c.in-Err.ensures.halted content lines told told_lines)
+    halted_promised c.args.cycle c.args.view.now c.in-Err.status (scenario_in content) lines (g.K.Sink.written c.args.sink.now) (c.in-Err.ensures.halted content lines told told_lines)
 
 pub returns-in-Err-clause-accepts : goal.returns-in-Err-clause-accepts
 returns-in-Err-clause-accepts g c = λ content lines t told is told_lines accepted has quiet writes.

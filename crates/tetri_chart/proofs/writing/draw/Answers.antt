@@ -10,7 +10,7 @@ returns-in-Err-clause-failed g c = λ e.
     let t = scenario c.args.trace.now in
     let is = c.framed-frame.ensures in
     let counted = c.meeting-pieces.ensures ∙ ap (meeting c.framed-frame.result) (c.deref.ensures.value ∙ ap (λ (p : Picture). p.spans) c.chart.view_is) in
-    drawn_before t c.args.view c.args.chart.now c.framed-frame.result c.meeting-pieces.result is counted c.args.chart.now.spans refl (g.K.Sink.written c.args.sink.now) (g.K.Sink.written c.send_front.new.sink)
+    drawn_before t c.args.view.now c.args.chart.now c.framed-frame.result c.meeting-pieces.result is counted c.in_ok-paint.paint c.in_ok-paint.ensures c.args.chart.now.spans refl (g.K.Sink.written c.args.sink.now) (g.K.Sink.written c.send_front.new.sink)
     (c.in-Err.ensures.failed e)
 
 pub returns-in-Err-clause-memory : goal.returns-in-Err-clause-memory
@@ -22,7 +22,7 @@ returns-in-Err-send_spans-clause-failed g c = λ e.
     let is = c.framed-frame.ensures in
     let counted = c.meeting-pieces.ensures ∙ ap (meeting c.framed-frame.result) (c.deref.ensures.value ∙ ap (λ (p : Picture). p.spans) c.chart.view_is) in
     let are = c.deref-2.ensures.value ∙ ap (λ (p : Picture). p.spans) c.chart.view_is in
-    drawn_bars t c.args.view c.args.chart.now c.framed-frame.result c.meeting-pieces.result is counted c.deref-2.result.now are (g.K.Sink.written c.args.sink.now) (g.K.Sink.written c.send_front.new.sink)
+    drawn_bars t c.args.view.now c.args.chart.now c.framed-frame.result c.meeting-pieces.result is counted c.in_ok-paint.paint c.in_ok-paint.ensures c.deref-2.result.now are (g.K.Sink.written c.args.sink.now) (g.K.Sink.written c.send_front.new.sink)
     c.in-Ok.ensures.ok (g.K.Sink.written c.send_spans.new.sink) (c.in-Err-send_spans.ensures.failed e)
 
 pub returns-in-Err-send_spans-clause-memory : goal.returns-in-Err-send_spans-clause-memory
@@ -31,7 +31,7 @@ returns-in-Err-send_spans-clause-memory g c = λ e.
     let is = c.framed-frame.ensures in
     let counted = c.meeting-pieces.ensures ∙ ap (meeting c.framed-frame.result) (c.deref.ensures.value ∙ ap (λ (p : Picture). p.spans) c.chart.view_is) in
     let are = c.deref-2.ensures.value ∙ ap (λ (p : Picture). p.spans) c.chart.view_is in
-    stopped_bars t c.args.view c.args.chart.now c.framed-frame.result c.meeting-pieces.result is counted c.deref-2.result.now are (g.K.Sink.written c.args.sink.now) (g.K.Sink.written c.send_front.new.sink)
+    stopped_bars t c.args.view.now c.args.chart.now c.framed-frame.result c.meeting-pieces.result is counted c.in_ok-paint.paint c.in_ok-paint.ensures c.deref-2.result.now are (g.K.Sink.written c.args.sink.now) (g.K.Sink.written c.send_front.new.sink)
     c.in-Ok.ensures.ok (g.K.Sink.written c.send_spans.new.sink) (c.in-Err-send_spans.ensures.memory e)
 
 pub returns-in-Ok-send_back-clause-ok : goal.returns-in-Ok-send_back-clause-ok
@@ -40,23 +40,23 @@ returns-in-Ok-send_back-clause-ok g c =
     let is = c.framed-frame.ensures in
     let counted = c.meeting-pieces.ensures ∙ ap (meeting c.framed-frame.result) (c.deref.ensures.value ∙ ap (λ (p : Picture). p.spans) c.chart.view_is) in
     let are = c.deref-2.ensures.value ∙ ap (λ (p : Picture). p.spans) c.chart.view_is in
-    drawn_all t c.args.view c.args.chart.now c.framed-frame.result c.meeting-pieces.result is counted c.deref-2.result.now are (g.K.Sink.written c.args.sink.now) (g.K.Sink.written c.send_front.new.sink)
+    drawn_all t c.args.view.now c.args.chart.now c.framed-frame.result c.meeting-pieces.result is counted c.in_ok-paint.paint c.in_ok-paint.ensures c.deref-2.result.now are (g.K.Sink.written c.args.sink.now) (g.K.Sink.written c.send_front.new.sink)
     c.in-Ok.ensures.ok (g.K.Sink.written c.send_spans.new.sink) c.in-Ok-send_spans.ensures.ok (g.K.Sink.written c.send_back.new.sink) c.in-Ok-send_back.ensures.ok
 
-pub returns-in-Err-send_back-clause-failed : goal.returns-in-Err-send_back-clause-failed
-returns-in-Err-send_back-clause-failed g c = λ e.
+pub returns-clause-failed : goal.returns-clause-failed
+returns-clause-failed g c = λ e.
     let t = scenario c.args.trace.now in
     let is = c.framed-frame.ensures in
     let counted = c.meeting-pieces.ensures ∙ ap (meeting c.framed-frame.result) (c.deref.ensures.value ∙ ap (λ (p : Picture). p.spans) c.chart.view_is) in
     let are = c.deref-2.ensures.value ∙ ap (λ (p : Picture). p.spans) c.chart.view_is in
-    drawn_behind t c.args.view c.args.chart.now c.framed-frame.result c.meeting-pieces.result is counted c.deref-2.result.now are (g.K.Sink.written c.args.sink.now) (g.K.Sink.written c.send_front.new.sink)
+    drawn_behind t c.args.view.now c.args.chart.now c.framed-frame.result c.meeting-pieces.result is counted c.in_ok-paint.paint c.in_ok-paint.ensures c.deref-2.result.now are (g.K.Sink.written c.args.sink.now) (g.K.Sink.written c.send_front.new.sink)
     c.in-Ok.ensures.ok (g.K.Sink.written c.send_spans.new.sink) c.in-Ok-send_spans.ensures.ok (g.K.Sink.written c.send_back.new.sink) (c.in-Err-send_back.ensures.failed e)
 
-pub returns-in-Err-send_back-clause-memory : goal.returns-in-Err-send_back-clause-memory
-returns-in-Err-send_back-clause-memory g c = λ e.
+pub returns-clause-memory : goal.returns-clause-memory
+returns-clause-memory g c = λ e.
     let t = scenario c.args.trace.now in
     let is = c.framed-frame.ensures in
     let counted = c.meeting-pieces.ensures ∙ ap (meeting c.framed-frame.result) (c.deref.ensures.value ∙ ap (λ (p : Picture). p.spans) c.chart.view_is) in
     let are = c.deref-2.ensures.value ∙ ap (λ (p : Picture). p.spans) c.chart.view_is in
-    stopped_behind t c.args.view c.args.chart.now c.framed-frame.result c.meeting-pieces.result is counted c.deref-2.result.now are (g.K.Sink.written c.args.sink.now) (g.K.Sink.written c.send_front.new.sink)
+    stopped_behind t c.args.view.now c.args.chart.now c.framed-frame.result c.meeting-pieces.result is counted c.in_ok-paint.paint c.in_ok-paint.ensures c.deref-2.result.now are (g.K.Sink.written c.args.sink.now) (g.K.Sink.written c.send_front.new.sink)
     c.in-Ok.ensures.ok (g.K.Sink.written c.send_spans.new.sink) c.in-Ok-send_spans.ensures.ok (g.K.Sink.written c.send_back.new.sink) (c.in-Err-send_back.ensures.memory e)

@@ -6,6 +6,6 @@ use Rattle.tetri_chart.proofs.writing.send_spans.Given as goal
 
 abbrev pub invariant-loop-span : goal.invariant-loop-span
 invariant-loop-span g l = record {
-  written : g.K.Sink.written l.sink ≡ append_known (g.K.Sink.written l.fn.sink) (bars_text (scenario l.trace) l.frame (take l.span-index l.spans));
+  written : g.K.Sink.written l.sink ≡ append_known (g.K.Sink.written l.fn.sink) (bars_text (scenario l.trace) l.frame l.paint (take l.span-index l.spans));
   later : g.K.Sink.faults l.fn.sink ≤ g.K.Sink.faults l.sink;
 }
