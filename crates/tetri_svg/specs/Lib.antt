@@ -9,4 +9,3 @@ pub mod Front
 pub mod Back
 pub mod Strips
 pub mod Style
-pub mod Sheet
