@@ -9,6 +9,7 @@ use tetri_by_swift::BySwift;
 use tetri_greedy::{ByDeadline, ByWorth};
 use tetri_io::StdSink;
 use tetri_run::{ByChooser, Status, run_chosen, run_plan};
+use tetri_sooner::Sooner;
 
 // How the plan of a cycle is searched for.
 #[derive(Clone, Copy, Debug, PartialEq, Eq)]
@@ -64,13 +65,13 @@ fn seat_and_plan(
         Search::Exact => Ok(run_plan(rt.alloc(), trace, shelf, &mut sink, &mut panel)),
         Search::Prices => {
             let mut planner = ByChooser {
-                chooser: ByPrice::new(panel),
+                chooser: Sooner::new(ByPrice::new(panel)),
             };
             Ok(run_chosen(rt.alloc(), trace, shelf, &mut sink, &mut planner))
         }
         Search::Swift => {
             let mut planner = ByChooser {
-                chooser: BySwift::new(panel, KEEP_BYTES),
+                chooser: Sooner::new(BySwift::new(panel, KEEP_BYTES)),
             };
             Ok(run_chosen(rt.alloc(), trace, shelf, &mut sink, &mut planner))
         }

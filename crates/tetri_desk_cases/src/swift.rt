@@ -1,4 +1,4 @@
-// Swift searches beside others over the first cycle of traces, and runs by swift plans, whose reports are checked.
+// Swift searches beside others over the first cycle of traces, runs by swift plans, whose reports are checked, and grants that are moved.
 ghost use Rattle.std.specs.Prelude.{IfOk, IfSome};
 ghost use Rattle.tetri_space.specs.Sound.{IsSound as IsSoundSpace};
 ghost use Rattle.tetri_space.specs.Space.{space};
@@ -6,17 +6,21 @@ ghost use Rattle.tetri_trace.specs.Scenario.{scenario};
 ghost use Rattle.tetri_trace.specs.Sound.{IsSound};
 
 mod made;
+mod moved;
 mod wild;
 
 use made::made_trace;
+use moved::moved_in;
 use std::alloc::{AllocError, Global};
 use tetri_advice::{Advisor, Panel};
 use tetri_by_swift::BySwift;
 use tetri_compile::{compile, size};
 use tetri_greedy::{ByDeadline, ByWorth};
 use tetri_io::{MemShelf, MemSink};
+use tetri_plan::Chooser;
 use tetri_run::{ByChooser, Status, run_check, run_chosen};
 use tetri_search::{Found, search};
+use tetri_sooner::Sooner;
 use tetri_space::{Instance, find_partitions};
 use tetri_state::State;
 use tetri_swift::{Anew, search_by, swift_search};
@@ -114,20 +118,23 @@ fn optimal_in(report: &str) -> &str {
     }
 }
 
-// The plans of a trace, and whether their report is accepted.
-fn run_in(alloc: Global, content: &str, bytes: usize) -> Result<String, AllocError> {
-    let mut shelf = MemShelf::new(alloc, 4000, &[])?;
-    shelf.put("trace", content.as_bytes())?;
-    let mut sink = MemSink::new(alloc, 4000, 4_000_000, &[])?;
+// Plans by a swift search, with the two shipped advisors.
+fn by_swift(alloc: Global, bytes: usize) -> Result<BySwift<Box<dyn Advisor>>, AllocError> {
     let by_deadline: Box<dyn Advisor> = Box::new(alloc, ByDeadline::new())?;
     let by_worth: Box<dyn Advisor> = Box::new(alloc, ByWorth::new())?;
     let mut panel = Panel::new(alloc);
     if panel.seat(by_deadline).is_err() || panel.seat(by_worth).is_err() {
         return Err(AllocError);
     }
-    let mut planner = ByChooser {
-        chooser: BySwift::new(panel, bytes),
-    };
+    Ok(BySwift::new(panel, bytes))
+}
+
+// The plans of a trace, and whether their report is accepted.
+fn run_in<C: Chooser>(alloc: Global, content: &str, chooser: C) -> Result<String, AllocError> {
+    let mut shelf = MemShelf::new(alloc, 4000, &[])?;
+    shelf.put("trace", content.as_bytes())?;
+    let mut sink = MemSink::new(alloc, 4000, 4_000_000, &[])?;
+    let mut planner = ByChooser { chooser };
     if run_chosen(alloc, "trace", &mut shelf, &mut sink, &mut planner) != Status::Done {
         return String::from_str(alloc, "not planned");
     }
@@ -139,6 +146,32 @@ fn run_in(alloc: Global, content: &str, bytes: usize) -> Result<String, AllocErr
     let report = text_in(alloc, sink.written())?;
     let optimal = optimal_in(report.as_str());
     format!(in alloc; "accepted, optimal={optimal}")
+}
+
+// A row of runs.
+fn run_row(
+    alloc: Global,
+    content: &str,
+    bytes: usize,
+    is_moved: bool,
+) -> Result<String, AllocError> {
+    let chooser = by_swift(alloc, bytes)?;
+    if is_moved {
+        run_in(alloc, content, Sooner::new(chooser))
+    } else {
+        run_in(alloc, content, chooser)
+    }
+}
+
+// The grants of a row as they are moved to earlier starts in the first cycle of a trace.
+fn moved_row(alloc: Global, content: &str, row: &str) -> Result<String, AllocError> {
+    match answer(alloc, content.as_bytes())? {
+        Ok(trace) => match first_instance(alloc, &trace)? {
+            Some(inst) => moved_in(alloc, &inst, row),
+            None => String::from_str(alloc, "no cycle"),
+        },
+        Err(_) => String::from_str(alloc, "the trace is not read"),
+    }
 }
 
 // The numbers of a row.
@@ -179,12 +212,15 @@ fn found_by(
             let made = made_trace(alloc, numbers)?;
             Ok(Some(searched_in(alloc, made.as_str(), budget, bytes, false)?))
         }
-        "runs" => Ok(Some(run_in(alloc, trace, number_at(numbers, 0) as usize)?)),
+        "runs" => Ok(Some(run_row(alloc, trace, budget as usize, false)?)),
+        "runs moved" => Ok(Some(run_row(alloc, trace, budget as usize, true)?)),
+        "moved" => Ok(Some(moved_row(alloc, trace, row)?)),
         _ => Ok(None),
     }
 }
 
-/// Judges a table of traces, of what searches of their first cycles find, and of runs by swift plans.
+/// Judges a table of traces, of what searches of their first cycles find, of runs by swift plans, and of
+/// grants that are moved to earlier starts.
 pub fn judge(alloc: Global, table: &str) -> Result<Tally, AllocError> {
     let mut tally = Tally::new(alloc);
     let mut given = Given::new(alloc);
