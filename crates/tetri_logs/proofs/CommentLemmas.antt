@@ -26,17 +26,17 @@ by_partition : (job : LoggedJob) (set : Option (List ℕ)) (features : List (Lis
 by_partition job None features = refl
 by_partition job (Some set) features = either (are_features features) _ _ refl refl
 
-seated-none : (mixed : Bool) (e : Entry) (partitions constraints : List ℕ) → is_comment e ≡ false → is_comment (seated mixed e partitions constraints) ≡ false
+pub seated-none : (mixed : Bool) (e : Entry) (partitions constraints : List ℕ) → is_comment e ≡ false → is_comment (seated mixed e partitions constraints) ≡ false
 seated-none false e partitions constraints p = p
 seated-none true (Job job) partitions constraints p = by_partition job (partition_set (first_partition partitions)) (features_of constraints)
 seated-none true (Comment fact) partitions constraints p = p
 seated-none true (Left reject) partitions constraints p = p
 
-named-none : (line : ℕ) (name : List ℕ) (account : Result Account Cause) → is_comment (with_name line name account) ≡ false
+pub named-none : (line : ℕ) (name : List ℕ) (account : Result Account Cause) → is_comment (with_name line name account) ≡ false
 named-none line name (Err cause) = refl
 named-none line name (Ok account) = either (is_name name) _ _ refl refl
 
-row-none : (mixed : Bool) (h : Header) (line : ℕ) (row : List (List ℕ)) (account : Result Account Cause) (id : List ℕ) → is_comment (row_entry mixed h line row account id) ≡ false
+pub row-none : (mixed : Bool) (h : Header) (line : ℕ) (row : List (List ℕ)) (account : Result Account Cause) (id : List ℕ) → is_comment (row_entry mixed h line row account id) ≡ false
 row-none mixed h line row account id = seated-none mixed (with_name line (id_name id) account) (told_cell row h.partitions) (told_cell row h.constraints) (named-none line (id_name id) account)
 
 rows-none : (mixed : Bool) (h : Header) (line : ℕ) (row : List (List ℕ)) (account : Result Account Cause) (ids : List (List ℕ)) → count is_comment (map (row_entry mixed h line row account) ids) ≡ 0

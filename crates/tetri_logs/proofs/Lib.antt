@@ -1,2 +1,3 @@
 mod ReadingLemmas
 mod CommentLemmas
+mod EarlyLemmas

@@ -11,11 +11,18 @@ use Rattle.tetri_logs.specs.Words.{word_at, words_of}
 use Rattle.tetri_logs.specs.declared.account.Account.{Account}
 use Rattle.tetri_logs.specs.declared.entry.Cause.{Cause}
 use Rattle.tetri_logs.specs.declared.entry.Cause.TheVariants.{Unreadable, Beyond}
+use Rattle.tetri_logs.specs.declared.entry.Entries.{Entries}
+use Rattle.tetri_logs.specs.declared.entry.Entries.TheVariants.{One, Tasks}
 use Rattle.tetri_logs.specs.declared.entry.Entry.{Entry}
 use Rattle.tetri_logs.specs.declared.entry.Entry.TheVariants.{Job, Comment, Left}
 use Rattle.tetri_logs.specs.declared.header.Header.{Header}
 use Rattle.tetri_logs.specs.declared.layout.Layout.{Layout}
 use Rattle.tetri_logs.specs.declared.layout.Layout.TheVariants.{Words, Table}
+
+-- the entries of a line one after another
+abbrev pub entries_in : Entries → List Entry
+entries_in (One entry) = entry ∷ []
+entries_in (Tasks entries) = entries.items
 
 abbrev pub left_at : ℕ → Cause → Entry
 left_at line cause = Left (record { line = line; cause = cause })

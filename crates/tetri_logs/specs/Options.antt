@@ -6,6 +6,7 @@ use Rattle.tetri_logs.specs.declared.options.OptionFault.{OptionFault}
 use Rattle.tetri_logs.specs.declared.options.OptionFault.TheVariants as faults
 use Rattle.tetri_logs.specs.declared.options.Settings.{Settings}
 use Rattle.tetri_logs.specs.declared.reading.Facts.{Facts}
+use Rattle.tetri_logs.specs.Reading.{no_facts}
 
 -- the number, if it is within its limits
 abbrev pub within : ℕ → ℕ → ℕ → OptionFault → Result ℕ OptionFault
@@ -64,6 +65,15 @@ settings_of o f = do
     class = o.class;
     whole_nodes_only = o.whole_nodes_only;
   })
+
+-- The first option that cannot be, whatever a log says. Where nothing says how many nodes there are, a log may.
+abbrev pub early_of : Result Settings OptionFault → Option OptionFault
+early_of (Ok settings) = None
+early_of (Err faults.LogNodes) = None
+early_of (Err fault) = Some fault
+
+abbrev pub early_fault : Options → Option OptionFault
+early_fault o = early_of (settings_of o no_facts)
 
 -- what follows of settings
 pub record AreGood (s : Settings) : Type 0 where

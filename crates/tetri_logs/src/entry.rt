@@ -1,6 +1,6 @@
 // What a line of a log is.
 ghost use Rattle.std.specs.Prelude.{◌≡◌, ◌∷◌, [], IfOk, OnOk, map, unwrap_or};
-ghost use Rattle.tetri_logs.specs.Entry.{header_at, header_entry, ids_if, layout_at, line_entries, row_entries, row_entry, swf_entry, table_entries, with_name};
+ghost use Rattle.tetri_logs.specs.Entry.{entries_in, header_at, header_entry, ids_if, layout_at, line_entries, row_entries, row_entry, swf_entry, table_entries, with_name};
 ghost use Rattle.tetri_logs.specs.Sacct.{id_name};
 
 use crate::account::Account;
@@ -77,6 +77,13 @@ pub enum Entry {
     Left(Reject),
 }
 
+/// What a line of a log is: one entry, or the tasks of an array.
+#[derive(Drop)]
+pub(crate) enum Entries {
+    One(Entry),
+    Tasks(Vec<Entry>),
+}
+
 // A job with this name, if it is one.
 fn with_name(
     alloc: Global,
@@ -146,15 +153,6 @@ fn with_id(
     }
 }
 
-// An entry alone.
-fn one_entry(alloc: Global, entry: Entry) -> Result<Vec<Entry>, AllocError>
-    ensures { IfOk result (λ es. es.items ≡ entry ∷ []) }
-{
-    let mut entries = Vec::new(alloc);
-    entries.push(entry)?;
-    Ok(entries)
-}
-
 // The job of a line by its identifier.
 fn row_entry(
     alloc: Global,
@@ -219,17 +217,20 @@ fn row_entries(
     header: &Header,
     line: usize,
     row: &[&[u8]],
-) -> Result<Vec<Entry>, AllocError>
-    ensures { IfOk result (λ es. es.items ≡ row_entries mixed header.now line (map (λ w. w.now) row.now)) }
+) -> Result<Entries, AllocError>
+    ensures { IfOk result (λ es. entries_in es ≡ row_entries mixed header.now line (map (λ w. w.now) row.now)) }
 {
     let account = sacct_account(header, row);
     let id = cell(row, header.id);
     match tasks_if(alloc, account, id)? {
         None => {
             let entry = row_entry(alloc, mixed, header, line, row, account, id)?;
-            one_entry(alloc, entry)
+            Ok(Entries::One(entry))
         }
-        Some(ids) => entries_by(alloc, mixed, header, line, row, account, ids.as_slice()),
+        Some(ids) => {
+            let tasks = entries_by(alloc, mixed, header, line, row, account, ids.as_slice())?;
+            Ok(Entries::Tasks(tasks))
+        }
     }
 }
 
@@ -240,20 +241,54 @@ fn table_entries(
     header: &mut Header,
     line: usize,
     text: &[u8],
-) -> Result<Vec<Entry>, AllocError>
-    ensures entries { IfOk result (λ es. es.items ≡ table_entries mixed header.old line text.now) }
+) -> Result<Entries, AllocError>
+    ensures entries { IfOk result (λ es. entries_in es ≡ table_entries mixed header.old line text.now) }
     ensures header { OnOk result (header.new ≡ header_at header.old text.now) }
 {
     if without_return(text).is_empty() {
-        return one_entry(alloc, Entry::Comment(None));
+        return Ok(Entries::One(Entry::Comment(None)));
     }
     let row = row_of(alloc, text)?;
     if is_header(&row) {
         let named = header_in(&row);
         *header = named.unwrap_or(*header);
-        return one_entry(alloc, header_entry(line, &row, named));
+        return Ok(Entries::One(header_entry(line, &row, named)));
     }
     row_entries(alloc, mixed, header, line, &row)
+}
+
+/// The same as `read_entries`, without a vector for an entry alone.
+pub(crate) fn line_entries(
+    alloc: Global,
+    mixed: bool,
+    layout: &mut Layout,
+    line: usize,
+    text: &[u8],
+) -> Result<Entries, AllocError>
+    ensures entries { IfOk result (λ es. entries_in es ≡ line_entries mixed layout.old line text.now) }
+    ensures layout { OnOk result (layout.new ≡ layout_at layout.old text.now) }
+{
+    match layout {
+        Layout::Words => {
+            let entry = swf_entry(alloc, mixed, line, text)?;
+            Ok(Entries::One(entry))
+        }
+        Layout::Table(header) => table_entries(alloc, mixed, header, line, text),
+    }
+}
+
+// The entries of a line one after another.
+fn listed(alloc: Global, entries: Entries) -> Result<Vec<Entry>, AllocError>
+    ensures { IfOk result (λ es. es.items ≡ entries_in entries) }
+{
+    match entries {
+        Entries::One(entry) => {
+            let mut entries = Vec::new(alloc);
+            entries.push(entry)?;
+            Ok(entries)
+        }
+        Entries::Tasks(entries) => Ok(entries),
+    }
 }
 
 /// What a line with this number is, where the lines before it have left this layout, and nodes differ or not: one entry, or as many as the
@@ -268,8 +303,6 @@ pub fn read_entries(
     ensures entries { IfOk result (λ es. es.items ≡ line_entries mixed layout.old line text.now) }
     ensures layout { OnOk result (layout.new ≡ layout_at layout.old text.now) }
 {
-    match layout {
-        Layout::Words => one_entry(alloc, swf_entry(alloc, mixed, line, text)?),
-        Layout::Table(header) => table_entries(alloc, mixed, header, line, text),
-    }
+    let entries = line_entries(alloc, mixed, layout, line, text)?;
+    listed(alloc, entries)
 }

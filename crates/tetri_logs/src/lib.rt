@@ -28,7 +28,7 @@ pub use entry::{Cause, Entry, Format, LoggedJob, Reject, read_entries};
 pub use header::Header;
 pub use layout::{Layout, first_layout};
 pub use lines::log_lines;
-pub use options::{OptionFault, Options, Settings, Worth, settings_of};
+pub use options::{OptionFault, Options, Settings, Worth, early_fault, settings_of};
 pub use origin::{begun, gap_of};
 pub use placing::{Placing, place};
 pub use reading::{Facts, Log, read_log};

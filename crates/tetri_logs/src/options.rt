@@ -1,8 +1,10 @@
 // What a caller asks for, and what follows from it and the log.
-ghost use Rattle.std.specs.Prelude.{◌≡◌, ◌≤◌, IfOk};
-ghost use Rattle.tetri_logs.specs.Options.{AreGood, cluster_of, nodes_fault, processors_of, settings_of, within};
+ghost use Rattle.std.specs.Prelude.{◌≡◌, ◌≤◌, Bool, Err, List, ℕ, IfOk, IfSome};
+ghost use Rattle.tetri_logs.specs.Options.{AreGood, cluster_of, early_fault, early_of, nodes_fault, processors_of, settings_of, within};
+ghost use Rattle.tetri_logs.specs.Reading.{entries, facts_in, no_facts};
+ghost use Rattle.tetri_logs.specs.declared.entry.Format.{Format};
 
-use crate::reading::Facts;
+use crate::reading::{Facts, NO_FACTS};
 use tetri_request::Class;
 
 /// How the worth of a job is made.
@@ -169,4 +171,23 @@ pub fn settings_of(options: &Options, facts: Facts) -> Result<Settings, OptionFa
         class: options.class,
         whole_nodes_only: options.whole_nodes_only,
     })
+}
+
+// What a fault says where no log is read: a log may say how many nodes there are.
+fn early_of(settings: Result<Settings, OptionFault>) -> Option<OptionFault>
+    ensures { result ≡ early_of settings }
+{
+    match settings {
+        Ok(_) | Err(OptionFault::LogNodes) => None,
+        Err(fault) => Some(fault),
+    }
+}
+
+/// The first option that cannot be, where that is known before a log is read.
+pub fn early_fault(options: &Options) -> Option<OptionFault>
+    ensures value { result ≡ early_fault options.now }
+    ensures early { IfSome result (λ fault. (mixed : Bool) → (format : Format) → (log : List ℕ)
+        → settings_of options.now (facts_in no_facts (entries mixed format log)) ≡ Err fault) }
+{
+    early_of(settings_of(options, NO_FACTS))
 }

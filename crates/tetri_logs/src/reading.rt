@@ -1,10 +1,11 @@
 // What a log says.
 ghost use Rattle.std.specs.Prelude.{◌≡◌, ◌+◌, ◌++◌, ◌∷◌, [], IfOk, OnOk, length, map};
 ghost use Rattle.tetri_base.specs.Lists.{count};
+ghost use Rattle.tetri_logs.specs.Entry.{entries_in};
 ghost use Rattle.tetri_logs.specs.Reading.{entries, entries_of, facts_in, is_comment, jobs_in, left_in, no_facts, with_fact};
 
 use crate::comments::Fact;
-use crate::entry::{Entry, Format, LoggedJob, Reject, read_entries};
+use crate::entry::{Entries, Entry, Format, LoggedJob, Reject, line_entries};
 use crate::layout::first_layout;
 use crate::lines::log_lines;
 use std::alloc::{AllocError, Global};
@@ -28,8 +29,8 @@ pub struct Log {
     pub comments: usize,
 }
 
-// Nothing is said.
-const NO_FACTS: Facts = Facts {
+/// Nothing is said.
+pub(crate) const NO_FACTS: Facts = Facts {
     nodes: None,
     processors: None,
     start: 0,
@@ -68,8 +69,8 @@ fn add(log: &mut Log, entry: Entry) -> Result<(), AllocError>
     Ok(())
 }
 
-// With what these entries say, but for the number of comments.
-fn add_all(log: &mut Log, entries: Vec<Entry>) -> Result<(), AllocError>
+// With what these tasks say, but for the number of comments.
+fn add_tasks(log: &mut Log, entries: Vec<Entry>) -> Result<(), AllocError>
     ensures jobs { OnOk result (log.new.jobs.items ≡ log.old.jobs.items ++ jobs_in entries.items) }
     ensures left { OnOk result (log.new.left.items ≡ log.old.left.items ++ left_in entries.items) }
     ensures facts { OnOk result (log.new.facts ≡ facts_in log.old.facts entries.items) }
@@ -79,6 +80,19 @@ fn add_all(log: &mut Log, entries: Vec<Entry>) -> Result<(), AllocError>
         add(log, entry)?;
     }
     Ok(())
+}
+
+// With what the entries of a line say, but for the number of comments.
+fn add_all(log: &mut Log, entries: Entries) -> Result<(), AllocError>
+    ensures jobs { OnOk result (log.new.jobs.items ≡ log.old.jobs.items ++ jobs_in (entries_in entries)) }
+    ensures left { OnOk result (log.new.left.items ≡ log.old.left.items ++ left_in (entries_in entries)) }
+    ensures facts { OnOk result (log.new.facts ≡ facts_in log.old.facts (entries_in entries)) }
+    ensures comments { OnOk result (log.new.comments ≡ log.old.comments) }
+{
+    match entries {
+        Entries::One(entry) => add(log, entry),
+        Entries::Tasks(entries) => add_tasks(log, entries),
+    }
 }
 
 fn is_comment(entry: &Entry) -> bool
@@ -100,6 +114,17 @@ fn comments_in(entries: &[Entry]) -> usize
     count
 }
 
+// The same of the entries of a line.
+fn comments_of(entries: &Entries) -> usize
+    ensures { result ≡ count is_comment (entries_in entries.now) }
+{
+    match entries {
+        Entries::One(entry) if is_comment(entry) => 1,
+        Entries::One(_) => 0,
+        Entries::Tasks(entries) => comments_in(entries),
+    }
+}
+
 // What the lines of a log say. Its only error is want of memory.
 fn read_lines(
     alloc: Global,
@@ -113,15 +138,15 @@ fn read_lines(
     ensures comments { IfOk result (λ l. l.comments ≡ count is_comment (entries_of mixed format (map (λ x. x.now) lines.now))) }
 {
     let mut read = Log {
-        jobs: Vec::new(alloc),
+        jobs: Vec::with_capacity(alloc, lines.len())?,
         left: Vec::new(alloc),
         facts: NO_FACTS,
         comments: 0,
     };
     let mut layout = first_layout(format);
     for (i, line) in lines.iter().enumerate() {
-        let entries = read_entries(alloc, mixed, &mut layout, i + 1, line)?;
-        read.comments += comments_in(&entries);
+        let entries = line_entries(alloc, mixed, &mut layout, i + 1, line)?;
+        read.comments += comments_of(&entries);
         add_all(&mut read, entries)?;
     }
     Ok(read)

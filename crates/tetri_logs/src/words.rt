@@ -13,13 +13,20 @@ pub(crate) fn is_separator(b: u8) -> bool
     b == b' ' || b == b'\t' || b == b'\r' || b == b';'
 }
 
+// As many words as a line of the Standard Workload Format has.
+const USUAL_COUNT: usize = 18;
+
 /// What stands between the separators of a line, where something does. Its only error is want of memory.
 pub(crate) fn words_of(alloc: Global, line: &[u8]) -> Result<Vec<&[u8]>, AllocError>
     ensures { IfOk result (λ v. map (λ x. x.now) v.items ≡ words_of line.now) }
 {
-    line.split(|b| is_separator(*b))
-        .filter(|word| !word.is_empty())
-        .collect(alloc)
+    let mut words = Vec::with_capacity(alloc, USUAL_COUNT)?;
+    let parts = line.split(|b| is_separator(*b));
+    let some = parts.filter(|part| !part.is_empty());
+    for word in some {
+        words.push(word)?;
+    }
+    Ok(words)
 }
 
 /// A word by its place, or nothing.

@@ -1,6 +1,6 @@
 use Rattle.std.proofs.Common.{◌≡◌, ◌++◌}
 use Rattle.tetri_logs.specs.Reading.{facts_in, jobs_in, left_in}
-use Rattle.tetri_logs.proofs.reading.add_all.Given as goal
+use Rattle.tetri_logs.proofs.reading.add_tasks.Given as goal
 
 abbrev pub invariant-loop-entry : goal.invariant-loop-entry
 invariant-loop-entry l = record {
