@@ -12,7 +12,9 @@ use crate::taking::take_all;
 use crate::text::trace_text;
 use std::alloc::{AllocError, Global};
 use tetri_cluster::NodeText;
-use tetri_logs::{Format, Log, OptionFault, Options, Reject, begun, gap_of, read_log, settings_of};
+use tetri_logs::{
+    Format, Log, OptionFault, Options, Reject, begun, early_fault, gap_of, read_log, settings_of,
+};
 
 /// Why a log is not imported.
 #[derive(Clone, Copy, Debug, PartialEq, Eq)]
@@ -131,5 +133,8 @@ pub fn import(
     ensures refused { IfErr result (IsRefused (entries (are_mixed nodes.now) format log.now) nodes.now (fitted nodes.now options.now)) }
 {
     let options = fitted(options, nodes);
+    if let Some(fault) = early_fault(&options) {
+        return Err(ImportFault::Options(fault));
+    }
     import_on(alloc, format, &options, nodes, log)
 }

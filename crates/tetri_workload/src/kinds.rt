@@ -7,7 +7,7 @@ use std::alloc::{AllocError, Global};
 use tetri_base::Items;
 use tetri_cluster::{NameList, NameTable, NodeSet, NodeText};
 use tetri_io::parts_at;
-use tetri_logs::{Account, LoggedJob, Options};
+use tetri_logs::{LoggedJob, Options};
 
 // The nodes that a trace has at most.
 const MOST_NODES: usize = 4096;
@@ -154,41 +154,22 @@ impl Kinds {
         Ok(self.nodes_of(number).as_slice().len())
     }
 
-    // A job with how many nodes are in its set.
-    fn settle_one(
-        &mut self,
-        alloc: Global,
-        nodes: &[NodeText],
-        job: LoggedJob,
-    ) -> Result<LoggedJob, AllocError>
-        requires { AreKnown nodes.now self.old }
-        ensures known { OnOk result (AreKnown nodes.now self.new) }
-        ensures job { IfOk result (λ settled_job. settled_job ≡ settled nodes.now job) }
-    {
-        let room = self.room(alloc, nodes, job.set.text().as_bytes())?;
-        let account = Account {
-            room: Some(room),
-            ..job.account
-        };
-        Ok(LoggedJob { account, ..job })
-    }
-
     // Each job with how many nodes are in its set.
     fn settle_each(
         &mut self,
         alloc: Global,
         nodes: &[NodeText],
-        jobs: Vec<LoggedJob>,
+        mut jobs: Vec<LoggedJob>,
     ) -> Result<Vec<LoggedJob>, AllocError>
         requires { AreKnown nodes.now self.old }
         ensures known { OnOk result (AreKnown nodes.now self.new) }
         ensures jobs { IfOk result (λ all. all.items ≡ map (settled nodes.now) jobs.items) }
     {
-        let mut all = Vec::new(alloc);
-        for job in jobs {
-            all.push(self.settle_one(alloc, nodes, job)?)?;
+        for i in 0..jobs.len() {
+            let room = self.room(alloc, nodes, jobs[i].set.text().as_bytes())?;
+            jobs[i].account.room = Some(room);
         }
-        Ok(all)
+        Ok(jobs)
     }
 
     /// Each job with how many nodes are in its set, where nodes differ. Its only error is want of memory.
