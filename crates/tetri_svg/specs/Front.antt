@@ -8,9 +8,12 @@ use Rattle.tetri_svg.specs.declared.clock.Clock.{Clock}
 use Rattle.tetri_svg.specs.declared.clock.Date.{Date}
 use Rattle.tetri_svg.specs.Sizes.{base_of, bottom_of, height_of, last_of, queue_base_of, right_of, stride_for, text_y, use_base_of, width_of, x_of}
 
--- the first element, whose end is the end of the picture
+-- the first element of a picture of this size, whose end is the end of the picture
+abbrev pub sized_text : ℕ → ℕ → List ℕ
+sized_text width height = svg_text ++ size_text width height ++ view_text width height ++ font_text
+
 abbrev pub opening_text : Layout → List ℕ
-opening_text f = svg_text ++ size_text (width_of f) (height_of f) ++ view_text (width_of f) (height_of f) ++ font_text
+opening_text f = sized_text (width_of f) (height_of f)
 
 -- the picture shows all of so many slots
 abbrev pub is_whole : Layout → ℕ → Bool

@@ -9,3 +9,4 @@ pub mod Front
 pub mod Back
 pub mod Strips
 pub mod Style
+pub mod Sheet

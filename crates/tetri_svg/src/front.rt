@@ -1,6 +1,6 @@
 // What stands in a picture before the bars: its size, the heading, the names of nodes and the axis.
 ghost use Rattle.std.specs.Prelude.{◌≡◌, ◌<◌, ◌++◌, OnOk, string_bytes};
-ghost use Rattle.tetri_svg.specs.Front.{axis_text, clock_text, heading_text, is_dated, is_whole, lines_text, name_text, opening_text, stride_of, tick_at, tick_text, ticks_text, words_at, words_text};
+ghost use Rattle.tetri_svg.specs.Front.{axis_text, clock_text, heading_text, is_dated, is_whole, lines_text, name_text, opening_text, sized_text, stride_of, tick_at, tick_text, ticks_text, words_at, words_text};
 
 use crate::clock::{Clock, date_of, day_of, minute_of, time_of};
 use crate::frame::Frame;
@@ -11,15 +11,21 @@ use crate::plain::{
 use crate::sizes::{last_of, stride_for};
 use std::alloc::AllocError;
 
-/// Adds the first element, whose end is the end of the picture.
-pub fn add_opening(out: &mut String, frame: &Frame) -> Result<(), AllocError>
-    ensures { OnOk result (string_bytes out.new ≡ string_bytes out.old ++ opening_text frame.now) }
+/// Adds the first element of a picture of this size, whose end is the end of the picture.
+pub(crate) fn add_sized(out: &mut String, width: u64, height: u64) -> Result<(), AllocError>
+    ensures { OnOk result (string_bytes out.new ≡ string_bytes out.old ++ sized_text width height) }
 {
-    let (width, height) = (frame.width(), frame.height());
     add_svg(out)?;
     add_size(out, width, height)?;
     add_view(out, width, height)?;
     add_font(out)
+}
+
+/// Adds the first element, whose end is the end of the picture.
+pub fn add_opening(out: &mut String, frame: &Frame) -> Result<(), AllocError>
+    ensures { OnOk result (string_bytes out.new ≡ string_bytes out.old ++ opening_text frame.now) }
+{
+    add_sized(out, frame.width(), frame.height())
 }
 
 // Whether the picture shows all of so many slots.
