@@ -1,10 +1,11 @@
 -- What drawing says of a report that is checked.
 use Rattle.std.proofs.Common.{◌≡◌, ◌⊎◌, ℕ, List, [], refl, sym, ◌∙◌, subst, inl, inr, arith}
 use Rattle.std.specs.Prelude.{Option, Result, Ok}
-use Rattle.tetri_chart.specs.Charted.{IsChartPromised, IsDrawn, IsDrawnOf}
+use Rattle.tetri_chart.specs.Charted.{IsChartPromised, IsDrawn, IsDrawnOf, IsTextDrawn, TellsRun, picture_in}
 use Rattle.tetri_chart.specs.Gathered.{IsTaken, picture_with}
 use Rattle.tetri_chart.specs.Picture.{Picture, picture_of}
 use Rattle.tetri_chart.specs.Slots.{HasSlots}
+use Rattle.tetri_chart.specs.Svg.{svg_text}
 use Rattle.tetri_chart.specs.declared.gathering.Gathering.{Gathering}
 use Rattle.tetri_chart.specs.declared.view.View.{View}
 use Rattle.tetri_chart.proofs.GatherLemmas.{behind_now, seen_shows}
@@ -38,6 +39,11 @@ module _ (t : Scenario) (report : List ℕ) (cycle : Option ℕ) (v : View) (fir
   unfolding accepted last_state
   gathered = sym (seen_shows t (opening_state t) (in_order accepted.past) first last seen.observed) ∙ none t (in_order accepted.past)
 
+  -- the report is accepted, and what was gathered shows the pieces of its run
+  pub gathered_of : (a : IsAccepted t report) × (TellsRun t report cycle a × ((s : Snapshot) × ((s.now ≡ t.header.until) × (picture_with t s last [] ≡ picture_in t report cycle a))))
+  unfolding accepted last_state
+  gathered_of = (accepted, (tells_pieces t (in_order accepted.past), (last_state, (last_now, gathered))))
+
   pub drawn_of : (status : Status) (before after : Option (List ℕ)) → ((s : Snapshot) → s.now ≡ t.header.until → IsDrawn t v (picture_with t s last []) status before after) →
       IsDrawnOf cycle v status t report before after
   unfolding accepted last_state
@@ -67,29 +73,57 @@ halted_promised cycle v (BadTrace line why) trace report before halted = (halted
 halted_promised cycle v NoMemory trace report before halted = inl refl
 
 -- a check that accepts no report, and ends so that only memory was wanting
+pub wants_memory : (status : Status) → IsHalt status → (status ≡ Done) ⊎ (status ≡ NoMemory) → status ≡ NoMemory
+wants_memory status halts (inl done) = absurd (subst IsHalt done halts)
+wants_memory status halts (inr memory) = memory
+
 pub only_memory : (status : Status) → IsHalt status → (status ≡ Done) ⊎ (status ≡ NoMemory) → (status ≡ Usage) ⊎ (status ≡ NoMemory)
-only_memory status halts (inl done) = absurd (subst IsHalt done halts)
-only_memory status halts (inr memory) = inr memory
+only_memory status halts ends = inr (wants_memory status halts ends)
+
+-- what drawing a text ends with
+module _ (Has : Type 0) (text : List ℕ) (before after : Option (List ℕ)) where
+  pub text_where_asked : (status : Status) → IsTextDrawn Has text status before after → Has → (status ≡ WriteFault → ⊥) → (status ≡ Done) ⊎ (status ≡ NoMemory)
+  text_where_asked Done drawn has write = inl refl
+  text_where_asked (Refused line why) drawn has write = absurd drawn
+  text_where_asked Usage drawn has write = absurd (drawn.0 has)
+  text_where_asked ReadFault drawn has write = absurd drawn
+  text_where_asked WriteFault drawn has write = absurd (write refl)
+  text_where_asked (BadTrace line why) drawn has write = absurd drawn
+  text_where_asked NoMemory drawn has write = inr refl
+
+  pub text_usage : (status : Status) → IsTextDrawn Has text status before after → (Has → ⊥) → (status ≡ Usage) ⊎ (status ≡ NoMemory)
+  text_usage Done drawn lacks = absurd (lacks drawn.0)
+  text_usage (Refused line why) drawn lacks = absurd drawn
+  text_usage Usage drawn lacks = inl refl
+  text_usage ReadFault drawn lacks = absurd drawn
+  text_usage WriteFault drawn lacks = absurd (lacks drawn.0)
+  text_usage (BadTrace line why) drawn lacks = absurd drawn
+  text_usage NoMemory drawn lacks = inr refl
+
+  pub text_never_bad : (status : Status) → IsTextDrawn Has text status before after → (line : ℕ) (why : TraceWhy) → status ≡ BadTrace line why → ⊥
+  text_never_bad status drawn line why is = subst (λ (u : Status). IsTextDrawn Has text u before after) is drawn
+
+  pub text_silent : (status : Status) → IsTextDrawn Has text status before after → (status ≡ Done → ⊥) → (status ≡ WriteFault → ⊥) → (status ≡ NoMemory → ⊥) → after ≡ before
+  text_silent Done drawn done write memory = absurd (done refl)
+  text_silent (Refused line why) drawn done write memory = absurd drawn
+  text_silent Usage drawn done write memory = drawn.1
+  text_silent ReadFault drawn done write memory = absurd drawn
+  text_silent WriteFault drawn done write memory = absurd (write refl)
+  text_silent (BadTrace line why) drawn done write memory = absurd drawn
+  text_silent NoMemory drawn done write memory = absurd (memory refl)
+
+  pub text_never_read : (status : Status) → IsTextDrawn Has text status before after → status ≡ ReadFault → ⊥
+  text_never_read status drawn is = subst (λ (u : Status). IsTextDrawn Has text u before after) is drawn
 
 -- what drawing an accepted report ends with, by whether its run has what is asked for, and whether a write failed
 module _ (cycle : Option ℕ) (v : View) (t : Scenario) (report : List ℕ) (before after : Option (List ℕ)) where
   pub drawn_where_asked : (status : Status) → IsDrawnOf cycle v status t report before after → HasSlots t cycle v → (status ≡ WriteFault → ⊥) → (status ≡ Done) ⊎ (status ≡ NoMemory)
-  drawn_where_asked Done drawn has write = inl refl
-  drawn_where_asked (Refused line why) drawn has write = absurd drawn.1.1
-  drawn_where_asked Usage drawn has write = absurd (drawn.1.1.0 has)
-  drawn_where_asked ReadFault drawn has write = absurd drawn.1.1
-  drawn_where_asked WriteFault drawn has write = absurd (write refl)
-  drawn_where_asked (BadTrace line why) drawn has write = absurd drawn.1.1
-  drawn_where_asked NoMemory drawn has write = inr refl
+  drawn_where_asked status drawn has write =
+      text_where_asked (HasSlots t cycle v) (svg_text t v (picture_in t report cycle drawn.0)) before after status drawn.1.1 has write
 
   pub usage_where_not : (status : Status) → IsDrawnOf cycle v status t report before after → (HasSlots t cycle v → ⊥) → (status ≡ Usage) ⊎ (status ≡ NoMemory)
-  usage_where_not Done drawn lacks = absurd (lacks drawn.1.1.0)
-  usage_where_not (Refused line why) drawn lacks = absurd drawn.1.1
-  usage_where_not Usage drawn lacks = inl refl
-  usage_where_not ReadFault drawn lacks = absurd drawn.1.1
-  usage_where_not WriteFault drawn lacks = absurd (lacks drawn.1.1.0)
-  usage_where_not (BadTrace line why) drawn lacks = absurd drawn.1.1
-  usage_where_not NoMemory drawn lacks = inr refl
+  usage_where_not status drawn lacks =
+      text_usage (HasSlots t cycle v) (svg_text t v (picture_in t report cycle drawn.0)) before after status drawn.1.1 lacks
 
 -- what every drawing ends with
 module _ (t : Scenario) (v : View) (last : Gathering) (before after : Option (List ℕ)) where
@@ -101,16 +135,10 @@ module _ (t : Scenario) (v : View) (last : Gathering) (before after : Option (Li
       (picture_with t s last [], drawn s refl)
 
   pub never_bad : (status : Status) → (p : Picture) × IsDrawn t v p status before after → (line : ℕ) (why : TraceWhy) → status ≡ BadTrace line why → ⊥
-  never_bad status drawn line why is = subst (λ (u : Status). IsDrawn t v drawn.0 u before after) is drawn.1
+  never_bad status drawn = text_never_bad (HasSlots t drawn.0.asked v) (svg_text t v drawn.0) before after status drawn.1
 
   pub never_read : (status : Status) → (p : Picture) × IsDrawn t v p status before after → status ≡ ReadFault → ⊥
-  never_read status drawn is = subst (λ (u : Status). IsDrawn t v drawn.0 u before after) is drawn.1
+  never_read status drawn = text_never_read (HasSlots t drawn.0.asked v) (svg_text t v drawn.0) before after status drawn.1
 
   pub silent : (status : Status) → (p : Picture) × IsDrawn t v p status before after → (status ≡ Done → ⊥) → (status ≡ WriteFault → ⊥) → (status ≡ NoMemory → ⊥) → after ≡ before
-  silent Done drawn done write memory = absurd (done refl)
-  silent (Refused line why) drawn done write memory = absurd drawn.1
-  silent Usage drawn done write memory = drawn.1.1
-  silent ReadFault drawn done write memory = absurd drawn.1
-  silent WriteFault drawn done write memory = absurd (write refl)
-  silent (BadTrace line why) drawn done write memory = absurd drawn.1
-  silent NoMemory drawn done write memory = absurd (memory refl)
+  silent status drawn = text_silent (HasSlots t drawn.0.asked v) (svg_text t v drawn.0) before after status drawn.1

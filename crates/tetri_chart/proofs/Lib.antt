@@ -4,10 +4,13 @@ pub mod FramingLemmas
 pub mod FromLemmas
 pub mod GatherLemmas
 pub mod MarkLemmas
+pub mod PairLemmas
 pub mod PartLemmas
 pub mod SameRunLemmas
 pub mod SearchLemmas
 pub mod ShadeLemmas
+pub mod ShareLemmas
+pub mod SheetLemmas
 pub mod SlotLemmas
 pub mod SpanLaws
 pub mod SpanLemmas

@@ -14,15 +14,19 @@ use Rattle.tetri_run.specs.declared.status.Status.{Status}
 use Rattle.tetri_run.specs.declared.status.Status.TheVariants.{Done, Refused, Usage, ReadFault, WriteFault, BadTrace, NoMemory}
 use Rattle.tetri_trace.specs.Scenario.{Scenario}
 
--- What drawing a picture of a run of the trace ends with, of the written bytes before and after.
+-- What drawing this text ends with, where a run has the slots that are asked for exactly if this holds, of the written bytes before and after.
+abbrev pub IsTextDrawn : Type 0 → List ℕ → Status → Option (List ℕ) → Option (List ℕ) → Type 0
+IsTextDrawn Has text Done before after = Has × (after ≡ append_known before text)
+IsTextDrawn Has text (Refused line why) before after = ⊥
+IsTextDrawn Has text Usage before after = (Has → ⊥) × (after ≡ before)
+IsTextDrawn Has text ReadFault before after = ⊥
+IsTextDrawn Has text WriteFault before after = Has × AppendsPart before after text
+IsTextDrawn Has text (BadTrace line why) before after = ⊥
+IsTextDrawn Has text NoMemory before after = (after ≡ before) ⊎ (Has × AppendsFront before after text)
+
+-- the same of a picture of a run of the trace
 abbrev pub IsDrawn : Scenario → View → Picture → Status → Option (List ℕ) → Option (List ℕ) → Type 0
-IsDrawn t v p Done before after = HasSlots t p.asked v × (after ≡ append_known before (svg_text t v p))
-IsDrawn t v p (Refused line why) before after = ⊥
-IsDrawn t v p Usage before after = (HasSlots t p.asked v → ⊥) × (after ≡ before)
-IsDrawn t v p ReadFault before after = ⊥
-IsDrawn t v p WriteFault before after = HasSlots t p.asked v × AppendsPart before after (svg_text t v p)
-IsDrawn t v p (BadTrace line why) before after = ⊥
-IsDrawn t v p NoMemory before after = (after ≡ before) ⊎ (HasSlots t p.asked v × AppendsFront before after (svg_text t v p))
+IsDrawn t v p = IsTextDrawn (HasSlots t p.asked v) (svg_text t v p)
 
 -- The picture of the run of an accepted report, with the waiting grants of this cycle, if one is named.
 abbrev pub picture_in : (t : Scenario) (report : List ℕ) → Option ℕ → IsAccepted t report → Picture

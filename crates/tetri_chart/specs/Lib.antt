@@ -13,3 +13,5 @@ pub mod Svg
 pub mod SameRuns
 pub mod RunSpans
 pub mod Charted
+pub mod Pair
+pub mod PairCharted

@@ -1,11 +1,13 @@
 // Which slots of a run a picture shows.
 ghost use Rattle.std.specs.Prelude.{◌≡◌, ◌≤◌, ◌+◌};
+ghost use Rattle.tetri_chart.specs.Pair.{shared_view};
 ghost use Rattle.tetri_chart.specs.Slots.{asked_end, end_of, first_of, has_slots, is_ordered, is_within, last_end, last_wait, wanted_end};
 ghost use Rattle.tetri_trace.specs.Scenario.{scenario};
 ghost use Rattle.tetri_trace.specs.Sound.{IsSound};
 
 use crate::picture::{Chart, Span, Wait};
 use crate::view::View;
+use tetri_svg::last_of;
 use tetri_trace::Trace;
 
 // Whether a run of so many slots has this slot, where one is named.
@@ -99,4 +101,19 @@ pub(crate) fn shown(trace: &Trace, chart: &Chart, view: &View) -> (u32, u32)
     let wanted = wanted_end(chart, view.to).max(u64::from(first) + 1);
     let most = trace.header.until + trace.header.window;
     (first, wanted.min(u64::from(most)) as u32)
+}
+
+/// How the pictures of two runs are shown over the same slots: up to the later of their ends.
+pub(crate) fn shared_view(trace: &Trace, first: &Chart, second: &Chart, view: View) -> View
+    requires { IsSound (scenario trace.now) }
+    ensures { result ≡ shared_view (scenario trace.entry.now) view first.now second.now }
+{
+    let (_, one) = shown(trace, first, &view);
+    let (_, other) = shown(trace, second, &view);
+    View {
+        from: view.from,
+        to: Some(last_of(one.max(other))),
+        clock: view.clock,
+        colours: view.colours,
+    }
 }
