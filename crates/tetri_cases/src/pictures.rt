@@ -1,7 +1,7 @@
 // Pictures of reports that are accepted, and answers to those that are not, with their traces in the folder that the program runs in.
 use std::alloc::Global;
 use std::io;
-use tetri_chart::{Colours, View, chart, clock_of};
+use tetri_chart::{Colours, PairStatus, View, chart, chart_pair, clock_of};
 use tetri_cluster::{Name, NameFault, NameList};
 use tetri_io::{FileShelf, StdSink};
 use tetri_run::{Status, conclude};
@@ -24,6 +24,9 @@ struct Part {
 
 // A trace, its report, the cycle whose waiting grants are shown, if one is, and how the picture shows the run.
 type Case = (&'static str, &'static str, Option<u32>, Part);
+
+// A trace, two reports of it, and how the pictures show their runs.
+type PairCase = (&'static str, &'static str, &'static str, Part);
 
 const ALL: Part = Part {
     from: None,
@@ -166,6 +169,32 @@ const CASES: [Case; 24] = [
     ("none.jsonl", "all.report", None, ALL),
 ];
 
+const PAIRS: [PairCase; 5] = [
+    ("failure.jsonl", "failure.report", "lucky.report", ALL),
+    (
+        "failure.jsonl",
+        "lucky.report",
+        "failure.report",
+        Part {
+            from: Some(1),
+            to: None,
+            by: By::Class,
+        },
+    ),
+    (
+        "failure.jsonl",
+        "failure.report",
+        "lucky.report",
+        Part {
+            from: None,
+            to: Some(5),
+            by: By::Job,
+        },
+    ),
+    ("failure.jsonl", "failure.report", "waiting.report", ALL),
+    ("failure.jsonl", "cut.report", "lucky.report", ALL),
+];
+
 // The word for what the colours tell, but for the usual.
 fn colour_word(by: By) -> Option<&'static str> {
     match by {
@@ -175,13 +204,8 @@ fn colour_word(by: By) -> Option<&'static str> {
     }
 }
 
-// Prints what a case asks for.
-fn print_case(rt: &HostRuntime, case: &Case) -> io::Result<()> {
-    let (trace, report, cycle, part) = *case;
-    print!(rt; "== {trace} {report}")?;
-    if let Some(cycle) = cycle {
-        print!(rt; " --cycle {cycle}")?;
-    }
+// Prints what is asked for of the slots and the colours, and ends the line.
+fn print_part(rt: &HostRuntime, part: Part) -> io::Result<()> {
     if let Some(from) = part.from {
         print!(rt; " --from {from}")?;
     }
@@ -192,6 +216,16 @@ fn print_case(rt: &HostRuntime, case: &Case) -> io::Result<()> {
         print!(rt; " --colour {word}")?;
     }
     println!(rt; "")
+}
+
+// Prints what a case asks for.
+fn print_case(rt: &HostRuntime, case: &Case) -> io::Result<()> {
+    let (trace, report, cycle, part) = *case;
+    print!(rt; "== {trace} {report}")?;
+    if let Some(cycle) = cycle {
+        print!(rt; " --cycle {cycle}")?;
+    }
+    print_part(rt, part)
 }
 
 // The tags as names.
@@ -212,19 +246,28 @@ fn colours_of(alloc: Global, by: By) -> Result<Colours, NameFault> {
     }
 }
 
+// How a trace's run is shown.
+fn view_of(
+    rt: &HostRuntime,
+    shelf: &mut FileShelf<'_, HostRuntime>,
+    trace: &str,
+    part: Part,
+) -> Result<View, NameFault> {
+    Ok(View {
+        from: part.from,
+        to: part.to,
+        clock: clock_of(rt.alloc(), shelf, trace),
+        colours: colours_of(rt.alloc(), part.by)?,
+    })
+}
+
 // Draws a report, and prints how the call ended.
 fn try_case(rt: &HostRuntime, case: &Case) -> io::Result<()> {
     print_case(rt, case)?;
     let (trace, report, cycle, part) = *case;
     let mut shelf = FileShelf::new(rt);
-    let Ok(colours) = colours_of(rt.alloc(), part.by) else {
+    let Ok(view) = view_of(rt, &mut shelf, trace, part) else {
         return println!(rt; "no such names");
-    };
-    let view = View {
-        from: part.from,
-        to: part.to,
-        clock: clock_of(rt.alloc(), &mut shelf, trace),
-        colours,
     };
     let mut sink = StdSink::new(rt.stdout());
     let status = chart(
@@ -243,10 +286,52 @@ fn try_case(rt: &HostRuntime, case: &Case) -> io::Result<()> {
     println!(rt; "{number}")
 }
 
-/// Draws the report of each case, and prints how each call ended.
+// Prints which check ended so, or how drawing both did.
+fn print_end(rt: &HostRuntime, status: PairStatus) -> io::Result<()> {
+    let mut sink = StdSink::new(rt.stdout());
+    let (whose, status) = match status {
+        PairStatus::First(status) => ("first ", status),
+        PairStatus::Second(status) => ("second ", status),
+        PairStatus::Both(status) => ("", status),
+    };
+    if let Status::Usage = status {
+        return println!(rt; "no such cycle or slots");
+    }
+    print!(rt; "{whose}")?;
+    let number = conclude(rt.alloc(), &status, &mut sink);
+    println!(rt; "{number}")
+}
+
+// Draws two reports, and prints how the call ended.
+fn try_pair(rt: &HostRuntime, case: &PairCase) -> io::Result<()> {
+    let (trace, first, second, part) = *case;
+    print!(rt; "== {trace} {first} {second}")?;
+    print_part(rt, part)?;
+    let mut shelf = FileShelf::new(rt);
+    let Ok(view) = view_of(rt, &mut shelf, trace, part) else {
+        return println!(rt; "no such names");
+    };
+    let mut sink = StdSink::new(rt.stdout());
+    let status = chart_pair(
+        rt.alloc(),
+        trace,
+        first,
+        second,
+        None,
+        view,
+        &mut shelf,
+        &mut sink,
+    );
+    print_end(rt, status)
+}
+
+/// Draws the reports of each case, and prints how each call ended.
 pub fn draw_all(rt: &HostRuntime) -> io::Result<()> {
     for case in &CASES {
         try_case(rt, case)?;
+    }
+    for case in &PAIRS {
+        try_pair(rt, case)?;
     }
     Ok(())
 }

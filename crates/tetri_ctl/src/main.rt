@@ -59,13 +59,25 @@ fn command<'a>(alloc: Global) -> Result<Command<'a>, AllocError> {
         .subcommand(orders::command(alloc)?)
 }
 
+// Whether the word of this name stands for standard input.
+fn is_input(words: &ArgMatches<'_>, name: &str) -> bool {
+    words.get_str(name) == Some("-")
+}
+
+// Whether two of the files that are named are standard input.
+fn is_input_named_twice(words: &ArgMatches<'_>) -> bool {
+    let trace = is_input(words, "TRACE");
+    let report = is_input(words, "REPORT");
+    let second = is_input(words, "REPORT2");
+    (trace && report) || (trace && second) || (report && second)
+}
+
 // What the words are read as. Standard input is named once at most.
 fn read_words<'a>(alloc: Global, words: &'a [String]) -> Result<ArgMatches<'a>, Error> {
     let mut command = command(alloc)?;
     let matches = command.try_get_matches_from_mut(words)?;
     if let Some((_, inner)) = matches.subcommand()
-        && inner.get_str("TRACE") == Some("-")
-        && inner.get_str("REPORT") == Some("-")
+        && is_input_named_twice(inner)
     {
         let twice = "standard input, '-', is named twice";
         return Err(command.error(ErrorKind::ArgumentConflict, twice)?);
