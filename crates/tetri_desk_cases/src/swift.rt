@@ -130,7 +130,11 @@ fn by_swift(alloc: Global, bytes: usize) -> Result<BySwift<Box<dyn Advisor>>, Al
 }
 
 // The plans of a trace, and whether their report is accepted.
-fn run_in<C: Chooser>(alloc: Global, content: &str, chooser: C) -> Result<String, AllocError> {
+fn run_in<C: Chooser + Drop>(
+    alloc: Global,
+    content: &str,
+    chooser: C,
+) -> Result<String, AllocError> {
     let mut shelf = MemShelf::new(alloc, 4000, &[])?;
     shelf.put("trace", content.as_bytes())?;
     let mut sink = MemSink::new(alloc, 4000, 4_000_000, &[])?;
