@@ -118,17 +118,6 @@ fn optimal_in(report: &str) -> &str {
     }
 }
 
-// Plans by a swift search, with the two shipped advisors.
-fn by_swift(alloc: Global, bytes: usize) -> Result<BySwift<Box<dyn Advisor>>, AllocError> {
-    let by_deadline: Box<dyn Advisor> = Box::new(alloc, ByDeadline::new())?;
-    let by_worth: Box<dyn Advisor> = Box::new(alloc, ByWorth::new())?;
-    let mut panel = Panel::new(alloc);
-    if panel.seat(by_deadline).is_err() || panel.seat(by_worth).is_err() {
-        return Err(AllocError);
-    }
-    Ok(BySwift::new(panel, bytes))
-}
-
 // The plans of a trace, and whether their report is accepted.
 fn run_in<C: Chooser + Drop>(
     alloc: Global,
@@ -152,14 +141,20 @@ fn run_in<C: Chooser + Drop>(
     format!(in alloc; "accepted, optimal={optimal}")
 }
 
-// A row of runs.
+// A row of runs by a swift search, with the two shipped advisors.
 fn run_row(
     alloc: Global,
     content: &str,
     bytes: usize,
     is_moved: bool,
 ) -> Result<String, AllocError> {
-    let chooser = by_swift(alloc, bytes)?;
+    let by_deadline: Box<dyn Advisor> = Box::new(alloc, ByDeadline::new())?;
+    let by_worth: Box<dyn Advisor> = Box::new(alloc, ByWorth::new())?;
+    let mut panel = Panel::new(alloc);
+    if panel.seat(by_deadline).is_err() || panel.seat(by_worth).is_err() {
+        return Err(AllocError);
+    }
+    let chooser = BySwift::new(panel, bytes);
     if is_moved {
         run_in(alloc, content, Sooner::new(chooser))
     } else {
