@@ -1,3 +1,6 @@
 mod ReadingLemmas
 mod CommentLemmas
 mod EarlyLemmas
+mod WordLemmas
+mod LineLemmas
+mod GapLemmas

@@ -7,8 +7,7 @@ ghost use Rattle.tetri_logs.specs.Placing.{IsPlaced};
 ghost use Rattle.tetri_workload.specs.Taking.{again, again_mark, again_name, end_of, is_second, kept, left_out, named, nothing_taken, rounded_of, so_far, taken, taken_all, with_logged};
 
 use std::alloc::{AllocError, Global};
-use tetri_cluster::{Name, NameFault};
-use tetri_logs::{Cause, LoggedJob, Placing, Reject, SetText, Settings, place};
+use tetri_logs::{Cause, JobName, LoggedJob, Placing, Reject, SetText, Settings, place};
 use tetri_trace::{Event, Happening, Job, Jobs, Work};
 
 /// The jobs that are taken, with what happens to each, and why others are not.
@@ -72,18 +71,20 @@ impl Taken {
     // A job that is taken.
     fn take(
         &mut self,
+        alloc: Global,
         line: usize,
         submit: u32,
-        name: Name,
+        name: JobName<'_>,
         set: SetText,
         placing: &Placing,
     ) -> Result<(), AllocError>
         requires few { length self.old.jobs < 100000 }
         requires new { is_among name (job_names (map submission self.old.jobs)) ≡ false }
         requires placed { IsPlaced placing.now }
-        ensures { OnOk result (so_far self.new ≡ taken (so_far self.old) line submit name set placing.now) }
+        ensures { OnOk result (so_far self.new ≡ taken (so_far self.old) line submit name.entry set placing.now) }
     {
         let number = self.jobs.len() as u32;
+        let name = name.owned(alloc)?;
         self.jobs.push(Job {
             name,
             arrival: placing.arrival,
@@ -109,16 +110,17 @@ impl Taken {
     // A job that is taken unless so many are there as are wanted or possible.
     fn keep(
         &mut self,
+        alloc: Global,
         settings: &Settings,
         line: usize,
         submit: u32,
-        name: Name,
+        name: JobName<'_>,
         set: SetText,
         placing: &Placing,
     ) -> Result<(), AllocError>
         requires new { is_among name (job_names (map submission self.old.jobs)) ≡ false }
         requires placed { IsPlaced placing.now }
-        ensures { OnOk result (so_far self.new ≡ kept settings.now (so_far self.old) line submit name set placing.now) }
+        ensures { OnOk result (so_far self.new ≡ kept settings.now (so_far self.old) line submit name.entry set placing.now) }
     {
         if settings.most as usize <= self.jobs.len() {
             return self.leave(line, Cause::Outside);
@@ -126,7 +128,7 @@ impl Taken {
         if MOST_JOBS <= self.jobs.len() {
             return self.leave(line, Cause::Beyond);
         }
-        self.take(line, submit, name, set, placing)
+        self.take(alloc, line, submit, name, set, placing)
     }
 
     // A job that was submitted again, under this name.
@@ -136,22 +138,20 @@ impl Taken {
         settings: &Settings,
         line: usize,
         submit: u32,
-        name: &str,
+        name: &[u8],
         set: SetText,
         placing: &Placing,
     ) -> Result<(), AllocError>
         requires { IsPlaced placing.now }
         ensures { OnOk result (so_far self.new ≡ again settings.now (so_far self.old) line submit name.now set placing.now) }
     {
-        let name = match Name::read(alloc, name.as_bytes()) {
-            Ok(name) => name,
-            Err(NameFault::NotName) => return self.leave(line, Cause::Beyond),
-            Err(NameFault::NoMemory) => return Err(AllocError),
+        let Some(name) = JobName::lent(name) else {
+            return self.leave(line, Cause::Beyond);
         };
         if self.jobs.find(name.bytes()).is_some() {
             return self.leave(line, Cause::Repeated);
         }
-        self.keep(settings, line, submit, name, set, placing)
+        self.keep(alloc, settings, line, submit, name, set, placing)
     }
 
     // Whether a job was submitted in this second.
@@ -169,11 +169,11 @@ impl Taken {
         &mut self,
         alloc: Global,
         settings: &Settings,
-        job: LoggedJob,
+        job: LoggedJob<'_>,
         placing: &Placing,
     ) -> Result<(), AllocError>
         requires { IsPlaced placing.now }
-        ensures { OnOk result (so_far self.new ≡ named settings.now (so_far self.old) job.line job.account.submit job.name job.set placing.now (number_of job.name (job_names (map submission self.old.jobs)))) }
+        ensures { OnOk result (so_far self.new ≡ named settings.now (so_far self.old) job.entry.line job.entry.account.submit job.entry.name job.entry.set placing.now (number_of job.entry.name (job_names (map submission self.old.jobs)))) }
     {
         let LoggedJob {
             line,
@@ -183,21 +183,26 @@ impl Taken {
         } = job;
         let submit = account.submit;
         match self.jobs.find(name.bytes()) {
-            None => self.keep(settings, line, submit, name, set, placing),
+            None => self.keep(alloc, settings, line, submit, name, set, placing),
             Some(number) => {
                 if self.is_second(number, submit) {
                     return self.leave(line, Cause::Repeated);
                 }
-                let again = again_name(alloc, name.text(), submit)?;
-                self.add_again(alloc, settings, line, submit, again.as_str(), set, placing)
+                let again = again_name(alloc, name.bytes(), submit)?;
+                self.add_again(alloc, settings, line, submit, &again, set, placing)
             }
         }
     }
 
     // A job of the log, after those that were submitted before it.
-    fn add(&mut self, alloc: Global, settings: &Settings, job: LoggedJob) -> Result<(), AllocError>
+    fn add(
+        &mut self,
+        alloc: Global,
+        settings: &Settings,
+        job: LoggedJob<'_>,
+    ) -> Result<(), AllocError>
         requires { AreGood settings.now }
-        ensures { OnOk result (so_far self.new ≡ with_logged settings.now (so_far self.old) job) }
+        ensures { OnOk result (so_far self.new ≡ with_logged settings.now (so_far self.old) job.entry) }
     {
         match place(settings, job.account) {
             Ok(placing) => self.add_placed(alloc, settings, job, &placing),
@@ -217,18 +222,19 @@ fn add_rounded(rounded: &mut Vec<usize>, line: usize, placing: &Placing) -> Resu
 }
 
 // The mark of a job that was submitted again: when that was.
-fn add_mark(text: &mut String, submit: u32) -> Result<(), AllocError>
-    ensures { OnOk result (string_bytes text.new ≡ string_bytes text.old ++ again_mark submit) }
+fn mark_of(alloc: Global, submit: u32) -> Result<String, AllocError>
+    ensures { IfOk result (λ text. string_bytes text ≡ again_mark submit) }
 {
-    write!(text, ":{submit}")
+    format!(in alloc; ":{submit}")
 }
 
 // What a job is called that was submitted again: its name, and when that was.
-fn again_name(alloc: Global, name: &str, submit: u32) -> Result<String, AllocError>
-    ensures { IfOk result (λ text. string_bytes text ≡ again_name name.now submit) }
+fn again_name(alloc: Global, name: &[u8], submit: u32) -> Result<Vec<u8>, AllocError>
+    ensures { IfOk result (λ text. text.items ≡ again_name name.now submit) }
 {
-    let mut text = String::from_str(alloc, name)?;
-    add_mark(&mut text, submit)?;
+    let mark = mark_of(alloc, submit)?;
+    let mut text = Vec::from_slice(alloc, name)?;
+    text.extend_from_slice(mark.as_bytes())?;
     Ok(text)
 }
 
@@ -236,10 +242,10 @@ fn again_name(alloc: Global, name: &str, submit: u32) -> Result<String, AllocErr
 pub(crate) fn take_all(
     alloc: Global,
     settings: &Settings,
-    jobs: Vec<LoggedJob>,
+    jobs: Vec<LoggedJob<'_>>,
 ) -> Result<Taken, AllocError>
     requires { AreGood settings.now }
-    ensures { IfOk result (λ t. so_far t ≡ taken_all settings.now jobs.items) }
+    ensures { IfOk result (λ t. so_far t ≡ taken_all settings.now jobs.entry.items) }
 {
     let mut taken = Taken::new(alloc);
     for job in jobs {
