@@ -4,3 +4,4 @@ mod EarlyLemmas
 mod WordLemmas
 mod LineLemmas
 mod GapLemmas
+mod SeparatorLemmas

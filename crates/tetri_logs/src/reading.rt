@@ -56,6 +56,7 @@ fn with_fact(facts: Facts, fact: Option<Fact>) -> Facts
 }
 
 // With what one entry more says, but for the number of comments.
+#[inline(always)]
 fn add<'a>(log: &mut Log<'a>, found: Entry<'a>) -> Result<(), AllocError>
     ensures jobs { OnOk result (log.new.jobs.items ≡ log.old.jobs.items ++ jobs_in (found.entry ∷ [])) }
     ensures left { OnOk result (log.new.left.items ≡ log.old.left.items ++ left_in (found.entry ∷ [])) }

@@ -108,6 +108,7 @@ impl<'a> Seats<'a> {
     }
 
     /// An entry with the set of its job, where nodes differ. Its only error is want of memory.
+    #[inline(always)]
     pub(crate) fn seated(
         &mut self,
         alloc: Global,

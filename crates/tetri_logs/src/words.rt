@@ -7,11 +7,35 @@ use crate::entry::Cause;
 use std::alloc::AllocError;
 use tetri_io::digits_below;
 
+// Of each byte whether it is a separator.
+static SEPARATORS: [bool; 256] = [
+    false, false, false, false, false, false, false, false, false, true, false, false, false, true,
+    false, false, false, false, false, false, false, false, false, false, false, false, false,
+    false, false, false, false, false, true, false, false, false, false, false, false, false,
+    false, false, false, false, false, false, false, false, false, false, false, false, false,
+    false, false, false, false, false, false, true, false, false, false, false, false, false,
+    false, false, false, false, false, false, false, false, false, false, false, false, false,
+    false, false, false, false, false, false, false, false, false, false, false, false, false,
+    false, false, false, false, false, false, false, false, false, false, false, false, false,
+    false, false, false, false, false, false, false, false, false, false, false, false, false,
+    false, false, false, false, false, false, false, false, false, false, false, false, false,
+    false, false, false, false, false, false, false, false, false, false, false, false, false,
+    false, false, false, false, false, false, false, false, false, false, false, false, false,
+    false, false, false, false, false, false, false, false, false, false, false, false, false,
+    false, false, false, false, false, false, false, false, false, false, false, false, false,
+    false, false, false, false, false, false, false, false, false, false, false, false, false,
+    false, false, false, false, false, false, false, false, false, false, false, false, false,
+    false, false, false, false, false, false, false, false, false, false, false, false, false,
+    false, false, false, false, false, false, false, false, false, false, false, false, false,
+    false, false, false, false, false, false, false, false, false, false, false, false, false,
+    false, false, false, false, false, false, false, false,
+];
+
 // A space, a tab, a carriage return or the mark of a comment.
 pub(crate) fn is_separator(b: u8) -> bool
     ensures { result ≡ is_separator b }
 {
-    b == b' ' || b == b'\t' || b == b'\r' || b == b';'
+    SEPARATORS[b as usize]
 }
 
 /// Puts what stands between the separators of a line, where something does, in the place of other words. Its only error is want of memory.
