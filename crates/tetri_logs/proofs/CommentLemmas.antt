@@ -1,13 +1,13 @@
 -- A line has one comment at most.
 use Rattle.std.proofs.Common.{◌≡◌, ◌≤◌, ℕ, List, Bool, true, false, [], ◌∷◌, ◌==◌, length, map, cond, refl, ap, arith}
-use Rattle.std.specs.Prelude.{Option, Some, None, Result, Ok, Err}
+use Rattle.std.specs.Prelude.{None, Result, Ok, Err}
 use Rattle.tetri_base.specs.Lists.{bit, count}
 use Rattle.tetri_cluster.specs.Names.{is_name}
 use Rattle.tetri_logs.specs.Entry.{header_entry, ids_if, line_entries, row_entries, row_entry, swf_entry, table_entries, with_name}
 use Rattle.tetri_logs.specs.Header.{header_in, is_header}
 use Rattle.tetri_logs.specs.Reading.{is_comment}
 use Rattle.tetri_logs.specs.Sacct.{cell, id_name, row_of, sacct_account, told_cell, without_return}
-use Rattle.tetri_logs.specs.SetText.{are_features, features_of, first_partition, partition_set, seated, set_by_partition}
+use Rattle.tetri_logs.specs.SetText.{seat_of, seated, with_seat}
 use Rattle.tetri_logs.specs.declared.account.Account.{Account}
 use Rattle.tetri_logs.specs.declared.entry.Cause.{Cause}
 use Rattle.tetri_logs.specs.declared.entry.Entry.{Entry}
@@ -22,13 +22,13 @@ either : (b : Bool) (x y : Entry) → is_comment x ≡ false → is_comment y �
 either true x y p q = p
 either false x y p q = q
 
-by_partition : (job : LoggedJob) (set : Option (List ℕ)) (features : List (List ℕ)) → is_comment (set_by_partition job set features) ≡ false
-by_partition job None features = refl
-by_partition job (Some set) features = either (are_features features) _ _ refl refl
+by_seat : (job : LoggedJob) (seat : Result (List ℕ) Cause) → is_comment (with_seat job seat) ≡ false
+by_seat job (Ok set) = refl
+by_seat job (Err cause) = refl
 
 pub seated-none : (mixed : Bool) (e : Entry) (partitions constraints : List ℕ) → is_comment e ≡ false → is_comment (seated mixed e partitions constraints) ≡ false
 seated-none false e partitions constraints p = p
-seated-none true (Job job) partitions constraints p = by_partition job (partition_set (first_partition partitions)) (features_of constraints)
+seated-none true (Job job) partitions constraints p = by_seat job (seat_of partitions constraints)
 seated-none true (Comment fact) partitions constraints p = p
 seated-none true (Left reject) partitions constraints p = p
 

@@ -1,3 +1,7 @@
 mod ReadingLemmas
 mod CommentLemmas
 mod EarlyLemmas
+mod WordLemmas
+mod LineLemmas
+mod GapLemmas
+mod SeparatorLemmas

@@ -1,10 +1,10 @@
 -- What the entries of one line more add to what a log says.
-use Rattle.std.proofs.Common.{◌≡◌, ◌+◌, ◌<◌, ◌≤◌, ◌∙◌, ℕ, List, Bool, [], ◌∷◌, ◌++◌, length, map, drop, get_or, refl, ap, sym, arith, append_assoc, Bor}
+use Rattle.std.proofs.Common.{◌≡◌, ◌+◌, ◌∙◌, ℕ, List, Bool, [], ◌∷◌, ◌++◌, length, refl, ap, sym, arith, append_assoc}
 use Rattle.std.specs.Prelude.{Result, Ok, Err, IfOk}
-use Rattle.std.proofs.lemmas.List.{at_drop_all, at_drop_more}
 use Rattle.tetri_base.specs.Lists.{count}
 use Rattle.tetri_base.proofs.ListLaws.{sum_of-append}
 use Rattle.tetri_logs.specs.Entry.{layout_at, line_entries}
+use Rattle.tetri_logs.specs.Lines.{log_lines}
 use Rattle.tetri_logs.specs.declared.entry.Entry.{Entry}
 use Rattle.tetri_logs.specs.declared.entry.Entry.TheVariants.{Job, Comment, Left}
 use Rattle.tetri_logs.specs.declared.entry.LoggedJob.{LoggedJob}
@@ -56,14 +56,14 @@ pub whole : {E : Type 0} (es : List Entry) (r : Result Log E) → IfOk r (λ l. 
 whole es (Ok l) jobs left comments = omega (arith, ap length jobs, ap length left, comments, all_entries es)
 whole es (Err e) jobs left comments = tt
 
--- what is left of the lines, one line on
-pub entries_from-next : (mixed : Bool) (layout next : Layout) (n i : ℕ) (xs : List (Bor (List ℕ))) (d : Bor (List ℕ)) (es : List Entry) → i < length xs → es ≡ line_entries mixed layout n (get_or xs i d).now → next ≡ layout_at layout (get_or xs i d).now
-    → entries_from mixed layout n (map (λ x. x.now) (drop i xs)) ≡ es ++ entries_from mixed next (n + 1) (map (λ x. x.now) (drop (i + 1) xs))
-entries_from-next mixed layout next n i xs d es inside is after =
-    at_drop_more (λ zs. entries_from mixed layout n (map (λ x. x.now) zs)) xs i d inside
-    ∙ ap (λ h. h ++ entries_from mixed (layout_at layout (get_or xs i d).now) (n + 1) (map (λ x. x.now) (drop (i + 1) xs))) (sym is)
-    ∙ ap (λ l. es ++ entries_from mixed l (n + 1) (map (λ x. x.now) (drop (i + 1) xs))) (sym after)
+-- what is left of a log, one line on
+pub entries_from-next : (mixed : Bool) (layout next : Layout) (n : ℕ) (log line behind : List ℕ) (es : List Entry) → log_lines log ≡ line ∷ log_lines behind → es ≡ line_entries mixed layout n line → next ≡ layout_at layout line
+    → entries_from mixed layout n (log_lines log) ≡ es ++ entries_from mixed next (n + 1) (log_lines behind)
+entries_from-next mixed layout next n log line behind es lines is after =
+    ap (entries_from mixed layout n) lines
+    ∙ ap (λ h. h ++ entries_from mixed (layout_at layout line) (n + 1) (log_lines behind)) (sym is)
+    ∙ ap (λ l. es ++ entries_from mixed l (n + 1) (log_lines behind)) (sym after)
 
 -- behind the last line nothing is left
-pub entries_from-none : (mixed : Bool) (layout : Layout) (n i : ℕ) (xs : List (Bor (List ℕ))) → length xs ≤ i → entries_from mixed layout n (map (λ x. x.now) (drop i xs)) ≡ []
-entries_from-none mixed layout n i xs end = at_drop_all (λ zs. entries_from mixed layout n (map (λ x. x.now) zs)) xs i end
+pub entries_from-none : (mixed : Bool) (layout : Layout) (n : ℕ) (log : List ℕ) → log_lines log ≡ [] → entries_from mixed layout n (log_lines log) ≡ []
+entries_from-none mixed layout n log lines = ap (entries_from mixed layout n) lines

@@ -10,7 +10,10 @@ pub mod Limits
 pub mod Tasks
 pub mod Sacct
 pub mod Layout
+pub mod SharedText
 pub mod SetText
+pub mod Seats
+pub mod JobName
 pub mod Entry
 pub mod Reading
 pub mod Options

@@ -24,6 +24,15 @@ first_second s (job ∷ jobs) = if may_begin s job.account then moment_of s job.
 abbrev pub begun : Settings → List LoggedJob → Settings
 begun s jobs = begun_at s (first_second s jobs)
 
+-- when the last of these jobs was submitted that may begin, this second where there is none
+abbrev pub last_second : Settings → ℕ → List LoggedJob → ℕ
+last_second s second [] = second
+last_second s second (job ∷ jobs) = last_second s (if may_begin s job.account then moment_of s job.account else second) jobs
+
+-- the gap from one second to another, if it is as long as a trace
+abbrev pub gap_at : Settings → ℕ → ℕ → Option ℕ
+gap_at s last moment = if nat_le (last + 10000 * s.slot) moment then Some moment else None
+
 -- When the first job was submitted that comes too late for the trace, if it comes so long behind the one before it as a trace is long. Jobs
 -- that may not begin count for nothing; `last` is when the one before these was submitted, and slot 0 begins at `s.origin`.
 abbrev pub gap_after : Settings → ℕ → List LoggedJob → Option ℕ
@@ -31,7 +40,7 @@ gap_after s last [] = None
 gap_after s last (job ∷ jobs) =
     let moment = moment_of s job.account in
     if may_begin s job.account
-    then (if nat_lt moment (s.origin + 10000 * s.slot) then gap_after s moment jobs else (if nat_le (last + 10000 * s.slot) moment then Some moment else None))
+    then (if nat_lt moment (s.origin + 10000 * s.slot) then gap_after s moment jobs else gap_at s last moment)
     else gap_after s last jobs
 
 -- the same for all jobs, where slot 0 is known; nothing where the caller says when the wanted part begins

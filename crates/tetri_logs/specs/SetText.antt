@@ -1,8 +1,9 @@
 -- The set of nodes that a job asks for, as the text that a trace has for it: tags with & between them, and nothing where all nodes may serve.
-use Rattle.std.specs.Prelude.{ℕ, ◌==◌, Bool, true, false, List, [], ◌∷◌, ◌++◌, fold, length, take, position, Option, Some, None, if◌then◌else◌, codes}
+use Rattle.std.specs.Prelude.{ℕ, ◌==◌, Bool, true, false, List, [], ◌∷◌, ◌++◌, fold, length, take, position, Option, Some, None, Result, Ok, Err, if◌then◌else◌, codes}
 use Rattle.tetri_cluster.specs.Names.{is_name}
 use Rattle.tetri_hosts.specs.Columns.{is_feature, partition_tag}
 use Rattle.tetri_io.specs.Words.{parts_at}
+use Rattle.tetri_logs.specs.declared.entry.Cause.{Cause}
 use Rattle.tetri_logs.specs.declared.entry.Cause.TheVariants.{NoSet, Constraint}
 use Rattle.tetri_logs.specs.declared.entry.Entry.{Entry}
 use Rattle.tetri_logs.specs.declared.entry.Entry.TheVariants.{Job, Comment, Left}
@@ -35,22 +36,26 @@ abbrev pub are_features : List (List ℕ) → Bool
 are_features [] = true
 are_features (part ∷ parts) = if is_feature part then are_features parts else false
 
--- a job that asks for nodes of a set with all of these features, if they are some
-abbrev pub set_by_features : LoggedJob → List ℕ → List (List ℕ) → Entry
-set_by_features job set features =
-    if are_features features then Job (record job { set = fold with_feature set features }) else Left (record { line = job.line; cause = Constraint })
+-- those of a set's nodes that have all of these features, if they are some
+abbrev pub set_by_features : List ℕ → List (List ℕ) → Result (List ℕ) Cause
+set_by_features set features = if are_features features then Ok (fold with_feature set features) else Err Constraint
 
-abbrev pub set_by_partition : LoggedJob → Option (List ℕ) → List (List ℕ) → Entry
-set_by_partition job None features = Left (record { line = job.line; cause = NoSet })
-set_by_partition job (Some set) features = set_by_features job set features
+abbrev pub set_by_partition : Option (List ℕ) → List (List ℕ) → Result (List ℕ) Cause
+set_by_partition None features = Err NoSet
+set_by_partition (Some set) features = set_by_features set features
 
--- a job with the set that its partitions and constraints say
-abbrev pub with_set : LoggedJob → List ℕ → List ℕ → Entry
-with_set job partitions constraints = set_by_partition job (partition_set (first_partition partitions)) (features_of constraints)
+-- the set that partitions and constraints say, or why there is none
+abbrev pub seat_of : List ℕ → List ℕ → Result (List ℕ) Cause
+seat_of partitions constraints = set_by_partition (partition_set (first_partition partitions)) (features_of constraints)
+
+-- a job with this set, or left out
+abbrev pub with_seat : LoggedJob → Result (List ℕ) Cause → Entry
+with_seat job (Ok set) = Job (record job { set = set })
+with_seat job (Err cause) = Left (record { line = job.line; cause = cause })
 
 -- an entry with the set of its job, where nodes differ
 abbrev pub seated : Bool → Entry → List ℕ → List ℕ → Entry
 seated false entry partitions constraints = entry
-seated true (Job job) partitions constraints = with_set job partitions constraints
+seated true (Job job) partitions constraints = with_seat job (seat_of partitions constraints)
 seated true (Comment fact) partitions constraints = Comment fact
 seated true (Left reject) partitions constraints = Left reject

@@ -18,7 +18,7 @@ pub struct Account {
     /// How long it waited until it was cancelled, if it never ran.
     pub waited: Option<u32>,
     /// How many nodes are in its set, where these may not be all.
-    pub room: Option<usize>,
+    pub room: Option<u32>,
 }
 
 /// The columns from which an account is made.

@@ -1,14 +1,17 @@
 // What a line of a log is.
 ghost use Rattle.std.specs.Prelude.{◌≡◌, ◌∷◌, [], IfOk, OnOk, map, unwrap_or};
 ghost use Rattle.tetri_logs.specs.Entry.{entries_in, header_at, header_entry, ids_if, layout_at, line_entries, row_entries, row_entry, swf_entry, table_entries, with_name};
-ghost use Rattle.tetri_logs.specs.Sacct.{id_name};
+ghost use Rattle.tetri_logs.specs.Sacct.{id_name, told_cell};
+ghost use Rattle.tetri_logs.specs.SetText.{seated};
 
 use crate::account::Account;
 use crate::comments::{Fact, fact_in};
 use crate::header::{Header, header_in, is_header};
+use crate::job_name::JobName;
 use crate::layout::Layout;
 use crate::sacct::{cell, pointed_id, row_of, sacct_account, told_cell, without_return};
-use crate::set_text::{SetText, seated};
+use crate::seats::Seats;
+use crate::set_text::SetText;
 use crate::swf::{is_comment, swf_account, swf_partition};
 use crate::tasks::{Ids, task_ids};
 use crate::words::{word_at, words_of};
@@ -61,9 +64,9 @@ pub enum Format {
 
 /// A job of a log, with the number of its line. The tasks of an array that wait are jobs of one line.
 #[derive(Drop)]
-pub struct LoggedJob {
+pub struct LoggedJob<'a> {
     pub line: usize,
-    pub name: Name,
+    pub name: JobName<'a>,
     pub account: Account,
     /// The nodes that it may use.
     pub set: SetText,
@@ -71,26 +74,48 @@ pub struct LoggedJob {
 
 /// What a line of a log is.
 #[derive(Drop)]
-pub enum Entry {
-    Job(LoggedJob),
+pub enum Entry<'a> {
+    Job(LoggedJob<'a>),
     Comment(Option<Fact>),
     Left(Reject),
 }
 
 /// What a line of a log is: one entry, or the tasks of an array.
 #[derive(Drop)]
-pub(crate) enum Entries {
-    One(Entry),
-    Tasks(Vec<Entry>),
+pub(crate) enum Entries<'a> {
+    One(Entry<'a>),
+    Tasks(Vec<Entry<'a>>),
 }
 
-// A job with this name, if it is one.
-fn with_name(
+// A job with this name of the log, if it is one.
+fn with_name<'a>(line: usize, name: &'a [u8], account: Result<Account, Cause>) -> Entry<'a>
+    ensures { result ≡ with_name line name.now account }
+{
+    let account = match account {
+        Ok(account) => account,
+        Err(cause) => return Entry::Left(Reject { line, cause }),
+    };
+    match JobName::lent(name) {
+        Some(name) => Entry::Job(LoggedJob {
+            line,
+            name,
+            account,
+            set: SetText::new(),
+        }),
+        None => Entry::Left(Reject {
+            line,
+            cause: Cause::Beyond,
+        }),
+    }
+}
+
+// The same with a name that is made.
+fn with_made_name<'a>(
     alloc: Global,
     line: usize,
     name: &[u8],
     account: Result<Account, Cause>,
-) -> Result<Entry, AllocError>
+) -> Result<Entry<'a>, AllocError>
     ensures { IfOk result (λ e. e ≡ with_name line name.now account) }
 {
     let account = match account {
@@ -100,9 +125,9 @@ fn with_name(
     match Name::read(alloc, name) {
         Ok(name) => Ok(Entry::Job(LoggedJob {
             line,
-            name,
+            name: JobName::made(alloc, name)?,
             account,
-            set: SetText::new(alloc),
+            set: SetText::new(),
         })),
         Err(NameFault::NotName) => Ok(Entry::Left(Reject {
             line,
@@ -112,19 +137,27 @@ fn with_name(
     }
 }
 
-fn swf_entry(alloc: Global, mixed: bool, line: usize, text: &[u8]) -> Result<Entry, AllocError>
-    ensures { IfOk result (λ e. e ≡ swf_entry mixed line text.now) }
+fn swf_entry<'a>(
+    alloc: Global,
+    seats: &mut Seats<'a>,
+    line: usize,
+    words: &mut Vec<&'a [u8]>,
+    text: &'a [u8],
+) -> Result<Entry<'a>, AllocError>
+    ensures entry { IfOk result (λ e. e ≡ swf_entry seats.old line text.now) }
+    ensures same { seats.new ≡ seats.old }
 {
-    let words = words_of(alloc, text)?;
+    words_of(words, text)?;
+    let words = words.as_slice();
     if is_comment(text) {
-        return Ok(Entry::Comment(fact_in(&words)));
+        return Ok(Entry::Comment(fact_in(words)));
     }
-    let entry = with_name(alloc, line, word_at(&words, 0), swf_account(&words))?;
-    seated(alloc, mixed, entry, swf_partition(&words), b"")
+    let entry = with_name(line, word_at(words, 0), swf_account(words));
+    seats.seated(alloc, entry, swf_partition(words), b"")
 }
 
 // What a header is, where it is known whether each column is there that is needed.
-fn header_entry(line: usize, row: &[&[u8]], header: Option<Header>) -> Entry
+fn header_entry<'a>(line: usize, row: &[&[u8]], header: Option<Header>) -> Entry<'a>
     ensures { result ≡ header_entry line (map (λ w. w.now) row.now) header }
 {
     match header {
@@ -136,61 +169,89 @@ fn header_entry(line: usize, row: &[&[u8]], header: Option<Header>) -> Entry
     }
 }
 
-// A job by its identifier.
-fn with_id(
+// A job by an identifier that is made.
+fn with_made_id<'a>(
     alloc: Global,
     line: usize,
     id: &[u8],
     account: Result<Account, Cause>,
-) -> Result<Entry, AllocError>
+) -> Result<Entry<'a>, AllocError>
     ensures { IfOk result (λ e. e ≡ with_name line (id_name id.now) account) }
 {
     if id.contains(&b'+') {
         let name = pointed_id(alloc, id)?;
-        with_name(alloc, line, &name, account)
+        with_made_name(alloc, line, &name, account)
     } else {
-        with_name(alloc, line, id, account)
+        with_made_name(alloc, line, id, account)
     }
 }
 
-// The job of a line by its identifier.
-fn row_entry(
+// A job by its identifier in the log.
+fn with_id<'a>(
     alloc: Global,
-    mixed: bool,
+    line: usize,
+    id: &'a [u8],
+    account: Result<Account, Cause>,
+) -> Result<Entry<'a>, AllocError>
+    ensures { IfOk result (λ e. e ≡ with_name line (id_name id.now) account) }
+{
+    if id.contains(&b'+') {
+        with_made_id(alloc, line, id, account)
+    } else {
+        Ok(with_name(line, id, account))
+    }
+}
+
+// An entry with the set of its job that the columns say.
+fn seated_row<'a>(
+    alloc: Global,
+    seats: &mut Seats<'a>,
+    header: &Header,
+    row: &[&'a [u8]],
+    found: Entry<'a>,
+) -> Result<Entry<'a>, AllocError>
+    ensures entry { IfOk result (λ e. e ≡ seated seats.old found.entry (told_cell (map (λ w. w.now) row.now) header.now.partitions) (told_cell (map (λ w. w.now) row.now) header.now.constraints)) }
+    ensures same { seats.new ≡ seats.old }
+{
+    let partitions = told_cell(row, header.partitions);
+    let constraints = told_cell(row, header.constraints);
+    seats.seated(alloc, found, partitions, constraints)
+}
+
+// The job of a line by its identifier.
+fn row_entry<'a>(
+    alloc: Global,
+    seats: &mut Seats<'a>,
     header: &Header,
     line: usize,
-    row: &[&[u8]],
+    row: &[&'a [u8]],
     account: Result<Account, Cause>,
-    id: &[u8],
-) -> Result<Entry, AllocError>
-    ensures { IfOk result (λ e. e ≡ row_entry mixed header.now line (map (λ w. w.now) row.now) account id.now) }
+    id: &'a [u8],
+) -> Result<Entry<'a>, AllocError>
+    ensures entry { IfOk result (λ e. e ≡ row_entry seats.old header.now line (map (λ w. w.now) row.now) account id.now) }
+    ensures same { seats.new ≡ seats.old }
 {
     let entry = with_id(alloc, line, id, account)?;
-    let partitions = told_cell(row, header.partitions);
-    seated(
-        alloc,
-        mixed,
-        entry,
-        partitions,
-        told_cell(row, header.constraints),
-    )
+    seated_row(alloc, seats, header, row, entry)
 }
 
 // The jobs of a line by their identifiers.
-fn entries_by(
+fn entries_by<'a>(
     alloc: Global,
-    mixed: bool,
+    seats: &mut Seats<'a>,
     header: &Header,
     line: usize,
-    row: &[&[u8]],
+    row: &[&'a [u8]],
     account: Result<Account, Cause>,
     ids: &[Items<u8>],
-) -> Result<Vec<Entry>, AllocError>
-    ensures { IfOk result (λ es. es.items ≡ map (row_entry mixed header.now line (map (λ w. w.now) row.now) account) ids.now) }
+) -> Result<Vec<Entry<'a>>, AllocError>
+    ensures entries { IfOk result (λ es. es.items ≡ map (row_entry seats.old header.now line (map (λ w. w.now) row.now) account) ids.now) }
+    ensures same { seats.new ≡ seats.old }
 {
     let mut entries = Vec::new(alloc);
     for id in ids {
-        let entry = row_entry(alloc, mixed, header, line, row, account, id.as_slice())?;
+        let entry = with_made_id(alloc, line, id.as_slice(), account)?;
+        let entry = seated_row(alloc, seats, header, row, entry)?;
         entries.push(entry)?;
     }
     Ok(entries)
@@ -211,77 +272,83 @@ fn tasks_if(
 }
 
 // The jobs of a line.
-fn row_entries(
+fn row_entries<'a>(
     alloc: Global,
-    mixed: bool,
+    seats: &mut Seats<'a>,
     header: &Header,
     line: usize,
-    row: &[&[u8]],
-) -> Result<Entries, AllocError>
-    ensures { IfOk result (λ es. entries_in es ≡ row_entries mixed header.now line (map (λ w. w.now) row.now)) }
+    row: &[&'a [u8]],
+) -> Result<Entries<'a>, AllocError>
+    ensures entries { IfOk result (λ es. entries_in es ≡ row_entries seats.old header.now line (map (λ w. w.now) row.now)) }
+    ensures same { seats.new ≡ seats.old }
 {
     let account = sacct_account(header, row);
     let id = cell(row, header.id);
     match tasks_if(alloc, account, id)? {
         None => {
-            let entry = row_entry(alloc, mixed, header, line, row, account, id)?;
+            let entry = row_entry(alloc, seats, header, line, row, account, id)?;
             Ok(Entries::One(entry))
         }
         Some(ids) => {
-            let tasks = entries_by(alloc, mixed, header, line, row, account, ids.as_slice())?;
+            let tasks = entries_by(alloc, seats, header, line, row, account, ids.as_slice())?;
             Ok(Entries::Tasks(tasks))
         }
     }
 }
 
 // What the columns of a line are. A header says which columns there are.
-fn table_entries(
+fn table_entries<'a>(
     alloc: Global,
-    mixed: bool,
+    seats: &mut Seats<'a>,
     header: &mut Header,
     line: usize,
-    text: &[u8],
-) -> Result<Entries, AllocError>
-    ensures entries { IfOk result (λ es. entries_in es ≡ table_entries mixed header.old line text.now) }
+    words: &mut Vec<&'a [u8]>,
+    text: &'a [u8],
+) -> Result<Entries<'a>, AllocError>
+    ensures entries { IfOk result (λ es. entries_in es ≡ table_entries seats.old header.old line text.now) }
     ensures header { OnOk result (header.new ≡ header_at header.old text.now) }
+    ensures same { seats.new ≡ seats.old }
 {
     if without_return(text).is_empty() {
         return Ok(Entries::One(Entry::Comment(None)));
     }
-    let row = row_of(alloc, text)?;
-    if is_header(&row) {
-        let named = header_in(&row);
+    row_of(words, text)?;
+    let row = words.as_slice();
+    if is_header(row) {
+        let named = header_in(row);
         *header = named.unwrap_or(*header);
-        return Ok(Entries::One(header_entry(line, &row, named)));
+        return Ok(Entries::One(header_entry(line, row, named)));
     }
-    row_entries(alloc, mixed, header, line, &row)
+    row_entries(alloc, seats, header, line, row)
 }
 
-/// The same as `read_entries`, without a vector for an entry alone.
-pub(crate) fn line_entries(
+/// The same as `read_entries`, without a vector for an entry alone. The words of the line take the place of others.
+pub(crate) fn line_entries<'a>(
     alloc: Global,
-    mixed: bool,
+    seats: &mut Seats<'a>,
     layout: &mut Layout,
     line: usize,
-    text: &[u8],
-) -> Result<Entries, AllocError>
-    ensures entries { IfOk result (λ es. entries_in es ≡ line_entries mixed layout.old line text.now) }
+    words: &mut Vec<&'a [u8]>,
+    text: &'a [u8],
+) -> Result<Entries<'a>, AllocError>
+    ensures entries { IfOk result (λ es. entries_in es ≡ line_entries seats.old layout.old line text.now) }
     ensures layout { OnOk result (layout.new ≡ layout_at layout.old text.now) }
+    ensures same { seats.new ≡ seats.old }
 {
     match layout {
         Layout::Words => {
-            let entry = swf_entry(alloc, mixed, line, text)?;
+            let entry = swf_entry(alloc, seats, line, words, text)?;
             Ok(Entries::One(entry))
         }
-        Layout::Table(header) => table_entries(alloc, mixed, header, line, text),
+        Layout::Table(header) => table_entries(alloc, seats, header, line, words, text),
     }
 }
 
 // The entries of a line one after another.
-fn listed(alloc: Global, entries: Entries) -> Result<Vec<Entry>, AllocError>
-    ensures { IfOk result (λ es. es.items ≡ entries_in entries) }
+fn listed<'a>(alloc: Global, found: Entries<'a>) -> Result<Vec<Entry<'a>>, AllocError>
+    ensures { IfOk result (λ es. es.items ≡ entries_in found.entry) }
 {
-    match entries {
+    match found {
         Entries::One(entry) => {
             let mut entries = Vec::new(alloc);
             entries.push(entry)?;
@@ -293,16 +360,18 @@ fn listed(alloc: Global, entries: Entries) -> Result<Vec<Entry>, AllocError>
 
 /// What a line with this number is, where the lines before it have left this layout, and nodes differ or not: one entry, or as many as the
 /// line has tasks of an array, in their order. Its only error is want of memory.
-pub fn read_entries(
+pub fn read_entries<'a>(
     alloc: Global,
     mixed: bool,
     layout: &mut Layout,
     line: usize,
-    text: &[u8],
-) -> Result<Vec<Entry>, AllocError>
+    text: &'a [u8],
+) -> Result<Vec<Entry<'a>>, AllocError>
     ensures entries { IfOk result (λ es. es.items ≡ line_entries mixed layout.old line text.now) }
     ensures layout { OnOk result (layout.new ≡ layout_at layout.old text.now) }
 {
-    let entries = line_entries(alloc, mixed, layout, line, text)?;
+    let mut seats = Seats::new(alloc, mixed);
+    let mut words = Vec::new(alloc);
+    let entries = line_entries(alloc, &mut seats, layout, line, &mut words, text)?;
     listed(alloc, entries)
 }

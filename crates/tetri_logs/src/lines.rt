@@ -1,7 +1,8 @@
 // The lines of a log.
-ghost use Rattle.std.specs.Prelude.{◌≡◌, IfOk, map};
+ghost use Rattle.std.specs.Prelude.{◌≡◌, ◌<◌, ◌∷◌, [], IfOk, IfSome, MatchOption, length, map};
 ghost use Rattle.tetri_logs.specs.Lines.{ends_empty, log_lines};
 
+use memchr::memchr;
 use std::alloc::{AllocError, Global};
 use tetri_io::parts_at;
 
@@ -14,6 +15,20 @@ pub fn log_lines(alloc: Global, log: &[u8]) -> Result<Vec<&[u8]>, AllocError>
         parts.truncate(parts.len() - 1);
     }
     Ok(parts)
+}
+
+/// The first line of a log without its line feed, and what stands behind it. `None` exactly where there is no line.
+pub(crate) fn next_line(log: &[u8]) -> Option<(&[u8], &[u8])>
+    ensures lines { MatchOption result (log_lines log.now ≡ []) (λ parts. log_lines log.now ≡ parts.0.now ∷ log_lines parts.1.now) }
+    ensures shorter { IfSome result (λ parts. length parts.1.now < length log.now) }
+{
+    if log.is_empty() {
+        return None;
+    }
+    match memchr(b'\n', log) {
+        Some(end) => Some((&log[..end], &log[end + 1..])),
+        None => Some((log, b"")),
+    }
 }
 
 /// Whether the last part has no byte.

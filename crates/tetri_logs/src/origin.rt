@@ -1,7 +1,7 @@
 // The second with which slot 0 begins.
-ghost use Rattle.std.specs.Prelude.{◌≡◌, ◌<◌, ◌^◌};
+ghost use Rattle.std.specs.Prelude.{◌≡◌, ◌<◌, ◌^◌, take};
 ghost use Rattle.tetri_logs.specs.Options.{AreGood};
-ghost use Rattle.tetri_logs.specs.Origin.{begun, begun_at, first_second, gap_after, gap_of, may_begin};
+ghost use Rattle.tetri_logs.specs.Origin.{begun, begun_at, first_second, gap_after, gap_at, gap_of, last_second, may_begin};
 
 use crate::account::Account;
 use crate::entry::LoggedJob;
@@ -54,25 +54,48 @@ pub fn begun(settings: &Settings, jobs: &[LoggedJob]) -> Settings
     begun_at(settings, first_second(settings, jobs))
 }
 
+// When the last of these jobs was submitted that may begin, or else this second.
+fn last_second(settings: &Settings, second: u64, jobs: &[LoggedJob]) -> u64
+    requires good { AreGood settings.now }
+    requires small { second < 2 ^ 33 }
+    ensures value { result ≡ last_second settings.now second jobs.now }
+    ensures small { result < 2 ^ 33 }
+{
+    let mut last = second;
+    for job in jobs {
+        if may_begin(settings, job.account) {
+            last = moment_of(settings, job.account);
+        }
+    }
+    last
+}
+
+// The gap before a job that was submitted at this second, behind the last of these.
+fn gap_at(settings: &Settings, last: u64, jobs: &[LoggedJob], second: u64) -> Option<u64>
+    requires good { AreGood settings.now }
+    requires before { last < 2 ^ 33 }
+    ensures { result ≡ gap_at settings.now (last_second settings.now last jobs.now) second }
+{
+    let run = 10_000 * u64::from(settings.slot);
+    if last_second(settings, last, jobs) + run <= second {
+        Some(second)
+    } else {
+        None
+    }
+}
+
+// Where no job comes too late for the trace, none needs to be placed.
 fn gap_after(settings: &Settings, last: u64, jobs: &[LoggedJob]) -> Option<u64>
     requires good { AreGood settings.now }
     requires small { settings.now.origin < 2 ^ 33 }
     requires before { last < 2 ^ 33 }
     ensures { result ≡ gap_after settings.now last jobs.now }
 {
-    let run = 10_000 * u64::from(settings.slot);
-    let mut last = last;
-    for job in jobs {
-        if may_begin(settings, job.account) {
-            let moment = moment_of(settings, job.account);
-            if settings.origin + run <= moment {
-                return if last + run <= moment {
-                    Some(moment)
-                } else {
-                    None
-                };
-            }
-            last = moment;
+    let end = settings.origin + 10_000 * u64::from(settings.slot);
+    for (i, job) in jobs.iter().enumerate() {
+        let moment = moment_of(settings, job.account);
+        if end <= moment && may_begin(settings, job.account) {
+            return gap_at(settings, last, &jobs[..i], moment);
         }
     }
     None

@@ -2,12 +2,13 @@
 ghost use Rattle.std.specs.Prelude.{◌≡◌, ◌+◌, ◌++◌, ◌∷◌, [], IfOk, OnOk, length, map};
 ghost use Rattle.tetri_base.specs.Lists.{count};
 ghost use Rattle.tetri_logs.specs.Entry.{entries_in};
-ghost use Rattle.tetri_logs.specs.Reading.{entries, entries_of, facts_in, is_comment, jobs_in, left_in, no_facts, with_fact};
+ghost use Rattle.tetri_logs.specs.Reading.{entries, facts_in, is_comment, jobs_in, left_in, no_facts, with_fact};
 
 use crate::comments::Fact;
 use crate::entry::{Entries, Entry, Format, LoggedJob, Reject, line_entries};
 use crate::layout::first_layout;
-use crate::lines::log_lines;
+use crate::lines::next_line;
+use crate::seats::Seats;
 use std::alloc::{AllocError, Global};
 
 /// What the comments of a log say.
@@ -22,8 +23,8 @@ pub struct Facts {
 /// What a log says: its jobs, the lines that bring none, what its comments say, and how many there are, blank lines and
 /// headers among them.
 #[derive(Drop)]
-pub struct Log {
-    pub jobs: Vec<LoggedJob>,
+pub struct Log<'a> {
+    pub jobs: Vec<LoggedJob<'a>>,
     pub left: Vec<Reject>,
     pub facts: Facts,
     pub comments: usize,
@@ -55,13 +56,14 @@ fn with_fact(facts: Facts, fact: Option<Fact>) -> Facts
 }
 
 // With what one entry more says, but for the number of comments.
-fn add(log: &mut Log, entry: Entry) -> Result<(), AllocError>
-    ensures jobs { OnOk result (log.new.jobs.items ≡ log.old.jobs.items ++ jobs_in (entry ∷ [])) }
-    ensures left { OnOk result (log.new.left.items ≡ log.old.left.items ++ left_in (entry ∷ [])) }
-    ensures facts { OnOk result (log.new.facts ≡ facts_in log.old.facts (entry ∷ [])) }
+#[inline(always)]
+fn add<'a>(log: &mut Log<'a>, found: Entry<'a>) -> Result<(), AllocError>
+    ensures jobs { OnOk result (log.new.jobs.items ≡ log.old.jobs.items ++ jobs_in (found.entry ∷ [])) }
+    ensures left { OnOk result (log.new.left.items ≡ log.old.left.items ++ left_in (found.entry ∷ [])) }
+    ensures facts { OnOk result (log.new.facts ≡ facts_in log.old.facts (found.entry ∷ [])) }
     ensures comments { OnOk result (log.new.comments ≡ log.old.comments) }
 {
-    match entry {
+    match found {
         Entry::Job(job) => log.jobs.push(job)?,
         Entry::Comment(fact) => log.facts = with_fact(log.facts, fact),
         Entry::Left(reject) => log.left.push(reject)?,
@@ -70,26 +72,26 @@ fn add(log: &mut Log, entry: Entry) -> Result<(), AllocError>
 }
 
 // With what these tasks say, but for the number of comments.
-fn add_tasks(log: &mut Log, entries: Vec<Entry>) -> Result<(), AllocError>
-    ensures jobs { OnOk result (log.new.jobs.items ≡ log.old.jobs.items ++ jobs_in entries.items) }
-    ensures left { OnOk result (log.new.left.items ≡ log.old.left.items ++ left_in entries.items) }
-    ensures facts { OnOk result (log.new.facts ≡ facts_in log.old.facts entries.items) }
+fn add_tasks<'a>(log: &mut Log<'a>, found: Vec<Entry<'a>>) -> Result<(), AllocError>
+    ensures jobs { OnOk result (log.new.jobs.items ≡ log.old.jobs.items ++ jobs_in found.entry.items) }
+    ensures left { OnOk result (log.new.left.items ≡ log.old.left.items ++ left_in found.entry.items) }
+    ensures facts { OnOk result (log.new.facts ≡ facts_in log.old.facts found.entry.items) }
     ensures comments { OnOk result (log.new.comments ≡ log.old.comments) }
 {
-    for entry in entries {
+    for entry in found {
         add(log, entry)?;
     }
     Ok(())
 }
 
 // With what the entries of a line say, but for the number of comments.
-fn add_all(log: &mut Log, entries: Entries) -> Result<(), AllocError>
-    ensures jobs { OnOk result (log.new.jobs.items ≡ log.old.jobs.items ++ jobs_in (entries_in entries)) }
-    ensures left { OnOk result (log.new.left.items ≡ log.old.left.items ++ left_in (entries_in entries)) }
-    ensures facts { OnOk result (log.new.facts ≡ facts_in log.old.facts (entries_in entries)) }
+fn add_all<'a>(log: &mut Log<'a>, found: Entries<'a>) -> Result<(), AllocError>
+    ensures jobs { OnOk result (log.new.jobs.items ≡ log.old.jobs.items ++ jobs_in (entries_in found.entry)) }
+    ensures left { OnOk result (log.new.left.items ≡ log.old.left.items ++ left_in (entries_in found.entry)) }
+    ensures facts { OnOk result (log.new.facts ≡ facts_in log.old.facts (entries_in found.entry)) }
     ensures comments { OnOk result (log.new.comments ≡ log.old.comments) }
 {
-    match entries {
+    match found {
         Entries::One(entry) => add(log, entry),
         Entries::Tasks(entries) => add_tasks(log, entries),
     }
@@ -126,34 +128,45 @@ fn comments_of(entries: &Entries) -> usize
 }
 
 // What the lines of a log say. Its only error is want of memory.
-fn read_lines(
+fn read_lines<'a>(
     alloc: Global,
     mixed: bool,
     format: Format,
-    lines: &[&[u8]],
-) -> Result<Log, AllocError>
-    ensures jobs { IfOk result (λ l. l.jobs.items ≡ jobs_in (entries_of mixed format (map (λ x. x.now) lines.now))) }
-    ensures left { IfOk result (λ l. l.left.items ≡ left_in (entries_of mixed format (map (λ x. x.now) lines.now))) }
-    ensures facts { IfOk result (λ l. l.facts ≡ facts_in no_facts (entries_of mixed format (map (λ x. x.now) lines.now))) }
-    ensures comments { IfOk result (λ l. l.comments ≡ count is_comment (entries_of mixed format (map (λ x. x.now) lines.now))) }
+    log: &'a [u8],
+) -> Result<Log<'a>, AllocError>
+    ensures jobs { IfOk result (λ l. l.jobs.items ≡ jobs_in (entries mixed format log.now)) }
+    ensures left { IfOk result (λ l. l.left.items ≡ left_in (entries mixed format log.now)) }
+    ensures facts { IfOk result (λ l. l.facts ≡ facts_in no_facts (entries mixed format log.now)) }
+    ensures comments { IfOk result (λ l. l.comments ≡ count is_comment (entries mixed format log.now)) }
 {
     let mut read = Log {
-        jobs: Vec::with_capacity(alloc, lines.len())?,
+        jobs: Vec::new(alloc),
         left: Vec::new(alloc),
         facts: NO_FACTS,
         comments: 0,
     };
     let mut layout = first_layout(format);
-    for (i, line) in lines.iter().enumerate() {
-        let entries = line_entries(alloc, mixed, &mut layout, i + 1, line)?;
+    let mut seats = Seats::new(alloc, mixed);
+    let mut words = Vec::new(alloc);
+    let mut rest = log;
+    let mut number = 0usize;
+    while let Some((line, behind)) = next_line(rest) {
+        number += 1;
+        let entries = line_entries(alloc, &mut seats, &mut layout, number, &mut words, line)?;
         read.comments += comments_of(&entries);
         add_all(&mut read, entries)?;
+        rest = behind;
     }
     Ok(read)
 }
 
 /// What a log says; the set of each job too, where nodes differ. Its only error is want of memory.
-pub fn read_log(alloc: Global, mixed: bool, format: Format, log: &[u8]) -> Result<Log, AllocError>
+pub fn read_log<'a>(
+    alloc: Global,
+    mixed: bool,
+    format: Format,
+    log: &'a [u8],
+) -> Result<Log<'a>, AllocError>
     ensures jobs { IfOk result (λ l. l.jobs.items ≡ jobs_in (entries mixed format log.now)) }
     ensures left { IfOk result (λ l. l.left.items ≡ left_in (entries mixed format log.now)) }
     ensures facts { IfOk result (λ l. l.facts ≡ facts_in no_facts (entries mixed format log.now)) }
@@ -162,6 +175,5 @@ pub fn read_log(alloc: Global, mixed: bool, format: Format, log: &[u8]) -> Resul
     // Each line is a job, a comment or left out, but for one with tasks of an array, of which each is a job or left out.
     ensures whole { IfOk result (λ l. length l.jobs.items + length l.left.items + l.comments ≡ length (entries mixed format log.now)) }
 {
-    let lines = log_lines(alloc, log)?;
-    read_lines(alloc, mixed, format, &lines)
+    read_lines(alloc, mixed, format, log)
 }

@@ -1,5 +1,5 @@
 // A line of what `sacct` prints with `--parsable2` or `--parsable`.
-ghost use Rattle.std.specs.Prelude.{◌≡◌, IfOk, map};
+ghost use Rattle.std.specs.Prelude.{◌≡◌, IfOk, OnOk, map};
 ghost use Rattle.tetri_logs.specs.Sacct.{cell, elapsed, exact_count, is_cancelled, is_row, is_step, is_unknown, moment_in, needed_moment, nodes_in, pointed, processors_in, row_of, sacct_account, told_cell, without_return};
 
 use crate::account::{Account, Columns, account_of, positive};
@@ -8,9 +8,9 @@ use crate::header::Header;
 use crate::limits::limit_in;
 use crate::tasks::before_bracket;
 use crate::times::seconds_in;
-use crate::words::{count_in, is_text, word_at};
+use crate::words::{count_in, is_text, parts_of, word_at};
 use std::alloc::{AllocError, Global};
-use tetri_io::{digits_below, parts_at};
+use tetri_io::digits_below;
 
 /// The line without the carriage return at its end.
 pub(crate) fn without_return(line: &[u8]) -> &[u8]
@@ -22,11 +22,11 @@ pub(crate) fn without_return(line: &[u8]) -> &[u8]
     }
 }
 
-/// What stands in a line between its bars. Its only error is want of memory.
-pub(crate) fn row_of(alloc: Global, line: &[u8]) -> Result<Vec<&[u8]>, AllocError>
-    ensures { IfOk result (λ v. map (λ x. x.now) v.items ≡ row_of line.now) }
+/// Puts what stands in a line between its bars in the place of another row. Its only error is want of memory.
+pub(crate) fn row_of<'a>(row: &mut Vec<&'a [u8]>, line: &'a [u8]) -> Result<(), AllocError>
+    ensures { OnOk result (map (λ x. x.now) row.new.items ≡ row_of line.now) }
 {
-    parts_at(alloc, b'|', without_return(line))
+    parts_of(row, b'|', without_return(line))
 }
 
 /// What stands in a column, counted from 1.

@@ -61,7 +61,7 @@ pub(crate) fn room_of(settings: &Settings, account: Account) -> u64
 {
     let all = u64::from(settings.nodes);
     match account.room {
-        Some(room) => all.min(room as u64),
+        Some(room) => all.min(u64::from(room)),
         None => all,
     }
 }

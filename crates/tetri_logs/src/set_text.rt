@@ -1,10 +1,11 @@
 // The set of nodes that a job asks for.
-ghost use Rattle.std.specs.Prelude.{◌≡◌, ◌==◌, ◌<◌, [], IfOk, IfSome, OnOk, fold, length, map, position};
-ghost use Rattle.tetri_logs.specs.SetText.{are_features, features_of, first_partition, partition_set, seated, set_by_features, with_feature, with_set, with_tag};
+ghost use Rattle.std.specs.Prelude.{◌≡◌, ◌==◌, ◌<◌, [], IfOk, IfSome, OnOk, fold, length, map, option_map, position, string_bytes};
+ghost use Rattle.tetri_logs.specs.SetText.{are_features, features_of, first_partition, partition_set, seat_of, set_by_features, with_feature, with_tag};
 
-use crate::entry::{Cause, Entry, LoggedJob, Reject};
+use crate::entry::Cause;
 use std::alloc::{AllocError, Global};
 use std::marker::Model;
+use std::rc::Rc;
 use tetri_cluster::{Name, NameFault};
 use tetri_hosts::{is_feature, partition_tag};
 use tetri_io::parts_at;
@@ -12,53 +13,79 @@ use tetri_io::parts_at;
 /// A set of nodes as the text that a trace has for it: tags with `&` between them. It is empty where all nodes may serve.
 #[derive(Drop)]
 pub struct SetText {
-    text: String,
+    text: Option<Rc<String>>,
 }
 
 impl Model for SetText {
-    ghost use Rattle.std.specs.Prelude.{List, ℕ, string_bytes};
+    ghost use Rattle.std.specs.Prelude.{List, ℕ};
+    ghost use Rattle.tetri_logs.specs.SharedText.{shared_bytes};
 
     ghost Value = { List ℕ };
 
-    ghost view = { λ s. string_bytes s.text };
+    ghost view = { λ s. shared_bytes s.text };
 }
 
 impl SetText {
-    /// The set of all nodes.
-    pub(crate) fn new(alloc: Global) -> SetText
+    /// The set of all nodes. It takes no memory.
+    pub(crate) fn new() -> SetText
         ensures { result ≡ [] }
     {
-        SetText {
-            text: String::new(alloc),
-        }
+        SetText { text: None }
+    }
+
+    // The set with a text.
+    fn of(alloc: Global, text: String) -> Result<SetText, AllocError>
+        ensures { IfOk result (λ set. set ≡ string_bytes text) }
+    {
+        let text = Rc::new(alloc, text)?;
+        Ok(SetText { text: Some(text) })
     }
 
     /// The text.
     pub fn text(&self) -> &str
         ensures { result.now ≡ self.now }
     {
-        self.text.as_str()
+        match &self.text {
+            Some(text) => text.as_ref().as_str(),
+            None => "",
+        }
     }
 
-    // Those of its nodes that have one tag more.
-    fn push(&mut self, tag: &Name) -> Result<(), AllocError>
-        ensures { OnOk result (self.new ≡ with_tag self.old tag.now) }
+    /// The same set, which shares the text. Its only error is want of memory.
+    pub fn share(&self) -> Result<SetText, AllocError>
+        ensures { IfOk result (λ set. set ≡ self.now) }
     {
-        if !self.text.is_empty() {
-            self.text.push_str("&")?;
+        match &self.text {
+            Some(text) => {
+                let text = Rc::clone(text)?;
+                Ok(SetText { text: Some(text) })
+            }
+            None => Ok(SetText { text: None }),
         }
-        self.text.push_str(tag.text())
     }
+}
 
-    // Those of its nodes that have one feature more.
-    fn push_feature(&mut self, alloc: Global, feature: &[u8]) -> Result<(), AllocError>
-        ensures { OnOk result (self.new ≡ with_feature self.old feature.now) }
-    {
-        match Name::read(alloc, feature) {
-            Ok(tag) => self.push(&tag),
-            Err(NameFault::NotName) => Ok(()),
-            Err(NameFault::NoMemory) => Err(AllocError),
-        }
+/// A set of nodes, or why there is none.
+pub(crate) type Seat = Result<SetText, Cause>;
+
+// Those of its nodes that have one tag more.
+fn push(set: &mut String, tag: &Name) -> Result<(), AllocError>
+    ensures { OnOk result (string_bytes set.new ≡ with_tag (string_bytes set.old) tag.now) }
+{
+    if !set.is_empty() {
+        set.push_str("&")?;
+    }
+    set.push_str(tag.text())
+}
+
+// Those of its nodes that have one feature more.
+fn push_feature(alloc: Global, set: &mut String, feature: &[u8]) -> Result<(), AllocError>
+    ensures { OnOk result (string_bytes set.new ≡ with_feature (string_bytes set.old) feature.now) }
+{
+    match Name::read(alloc, feature) {
+        Ok(tag) => push(set, &tag),
+        Err(NameFault::NotName) => Ok(()),
+        Err(NameFault::NoMemory) => Err(AllocError),
     }
 }
 
@@ -81,16 +108,16 @@ fn first_partition(partitions: &[u8]) -> &[u8]
 }
 
 // The nodes of a partition, or all where it is not told, unless no node can be in it.
-fn partition_set(alloc: Global, partition: &[u8]) -> Result<Option<SetText>, AllocError>
-    ensures { IfOk result (λ set. set ≡ partition_set partition.now) }
+fn partition_set(alloc: Global, partition: &[u8]) -> Result<Option<String>, AllocError>
+    ensures { IfOk result (λ set. option_map string_bytes set ≡ partition_set partition.now) }
 {
-    let mut set = SetText::new(alloc);
+    let mut set = String::new(alloc);
     if partition.is_empty() {
         return Ok(Some(set));
     }
     match partition_tag(alloc, partition)? {
         Some(tag) => {
-            set.push(&tag)?;
+            push(&mut set, &tag)?;
             Ok(Some(set))
         }
         None => Ok(None),
@@ -120,69 +147,38 @@ fn are_features(parts: &[&[u8]]) -> bool
 }
 
 // Those of a set's nodes that have each of these features.
-fn with_features(alloc: Global, set: SetText, features: &[&[u8]]) -> Result<SetText, AllocError>
-    ensures { IfOk result (λ all. all ≡ fold with_feature set (map (λ x. x.now) features.now)) }
+fn with_features(alloc: Global, set: String, features: &[&[u8]]) -> Result<String, AllocError>
+    ensures { IfOk result (λ all. string_bytes all ≡ fold with_feature (string_bytes set) (map (λ x. x.now) features.now)) }
 {
     let mut all = set;
     for feature in features {
-        all.push_feature(alloc, feature)?;
+        push_feature(alloc, &mut all, feature)?;
     }
     Ok(all)
 }
 
-// A job that asks for nodes of a set with these features, if they are some.
-fn set_by_features(
-    alloc: Global,
-    job: LoggedJob,
-    set: SetText,
-    features: &[&[u8]],
-) -> Result<Entry, AllocError>
-    ensures { IfOk result (λ e. e ≡ set_by_features job set (map (λ x. x.now) features.now)) }
+// Those of a set's nodes that have each of these features, if they are some.
+fn set_by_features(alloc: Global, set: String, features: &[&[u8]]) -> Result<Seat, AllocError>
+    ensures { IfOk result (λ seat. seat ≡ set_by_features (string_bytes set) (map (λ x. x.now) features.now)) }
 {
     if !are_features(features) {
-        return Ok(Entry::Left(Reject {
-            line: job.line,
-            cause: Cause::Constraint,
-        }));
+        return Ok(Err(Cause::Constraint));
     }
     let set = with_features(alloc, set, features)?;
-    Ok(Entry::Job(LoggedJob { set, ..job }))
+    Ok(Ok(SetText::of(alloc, set)?))
 }
 
-// A job with the set that its partitions and constraints say.
-fn with_set(
+/// The set that a line's partitions and constraints say. Its only error is want of memory.
+pub(crate) fn seat_of(
     alloc: Global,
-    job: LoggedJob,
     partitions: &[u8],
     constraints: &[u8],
-) -> Result<Entry, AllocError>
-    ensures { IfOk result (λ e. e ≡ with_set job partitions.now constraints.now) }
+) -> Result<Seat, AllocError>
+    ensures { IfOk result (λ seat. seat ≡ seat_of partitions.now constraints.now) }
 {
     let features = features_of(alloc, constraints)?;
     match partition_set(alloc, first_partition(partitions))? {
-        Some(set) => set_by_features(alloc, job, set, &features),
-        None => Ok(Entry::Left(Reject {
-            line: job.line,
-            cause: Cause::NoSet,
-        })),
-    }
-}
-
-/// An entry with the set of its job, where nodes differ. Its only error is want of memory.
-pub(crate) fn seated(
-    alloc: Global,
-    mixed: bool,
-    entry: Entry,
-    partitions: &[u8],
-    constraints: &[u8],
-) -> Result<Entry, AllocError>
-    ensures { IfOk result (λ e. e ≡ seated mixed entry partitions.now constraints.now) }
-{
-    if !mixed {
-        return Ok(entry);
-    }
-    match entry {
-        Entry::Job(job) => with_set(alloc, job, partitions, constraints),
-        other => Ok(other),
+        Some(set) => set_by_features(alloc, set, &features),
+        None => Ok(Err(Cause::NoSet)),
     }
 }

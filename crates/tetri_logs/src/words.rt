@@ -1,32 +1,82 @@
 // The words of a line, and the numbers that they are.
-ghost use Rattle.std.specs.Prelude.{◌≡◌, IfOk, bytes_eq, map};
+ghost use Rattle.std.specs.Prelude.{◌≡◌, OnOk, bytes_eq, map};
+ghost use Rattle.tetri_io.specs.Words.{parts_at};
 ghost use Rattle.tetri_logs.specs.Words.{amount, count_in, is_separator, needed, word_at, words_of};
 
 use crate::entry::Cause;
-use std::alloc::{AllocError, Global};
+use std::alloc::AllocError;
 use tetri_io::digits_below;
+
+// Of each byte whether it is a separator.
+static SEPARATORS: [bool; 256] = [
+    false, false, false, false, false, false, false, false, false, true, false, false, false, true,
+    false, false, false, false, false, false, false, false, false, false, false, false, false,
+    false, false, false, false, false, true, false, false, false, false, false, false, false,
+    false, false, false, false, false, false, false, false, false, false, false, false, false,
+    false, false, false, false, false, false, true, false, false, false, false, false, false,
+    false, false, false, false, false, false, false, false, false, false, false, false, false,
+    false, false, false, false, false, false, false, false, false, false, false, false, false,
+    false, false, false, false, false, false, false, false, false, false, false, false, false,
+    false, false, false, false, false, false, false, false, false, false, false, false, false,
+    false, false, false, false, false, false, false, false, false, false, false, false, false,
+    false, false, false, false, false, false, false, false, false, false, false, false, false,
+    false, false, false, false, false, false, false, false, false, false, false, false, false,
+    false, false, false, false, false, false, false, false, false, false, false, false, false,
+    false, false, false, false, false, false, false, false, false, false, false, false, false,
+    false, false, false, false, false, false, false, false, false, false, false, false, false,
+    false, false, false, false, false, false, false, false, false, false, false, false, false,
+    false, false, false, false, false, false, false, false, false, false, false, false, false,
+    false, false, false, false, false, false, false, false, false, false, false, false, false,
+    false, false, false, false, false, false, false, false, false, false, false, false, false,
+    false, false, false, false, false, false, false, false,
+];
 
 // A space, a tab, a carriage return or the mark of a comment.
 pub(crate) fn is_separator(b: u8) -> bool
     ensures { result ≡ is_separator b }
 {
-    b == b' ' || b == b'\t' || b == b'\r' || b == b';'
+    SEPARATORS[b as usize]
 }
 
-// As many words as a line of the Standard Workload Format has.
-const USUAL_COUNT: usize = 18;
-
-/// What stands between the separators of a line, where something does. Its only error is want of memory.
-pub(crate) fn words_of(alloc: Global, line: &[u8]) -> Result<Vec<&[u8]>, AllocError>
-    ensures { IfOk result (λ v. map (λ x. x.now) v.items ≡ words_of line.now) }
+/// Puts what stands between the separators of a line, where something does, in the place of other words. Its only error is want of memory.
+pub(crate) fn words_of<'a>(words: &mut Vec<&'a [u8]>, line: &'a [u8]) -> Result<(), AllocError>
+    ensures { OnOk result (map (λ x. x.now) words.new.items ≡ words_of line.now) }
 {
-    let mut words = Vec::with_capacity(alloc, USUAL_COUNT)?;
-    let parts = line.split(|b| is_separator(*b));
-    let some = parts.filter(|part| !part.is_empty());
-    for word in some {
-        words.push(word)?;
+    words.clear();
+    let mut from = 0;
+    for (i, b) in line.iter().enumerate() {
+        if is_separator(*b) {
+            if from < i {
+                words.push(&line[from..i])?;
+            }
+            from = i + 1;
+        }
     }
-    Ok(words)
+    if from < line.len() {
+        words.push(&line[from..])?;
+    }
+    Ok(())
+}
+
+/// Puts what stands between single bytes of a kind, before the first and behind the last, in the place of other parts. Its only error is
+/// want of memory.
+pub(crate) fn parts_of<'a>(
+    parts: &mut Vec<&'a [u8]>,
+    mark: u8,
+    line: &'a [u8],
+) -> Result<(), AllocError>
+    ensures { OnOk result (map (λ x. x.now) parts.new.items ≡ parts_at mark line.now) }
+{
+    parts.clear();
+    let mut from = 0;
+    for (i, b) in line.iter().enumerate() {
+        if *b == mark {
+            parts.push(&line[from..i])?;
+            from = i + 1;
+        }
+    }
+    parts.push(&line[from..])?;
+    Ok(())
 }
 
 /// A word by its place, or nothing.

@@ -2,3 +2,4 @@ pub mod KnownLemmas
 pub mod SameLemmas
 pub mod TakingLemmas
 pub mod ImportLemmas
+pub mod MarkLemmas

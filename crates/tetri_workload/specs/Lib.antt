@@ -1,6 +1,7 @@
 pub mod Kinds
 pub mod Known
 pub mod Partitions
+pub mod Marks
 pub mod Taking
 pub mod Ordering
 pub mod Saying

@@ -11,6 +11,7 @@ use Rattle.tetri_trace.specs.declared.trace.Happening.TheVariants.{Arrive, Cance
 use Rattle.tetri_logs.specs.Placing.{place}
 use Rattle.tetri_logs.specs.declared.options.Settings.{Settings}
 use Rattle.tetri_logs.specs.declared.placing.Placing.{Placing}
+use Rattle.tetri_workload.specs.Marks.{AreMarked}
 use Rattle.tetri_workload.specs.declared.taking.Taken.{Taken}
 
 -- the jobs that are taken, in order of submission, the second of each submission, with what happens to each, why others are left out, how many slots a run has, on
@@ -26,6 +27,10 @@ pub record Tally : Type 0 where
 
 abbrev pub so_far : Taken → Tally
 so_far t = record { jobs = map submission t.jobs; submits = t.submits.items; events = t.events.items; left = t.left.items; until = t.until; rounded = t.rounded.items; sets = t.sets.items }
+
+-- each job that is taken is marked
+abbrev pub HasMarks : Taken → Type 0
+HasMarks t = AreMarked t.marks (job_names (map submission t.jobs))
 
 abbrev pub nothing_taken : Tally
 nothing_taken = record { jobs = []; submits = []; events = []; left = []; until = 1; rounded = []; sets = [] }

@@ -1,5 +1,5 @@
 // From a log to a trace.
-ghost use Rattle.std.specs.Prelude.{◌≡◌, ◌+◌, IfErr, IfOk, length};
+ghost use Rattle.std.specs.Prelude.{◌≡◌, ◌+◌, ◌++◌, IfErr, IfOk, length};
 ghost use Rattle.tetri_base.specs.Lists.{count};
 ghost use Rattle.tetri_logs.specs.Reading.{entries, facts_in, is_comment, jobs_in, left_in, no_facts};
 ghost use Rattle.tetri_workload.specs.Import.{IsImport, IsImportOn, IsRefused};
@@ -67,7 +67,12 @@ pub struct Imported {
 }
 
 // What a log says, with the set of each job where nodes differ.
-fn read_on(alloc: Global, format: Format, nodes: &[NodeText], log: &[u8]) -> Result<Log, AllocError>
+fn read_on<'a>(
+    alloc: Global,
+    format: Format,
+    nodes: &[NodeText],
+    log: &'a [u8],
+) -> Result<Log<'a>, AllocError>
     ensures jobs { IfOk result (λ l. l.jobs.items ≡ jobs_in (entries (are_mixed nodes.now) format log.now)) }
     ensures left { IfOk result (λ l. l.left.items ≡ left_in (entries (are_mixed nodes.now) format log.now)) }
     ensures facts { IfOk result (λ l. l.facts ≡ facts_in no_facts (entries (are_mixed nodes.now) format log.now)) }
@@ -75,6 +80,18 @@ fn read_on(alloc: Global, format: Format, nodes: &[NodeText], log: &[u8]) -> Res
     ensures whole { IfOk result (λ l. length l.jobs.items + length l.left.items + l.comments ≡ length (entries (are_mixed nodes.now) format log.now)) }
 {
     read_log(alloc, are_mixed(nodes), format, log)
+}
+
+// Both, one behind the other.
+fn together(first: Vec<Reject>, second: Vec<Reject>) -> Result<Vec<Reject>, AllocError>
+    ensures { IfOk result (λ all. all.items ≡ first.items ++ second.items) }
+{
+    if first.is_empty() {
+        return Ok(second);
+    }
+    let mut all = first;
+    all.extend_from_slice(&second)?;
+    Ok(all)
 }
 
 // The same as `import`, where the options have as many nodes as are given.
@@ -105,13 +122,14 @@ fn import_on(
     if !alike {
         return Err(ImportFault::Unlike);
     }
-    let mut left = log.left;
-    left.extend_from_slice(&taken.left)?;
+    let jobs = taken.jobs.len();
+    let rounded = taken.rounded.as_slice().len();
+    let mut left = together(log.left, taken.left)?;
     by_line(&mut left)?;
     Ok(Imported {
         trace,
-        jobs: taken.jobs.len(),
-        rounded: taken.rounded.as_slice().len(),
+        jobs,
+        rounded,
         left,
         comments: log.comments,
         mixed: are_mixed(nodes),

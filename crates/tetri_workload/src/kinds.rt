@@ -145,25 +145,26 @@ impl Kinds {
     }
 
     // How many nodes are in a set.
-    fn room(&mut self, alloc: Global, nodes: &[NodeText], set: &[u8]) -> Result<usize, AllocError>
+    #[tactic(auto, using(crate::proofs::KnownLemmas::few_members))]
+    fn room(&mut self, alloc: Global, nodes: &[NodeText], set: &[u8]) -> Result<u32, AllocError>
         requires { AreKnown nodes.now self.old }
         ensures known { OnOk result (AreKnown nodes.now self.new) }
         ensures room { IfOk result (λ room. room ≡ length (members nodes.now set.now)) }
     {
         let number = self.number(alloc, nodes, set)?;
-        Ok(self.nodes_of(number).as_slice().len())
+        Ok(self.nodes_of(number).as_slice().len() as u32)
     }
 
     // Each job with how many nodes are in its set.
-    fn settle_each(
+    fn settle_each<'a>(
         &mut self,
         alloc: Global,
         nodes: &[NodeText],
-        mut jobs: Vec<LoggedJob>,
-    ) -> Result<Vec<LoggedJob>, AllocError>
+        mut jobs: Vec<LoggedJob<'a>>,
+    ) -> Result<Vec<LoggedJob<'a>>, AllocError>
         requires { AreKnown nodes.now self.old }
         ensures known { OnOk result (AreKnown nodes.now self.new) }
-        ensures jobs { IfOk result (λ all. all.items ≡ map (settled nodes.now) jobs.items) }
+        ensures jobs { IfOk result (λ all. all.items ≡ map (settled nodes.now) jobs.entry.items) }
     {
         for i in 0..jobs.len() {
             let room = self.room(alloc, nodes, jobs[i].set.text().as_bytes())?;
@@ -173,15 +174,15 @@ impl Kinds {
     }
 
     /// Each job with how many nodes are in its set, where nodes differ. Its only error is want of memory.
-    pub(crate) fn settle(
+    pub(crate) fn settle<'a>(
         &mut self,
         alloc: Global,
         nodes: &[NodeText],
-        jobs: Vec<LoggedJob>,
-    ) -> Result<Vec<LoggedJob>, AllocError>
+        jobs: Vec<LoggedJob<'a>>,
+    ) -> Result<Vec<LoggedJob<'a>>, AllocError>
         requires { AreKnown nodes.now self.old }
         ensures known { OnOk result (AreKnown nodes.now self.new) }
-        ensures jobs { IfOk result (λ all. all.items ≡ settled_all nodes.now jobs.items) }
+        ensures jobs { IfOk result (λ all. all.items ≡ settled_all nodes.now jobs.entry.items) }
     {
         if !are_mixed(nodes) {
             return Ok(jobs);

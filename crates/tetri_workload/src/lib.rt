@@ -4,6 +4,7 @@
 mod confirming;
 mod importing;
 mod kinds;
+mod marks;
 mod ordering;
 mod partitions;
 mod shelf;

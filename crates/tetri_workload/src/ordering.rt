@@ -8,7 +8,7 @@ use tetri_logs::{LoggedJob, Reject};
 use tetri_trace::Event;
 
 /// Puts jobs in order of submission. Its only error is want of memory.
-pub(crate) fn by_submission(jobs: &mut Vec<LoggedJob>) -> Result<(), AllocError>
+pub(crate) fn by_submission(jobs: &mut Vec<LoggedJob<'_>>) -> Result<(), AllocError>
     ensures { OnOk result (IsOrderBy (λ j. j.account.submit) jobs.old.items jobs.new.items) }
 {
     jobs.sort_by_key(|job| job.account.submit)?;

@@ -1,14 +1,14 @@
 // The jobs that are taken.
-ghost use Rattle.std.specs.Prelude.{◌≡◌, ◌<◌, ◌++◌, IfOk, OnOk, false, length, map, slice_get, string_bytes};
+ghost use Rattle.std.specs.Prelude.{◌≡◌, ◌<◌, ◌++◌, IfOk, OnOk, false, is_some, length, map, slice_get, string_bytes};
 ghost use Rattle.tetri_trace.specs.Scenario.{job_names, submission};
 ghost use Rattle.tetri_cluster.specs.Names.{is_among, number_of};
 ghost use Rattle.tetri_logs.specs.Options.{AreGood};
 ghost use Rattle.tetri_logs.specs.Placing.{IsPlaced};
-ghost use Rattle.tetri_workload.specs.Taking.{again, again_mark, again_name, end_of, is_second, kept, left_out, named, nothing_taken, rounded_of, so_far, taken, taken_all, with_logged};
+ghost use Rattle.tetri_workload.specs.Taking.{HasMarks, again, again_mark, again_name, end_of, is_second, kept, left_out, named, nothing_taken, rounded_of, so_far, taken, taken_all, with_logged};
 
+use crate::marks::Marks;
 use std::alloc::{AllocError, Global};
-use tetri_cluster::{Name, NameFault};
-use tetri_logs::{Cause, LoggedJob, Placing, Reject, SetText, Settings, place};
+use tetri_logs::{Cause, JobName, LoggedJob, Placing, Reject, SetText, Settings, place};
 use tetri_trace::{Event, Happening, Job, Jobs, Work};
 
 /// The jobs that are taken, with what happens to each, and why others are not.
@@ -27,6 +27,8 @@ pub struct Taken {
     pub rounded: Vec<usize>,
     /// The set of each job.
     pub sets: Vec<SetText>,
+    // A mark for the name of each job.
+    marks: Marks,
 }
 
 // The jobs that a trace has at most.
@@ -47,10 +49,12 @@ fn end_of(placing: &Placing) -> u32
 
 impl Taken {
     /// No jobs.
-    pub(crate) fn new(alloc: Global) -> Taken
-        ensures { so_far result ≡ nothing_taken }
+    pub(crate) fn new(alloc: Global) -> Result<Taken, AllocError>
+        ensures tally { IfOk result (λ t. so_far t ≡ nothing_taken) }
+        ensures marks { IfOk result HasMarks }
     {
-        Taken {
+        let marks = Marks::new(alloc)?;
+        Ok(Taken {
             jobs: Jobs::new(alloc),
             submits: Vec::new(alloc),
             events: Vec::new(alloc),
@@ -58,12 +62,27 @@ impl Taken {
             until: 1,
             rounded: Vec::new(alloc),
             sets: Vec::new(alloc),
+            marks,
+        })
+    }
+
+    // The number of the job with a name, which most names that no job has need not be looked up for.
+    #[tactic(auto, using(crate::proofs::MarkLemmas::not_among, crate::proofs::MarkLemmas::not_found))]
+    fn find(&self, name: &[u8]) -> Option<u32>
+        requires { HasMarks self.now }
+        ensures value { result ≡ number_of name.now (job_names (map submission self.now.jobs)) }
+        ensures found { is_some result ≡ is_among name.now (job_names (map submission self.now.jobs)) }
+    {
+        if !self.marks.has(name) {
+            return None;
         }
+        self.jobs.find(name)
     }
 
     // A job that is left out.
     fn leave(&mut self, line: usize, cause: Cause) -> Result<(), AllocError>
-        ensures { OnOk result (so_far self.new ≡ left_out (so_far self.old) line cause) }
+        ensures tally { OnOk result (so_far self.new ≡ left_out (so_far self.old) line cause) }
+        ensures marks { HasMarks self.old → OnOk result (HasMarks self.new) }
     {
         self.left.push(Reject { line, cause })?;
         Ok(())
@@ -72,18 +91,23 @@ impl Taken {
     // A job that is taken.
     fn take(
         &mut self,
+        alloc: Global,
         line: usize,
         submit: u32,
-        name: Name,
+        name: JobName<'_>,
         set: SetText,
         placing: &Placing,
     ) -> Result<(), AllocError>
         requires few { length self.old.jobs < 100000 }
         requires new { is_among name (job_names (map submission self.old.jobs)) ≡ false }
         requires placed { IsPlaced placing.now }
-        ensures { OnOk result (so_far self.new ≡ taken (so_far self.old) line submit name set placing.now) }
+        requires marks { HasMarks self.old }
+        ensures tally { OnOk result (so_far self.new ≡ taken (so_far self.old) line submit name.entry set placing.now) }
+        ensures marks { OnOk result (HasMarks self.new) }
     {
         let number = self.jobs.len() as u32;
+        let name = name.owned(alloc)?;
+        self.marks.add(name.bytes());
         self.jobs.push(Job {
             name,
             arrival: placing.arrival,
@@ -109,16 +133,19 @@ impl Taken {
     // A job that is taken unless so many are there as are wanted or possible.
     fn keep(
         &mut self,
+        alloc: Global,
         settings: &Settings,
         line: usize,
         submit: u32,
-        name: Name,
+        name: JobName<'_>,
         set: SetText,
         placing: &Placing,
     ) -> Result<(), AllocError>
         requires new { is_among name (job_names (map submission self.old.jobs)) ≡ false }
         requires placed { IsPlaced placing.now }
-        ensures { OnOk result (so_far self.new ≡ kept settings.now (so_far self.old) line submit name set placing.now) }
+        requires marks { HasMarks self.old }
+        ensures tally { OnOk result (so_far self.new ≡ kept settings.now (so_far self.old) line submit name.entry set placing.now) }
+        ensures marks { OnOk result (HasMarks self.new) }
     {
         if settings.most as usize <= self.jobs.len() {
             return self.leave(line, Cause::Outside);
@@ -126,7 +153,7 @@ impl Taken {
         if MOST_JOBS <= self.jobs.len() {
             return self.leave(line, Cause::Beyond);
         }
-        self.take(line, submit, name, set, placing)
+        self.take(alloc, line, submit, name, set, placing)
     }
 
     // A job that was submitted again, under this name.
@@ -136,22 +163,22 @@ impl Taken {
         settings: &Settings,
         line: usize,
         submit: u32,
-        name: &str,
+        name: &[u8],
         set: SetText,
         placing: &Placing,
     ) -> Result<(), AllocError>
-        requires { IsPlaced placing.now }
-        ensures { OnOk result (so_far self.new ≡ again settings.now (so_far self.old) line submit name.now set placing.now) }
+        requires placed { IsPlaced placing.now }
+        requires marks { HasMarks self.old }
+        ensures tally { OnOk result (so_far self.new ≡ again settings.now (so_far self.old) line submit name.now set placing.now) }
+        ensures marks { OnOk result (HasMarks self.new) }
     {
-        let name = match Name::read(alloc, name.as_bytes()) {
-            Ok(name) => name,
-            Err(NameFault::NotName) => return self.leave(line, Cause::Beyond),
-            Err(NameFault::NoMemory) => return Err(AllocError),
+        let Some(name) = JobName::lent(name) else {
+            return self.leave(line, Cause::Beyond);
         };
-        if self.jobs.find(name.bytes()).is_some() {
+        if self.find(name.bytes()).is_some() {
             return self.leave(line, Cause::Repeated);
         }
-        self.keep(settings, line, submit, name, set, placing)
+        self.keep(alloc, settings, line, submit, name, set, placing)
     }
 
     // Whether a job was submitted in this second.
@@ -169,11 +196,13 @@ impl Taken {
         &mut self,
         alloc: Global,
         settings: &Settings,
-        job: LoggedJob,
+        job: LoggedJob<'_>,
         placing: &Placing,
     ) -> Result<(), AllocError>
-        requires { IsPlaced placing.now }
-        ensures { OnOk result (so_far self.new ≡ named settings.now (so_far self.old) job.line job.account.submit job.name job.set placing.now (number_of job.name (job_names (map submission self.old.jobs)))) }
+        requires placed { IsPlaced placing.now }
+        requires marks { HasMarks self.old }
+        ensures marks { OnOk result (HasMarks self.new) }
+        ensures tally { OnOk result (so_far self.new ≡ named settings.now (so_far self.old) job.entry.line job.entry.account.submit job.entry.name job.entry.set placing.now (number_of job.entry.name (job_names (map submission self.old.jobs)))) }
     {
         let LoggedJob {
             line,
@@ -182,22 +211,29 @@ impl Taken {
             set,
         } = job;
         let submit = account.submit;
-        match self.jobs.find(name.bytes()) {
-            None => self.keep(settings, line, submit, name, set, placing),
+        match self.find(name.bytes()) {
+            None => self.keep(alloc, settings, line, submit, name, set, placing),
             Some(number) => {
                 if self.is_second(number, submit) {
                     return self.leave(line, Cause::Repeated);
                 }
-                let again = again_name(alloc, name.text(), submit)?;
-                self.add_again(alloc, settings, line, submit, again.as_str(), set, placing)
+                let again = again_name(alloc, name.bytes(), submit)?;
+                self.add_again(alloc, settings, line, submit, &again, set, placing)
             }
         }
     }
 
     // A job of the log, after those that were submitted before it.
-    fn add(&mut self, alloc: Global, settings: &Settings, job: LoggedJob) -> Result<(), AllocError>
-        requires { AreGood settings.now }
-        ensures { OnOk result (so_far self.new ≡ with_logged settings.now (so_far self.old) job) }
+    fn add(
+        &mut self,
+        alloc: Global,
+        settings: &Settings,
+        job: LoggedJob<'_>,
+    ) -> Result<(), AllocError>
+        requires good { AreGood settings.now }
+        requires marks { HasMarks self.old }
+        ensures tally { OnOk result (so_far self.new ≡ with_logged settings.now (so_far self.old) job.entry) }
+        ensures marks { OnOk result (HasMarks self.new) }
     {
         match place(settings, job.account) {
             Ok(placing) => self.add_placed(alloc, settings, job, &placing),
@@ -217,18 +253,19 @@ fn add_rounded(rounded: &mut Vec<usize>, line: usize, placing: &Placing) -> Resu
 }
 
 // The mark of a job that was submitted again: when that was.
-fn add_mark(text: &mut String, submit: u32) -> Result<(), AllocError>
-    ensures { OnOk result (string_bytes text.new ≡ string_bytes text.old ++ again_mark submit) }
+fn mark_of(alloc: Global, submit: u32) -> Result<String, AllocError>
+    ensures { IfOk result (λ text. string_bytes text ≡ again_mark submit) }
 {
-    write!(text, ":{submit}")
+    format!(in alloc; ":{submit}")
 }
 
 // What a job is called that was submitted again: its name, and when that was.
-fn again_name(alloc: Global, name: &str, submit: u32) -> Result<String, AllocError>
-    ensures { IfOk result (λ text. string_bytes text ≡ again_name name.now submit) }
+fn again_name(alloc: Global, name: &[u8], submit: u32) -> Result<Vec<u8>, AllocError>
+    ensures { IfOk result (λ text. text.items ≡ again_name name.now submit) }
 {
-    let mut text = String::from_str(alloc, name)?;
-    add_mark(&mut text, submit)?;
+    let mark = mark_of(alloc, submit)?;
+    let mut text = Vec::from_slice(alloc, name)?;
+    text.extend_from_slice(mark.as_bytes())?;
     Ok(text)
 }
 
@@ -236,12 +273,12 @@ fn again_name(alloc: Global, name: &str, submit: u32) -> Result<String, AllocErr
 pub(crate) fn take_all(
     alloc: Global,
     settings: &Settings,
-    jobs: Vec<LoggedJob>,
+    jobs: Vec<LoggedJob<'_>>,
 ) -> Result<Taken, AllocError>
     requires { AreGood settings.now }
-    ensures { IfOk result (λ t. so_far t ≡ taken_all settings.now jobs.items) }
+    ensures { IfOk result (λ t. so_far t ≡ taken_all settings.now jobs.entry.items) }
 {
-    let mut taken = Taken::new(alloc);
+    let mut taken = Taken::new(alloc)?;
     for job in jobs {
         taken.add(alloc, settings, job)?;
     }

@@ -1,6 +1,6 @@
-use Rattle.std.proofs.Common.{◌≡◌, ◌<◌, ◌^◌, drop}
-use Rattle.tetri_logs.specs.Origin.{gap_after}
+use Rattle.std.proofs.Common.{◌≡◌, drop, take}
+use Rattle.tetri_logs.specs.Origin.{gap_after, last_second}
 use Rattle.tetri_logs.proofs.origin.gap_after.Given as goal
 
-abbrev pub invariant-loop-job : goal.invariant-loop-job
-invariant-loop-job l = record { small : l.last < 2 ^ 33; same : gap_after l.settings l.fn.last l.jobs ≡ gap_after l.settings l.last (drop l.job-index l.jobs) }
+abbrev pub invariant-loop-i : goal.invariant-loop-i
+invariant-loop-i l = gap_after l.settings l.last l.jobs ≡ gap_after l.settings (last_second l.settings l.last (take l.i l.jobs)) (drop l.i l.jobs)

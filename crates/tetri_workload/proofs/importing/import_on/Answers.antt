@@ -41,15 +41,14 @@ returns-clause-trace c =
     let tally : so_far t ≡ taken_all s order = c.in_ok-taken.ensures in
     let read : IsReadAs s nodes (record (so_far t) { events = events }) (string_bytes c.in_ok-trace.trace) =
     subst (IsReadAs s nodes (record (so_far t) { events = events })) c.deref-3.ensures (c.in_ok-alike.ensures.0 (search rules)) in
-    let extended : c.extend_from_slice.new.self.items ≡ left_in es ++ t.left.items =
-    c.in_ok-extend_from_slice.ensures.items ∙ ap (λ cs. log.left.items ++ cs) c.deref-4.ensures.value ∙ ap (λ cs. cs ++ t.left.items) c.in_ok-log.ensures.left in
+    let extended : c.in_ok-left.left.items ≡ left_in es ++ t.left.items = c.in_ok-left.ensures ∙ ap (λ cs. cs ++ t.left.items) c.in_ok-log.ensures.left in
     let left : IsOrderBy (λ r. r.line) (left_in es ++ t.left.items) c.by_line.new.left.items =
     subst (λ rs. IsOrderBy (λ r. r.line) rs c.by_line.new.left.items) extended c.in_ok-by_line.ensures in
-    let rounded : length c.as_slice.result.now ≡ length t.rounded.items = ap length c.as_slice.ensures.value in
+    let rounded : length c.as_slice-rounded.result.now ≡ length t.rounded.items = ap length c.as_slice-rounded.ensures.value in
     let whole : length (jobs_in es) + length (left_in es) + log.comments ≡ length es =
     omega (arith, ap length c.in_ok-log.ensures.jobs, ap length c.in_ok-log.ensures.left, c.in_ok-log.ensures.whole) in
-    let i : Imported = record { trace = c.in_ok-trace.trace; jobs = c.len.result; rounded = length c.as_slice.result.now; left = c.by_line.new.left; comments = log.comments; mixed = c.are_mixed.result } in
-    (draft, order, read.0, imported es nodes o i draft s order t events drafted is gap tally in_order read left c.len.ensures.value rounded c.in_ok-log.ensures.comments c.are_mixed.ensures whole)
+    let i : Imported = record { trace = c.in_ok-trace.trace; jobs = c.len-jobs.result; rounded = length c.as_slice-rounded.result.now; left = c.by_line.new.left; comments = log.comments; mixed = c.are_mixed.result } in
+    (draft, order, read.0, imported es nodes o i draft s order t events drafted is gap tally in_order read left c.len-jobs.ensures.value rounded c.in_ok-log.ensures.comments c.are_mixed.ensures whole)
 
 pub returns-then-not-alike-clause-refused : goal.returns-then-not-alike-clause-refused
 returns-then-not-alike-clause-refused c =
