@@ -20,15 +20,14 @@ pub struct JobName<'a> {
 }
 
 impl<'a> Model for JobName<'a> {
-    ghost use Rattle.std.specs.Prelude.{List, ℕ, ◌≡◌, true};
-    ghost use Rattle.tetri_cluster.specs.Names.{is_name};
-    ghost use Rattle.tetri_logs.specs.JobName.{name_bytes};
+    ghost use Rattle.std.specs.Prelude.{List, ℕ};
+    ghost use Rattle.tetri_logs.specs.JobName.{IsLentName, name_bytes};
 
     ghost Value = { List ℕ };
 
     ghost view = { λ n. name_bytes n.bytes };
 
-    ghost invariant = { λ n. is_name (name_bytes n.bytes) ≡ true };
+    ghost invariant = { λ n. IsLentName n.bytes };
 }
 
 impl<'a> JobName<'a> {
@@ -48,7 +47,6 @@ impl<'a> JobName<'a> {
     pub(crate) fn made(alloc: Global, name: Name) -> Result<JobName<'a>, AllocError>
         ensures { IfOk result (λ n. n ≡ name) }
     {
-        let _ = name.bytes();
         let name = Box::new(alloc, name)?;
         Ok(JobName {
             bytes: NameBytes::Made(name),
