@@ -97,6 +97,7 @@ pub(crate) fn is_text(word: &[u8], text: &str) -> bool
 }
 
 /// The number below 2^32 that a word's 1 to 10 digits are.
+#[inline(always)]
 pub(crate) fn count_in(word: &[u8]) -> Option<u32>
     ensures { result ≡ count_in word.now }
 {
@@ -117,6 +118,7 @@ pub(crate) fn needed(column: usize, word: &[u8]) -> Result<u32, Cause>
 }
 
 /// The number that a word in a column is, where it is known: `-1` says that it is not.
+#[inline(always)]
 pub(crate) fn amount(column: usize, word: &[u8]) -> Result<Option<u32>, Cause>
     ensures { result ≡ amount column word.now }
 {

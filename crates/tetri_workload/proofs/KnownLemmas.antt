@@ -21,6 +21,13 @@ known_within nodes lists texts set n known found =
     let at = position-Some (bytes_eq set) texts n [] found in
     subst (λ xs. n < length xs) (sym known) (subst (λ m. n < m) (sym (length-map texts (members nodes))) at.0)
 
+-- a set that stands at a place has its nodes there
+pub known_there : (nodes : List NodeText) (lists texts : List (List ℕ)) (set : List ℕ) (n : ℕ) → lists ≡ map (members nodes) texts → n < length texts → get_or texts n [] ≡ set → get_or lists n [] ≡ members nodes set
+known_there nodes lists texts set n known low same = ap (λ xs. get_or xs n []) known ∙ get_or-map (members nodes) texts n [] [] low ∙ ap (members nodes) same
+
+pub there_within : (nodes : List NodeText) (lists texts : List (List ℕ)) (n : ℕ) → lists ≡ map (members nodes) texts → n < length texts → n < length lists
+there_within nodes lists texts n known low = subst (λ xs. n < length xs) (sym known) (subst (λ m. n < m) (sym (length-map texts (members nodes))) low)
+
 -- no set has more nodes than a trace
 few_by : (number : ℕ) (rest : List ℕ) (b c : Bool) → (b ≡ true → number < 4096) → length rest ≤ 4096 - (number + 1) → length (cond (b && c) (number ∷ rest) rest) ≤ 4096 - number
 few_by number rest true true room few = let inside = room refl in omega arith

@@ -1,14 +1,11 @@
 -- Names that are not marked are none of those that are.
-use Rattle.std.proofs.Common.{◌≡◌, ◌<◌, ◌∙◌, ◌++◌, ◌∷◌, [], ℕ, List, Bool, true, false, length, map, get_or, refl, ap, sym, subst, bytes_eq}
-use Rattle.std.specs.Prelude.{All, Option, Some, None}
-use Rattle.std.proofs.lemmas.List.{map-append}
-use Rattle.std.proofs.lemmas.List.Elements.{All-get_or, All-push, All-same, All-weaker}
+use Rattle.std.proofs.Common.{◌≡◌, ◌∙◌, [], ℕ, List, Bool, true, false, get_or, refl, ap, sym, bytes_eq}
+use Rattle.std.specs.Prelude.{Option, Some, None}
+use Rattle.std.proofs.lemmas.List.Elements.{All-get_or, All-weaker}
 use Rattle.std.proofs.lemmas.List.Folds.{list_any_none}
 use Rattle.std.proofs.lemmas.List.Quantifiers.{position-Some}
 use Rattle.std.proofs.lemmas.Slice.Eq.{bytes_eq-Decides}
 use Rattle.tetri_cluster.specs.Names.{is_among, number_of}
-use Rattle.tetri_trace.specs.Scenario.{job_names, submission}
-use Rattle.tetri_trace.specs.declared.trace.Job.{Job}
 use Rattle.tetri_workload.specs.Marks.{AreMarked, is_marked}
 use Rattle.tetri_workload.specs.declared.marks.Marks.{Marks}
 
@@ -37,14 +34,3 @@ found_by m name names marked none (Some i) is =
 
 pub not_found : (m : Marks) (name : List ℕ) (names : List (List ℕ)) → AreMarked m names → is_marked m name ≡ false → number_of name names ≡ None
 not_found m name names marked none = found_by m name names marked none (number_of name names) refl
-
--- one job more, whose name is marked
-names_more : (jobs : List Job) (job : Job) → job_names (map submission (jobs ++ job ∷ [])) ≡ job_names (map submission jobs) ++ job.name ∷ []
-names_more jobs job = ap job_names (map-append submission jobs (job ∷ [])) ∙ map-append (λ j. j.name) (map submission jobs) (submission job ∷ [])
-
-pub marked_more : (before after : Marks) (jobs more : List Job) (job : Job) → more ≡ jobs ++ job ∷ [] → AreMarked before (job_names (map submission jobs))
-    → ((name : List ℕ) → is_marked before name ≡ true → is_marked after name ≡ true) → is_marked after job.name ≡ true → AreMarked after (job_names (map submission more))
-marked_more before after jobs more job is marked kept own =
-    let P : List ℕ → Type 0 = λ name. is_marked after name ≡ true in
-    All-same P _ _ (ap (λ js. job_names (map submission js)) is ∙ names_more jobs job)
-    (All-push P (job_names (map submission jobs)) job.name (All-weaker (λ name. is_marked before name ≡ true) P kept (job_names (map submission jobs)) marked) own)

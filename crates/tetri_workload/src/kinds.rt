@@ -1,5 +1,5 @@
 // Nodes that differ, and which of them are in a set.
-ghost use Rattle.std.specs.Prelude.{◌≡◌, ◌<◌, [], IfOk, OnOk, false, length, map, slice_index_or};
+ghost use Rattle.std.specs.Prelude.{◌≡◌, ◌↔◌, ◌<◌, [], IfOk, IfSome, IsTrue, OnOk, false, length, map, slice_index_or};
 ghost use Rattle.tetri_cluster.specs.Names.{is_among};
 ghost use Rattle.tetri_workload.specs.Kinds.{are_mixed, fitted, has_all, members, members_from, settled, settled_all, tags_in};
 
@@ -11,6 +11,9 @@ use tetri_logs::{LoggedJob, Options};
 
 // The nodes that a trace has at most.
 const MOST_NODES: usize = 4096;
+
+// As many sets as are looked through before one is looked up.
+const FIRST_SETS: usize = 8;
 
 /// The sets that were asked for, by their texts, and the nodes of each.
 #[derive(Drop)]
@@ -88,6 +91,12 @@ fn members_of(alloc: Global, nodes: &[NodeText], set: &[u8]) -> Result<NodeSet, 
     members_with(alloc, nodes, &tags)
 }
 
+fn is_same(one: &[u8], other: &[u8]) -> bool
+    ensures { IsTrue result ↔ (one.now ≡ other.now) }
+{
+    one == other
+}
+
 impl Kinds {
     ghost use Rattle.tetri_workload.specs.Known.{AreKnown};
 
@@ -115,8 +124,23 @@ impl Kinds {
         self.members.push(members)
     }
 
+    // The number of a set, if it is one of the first.
+    #[tactic(auto, using(std::proofs::lemmas::Option::get_or_from_slice_get))]
+    fn first_number(&self, set: &[u8]) -> Option<usize>
+        ensures within { IfSome result (λ n. n < length self.now.texts) }
+        ensures text { IfSome result (λ n. slice_index_or self.now.texts n [] ≡ set.now) }
+    {
+        for number in 0..self.texts.len().min(FIRST_SETS) {
+            match self.texts.name(number) {
+                Some(text) if is_same(text, set) => return Some(number),
+                _ => {}
+            }
+        }
+        None
+    }
+
     /// The number of a set, whose nodes are known then. Its only error is want of memory.
-    #[tactic(auto, using(crate::proofs::KnownLemmas::known_at, crate::proofs::KnownLemmas::known_within))]
+    #[tactic(auto, using(crate::proofs::KnownLemmas::known_at, crate::proofs::KnownLemmas::known_within, crate::proofs::KnownLemmas::known_there, crate::proofs::KnownLemmas::there_within))]
     pub(crate) fn number(
         &mut self,
         alloc: Global,
@@ -128,6 +152,9 @@ impl Kinds {
         ensures nodes { IfOk result (λ n. slice_index_or self.new.members n [] ≡ members nodes.now set.now) }
         ensures within { IfOk result (λ n. n < length self.new.members) }
     {
+        if let Some(number) = self.first_number(set) {
+            return Ok(number);
+        }
         if let Some(number) = self.texts.number(set) {
             return Ok(number);
         }
