@@ -1,6 +1,6 @@
 -- A gap behind the first jobs.
 use Rattle.std.proofs.Common.{◌≡◌, ◌+◌, ◌*◌, ◌<◌, ◌∙◌, ℕ, List, Bool, true, false, [], ◌∷◌, ◌++◌, take, drop, length, get_or, cond, refl, ap, sym}
-use Rattle.std.specs.Prelude.{nat_lt, Option}
+use Rattle.std.specs.Prelude.{nat_lt}
 use Rattle.std.proofs.lemmas.List.{drop_more, take_more}
 use Rattle.tetri_logs.specs.Origin.{gap_after, gap_at, last_second, may_begin}
 use Rattle.tetri_logs.specs.Scale.{moment_of}

@@ -1,5 +1,5 @@
 -- The first line of a log.
-use Rattle.std.proofs.Common.{◌≡◌, ◌+◌, ◌-◌, ◌<◌, ◌≤◌, ◌∙◌, ℕ, suc, List, Bool, true, false, [], ◌∷◌, ◌++◌, length, take, drop, get_or, cond, refl, ap, sym, arith, tests}
+use Rattle.std.proofs.Common.{◌≡◌, ◌+◌, ◌-◌, ◌<◌, ◌∙◌, ℕ, suc, List, Bool, true, false, [], ◌∷◌, ◌++◌, length, take, drop, get_or, cond, refl, ap, sym, arith, tests}
 use Rattle.std.specs.Prelude.{All, Some, None, ◌==◌}
 use Rattle.std.specs.List.{slice_split}
 use Rattle.std.proofs.lemmas.List.{drop_more, get_or-take, get_or_default, length-take-le, take-append-drop, take_rest}

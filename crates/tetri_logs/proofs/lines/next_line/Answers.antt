@@ -1,4 +1,4 @@
-use Rattle.std.proofs.Common.{◌<◌, length, arith, rules}
+use Rattle.std.proofs.Common.{◌<◌, length, arith}
 use Rattle.tetri_logs.proofs.LineLemmas.{line_alone, line_at}
 use Rattle.tetri_logs.proofs.lines.next_line.Goals as goal
 

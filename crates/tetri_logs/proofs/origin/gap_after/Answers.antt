@@ -1,4 +1,4 @@
-use Rattle.std.proofs.Common.{◌≡◌, ◌+◌, ◌*◌, ◌<◌, ◌∙◌, ℕ, true, length, get_or, ap, sym, arith, rules, tests}
+use Rattle.std.proofs.Common.{◌≡◌, ◌+◌, ◌*◌, ◌<◌, ◌∙◌, ℕ, true, get_or, ap, sym, arith, tests}
 use Rattle.std.specs.Prelude.{nat_lt}
 use Rattle.tetri_logs.specs.Origin.{may_begin}
 use Rattle.tetri_logs.specs.Scale.{moment_of}

@@ -1,4 +1,4 @@
-use Rattle.std.proofs.Common.{◌≡◌, ◌+◌, ◌∙◌, ◌++◌, length, ap, sym, arith}
+use Rattle.std.proofs.Common.{◌≡◌, ◌+◌, ◌∙◌, ◌++◌, ap, sym, arith}
 use Rattle.tetri_base.specs.Lists.{count}
 use Rattle.tetri_logs.specs.Entry.{entries_in, line_entries}
 use Rattle.tetri_logs.specs.Lines.{log_lines}

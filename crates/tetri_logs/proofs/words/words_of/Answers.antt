@@ -1,4 +1,4 @@
-use Rattle.std.proofs.Common.{◌≡◌, ◌+◌, ◌-◌, ◌<◌, ◌∙◌, ◌++◌, ◌∷◌, [], List, ℕ, Bool, Bor, drop, map, get_or, length, ap, sym, arith, rules, true, false}
+use Rattle.std.proofs.Common.{◌≡◌, ◌+◌, ◌<◌, ◌∙◌, ◌++◌, List, ℕ, Bool, Bor, drop, map, get_or, length, ap, sym, arith, true, false}
 use Rattle.std.specs.Prelude.{◌==◌, not}
 use Rattle.std.specs.List.{slice_range, filter}
 use Rattle.std.proofs.lemmas.List.{map_push}
