@@ -4,7 +4,7 @@ ghost use Rattle.tetri_logs.specs.Swf.{is_comment, is_known_as, is_part, swf_acc
 
 use crate::account::{Account, Columns, account_of, positive};
 use crate::entry::Cause;
-use crate::words::{amount, count_in, is_text, needed, word_at};
+use crate::words::{amount, amount_by, count_in, is_text, needed, word_at};
 use tetri_io::is_blank;
 
 /// Whether the first byte that is no blank begins a comment, or there is none.
@@ -66,7 +66,8 @@ pub(crate) fn swf_account(words: &[&[u8]]) -> Result<Account, Cause>
     if words.len() != 18 {
         return Err(Cause::Unreadable(words.len().min(18) + 1));
     }
-    if is_part(count_in(words[10])) {
+    let status = count_in(words[10]);
+    if is_part(status) {
         return Err(Cause::Step);
     }
     let _number = needed(1, words[0])?;
@@ -76,7 +77,7 @@ pub(crate) fn swf_account(words: &[&[u8]]) -> Result<Account, Cause>
     let given = amount(5, words[4])?;
     let asked = amount(8, words[7])?;
     let limit = amount(9, words[8])?;
-    let status = amount(11, words[10])?;
+    let status = amount_by(11, words[10], status)?;
     let width = width_of(asked, given)?;
     Ok(account_of(Columns {
         submit,

@@ -122,9 +122,24 @@ pub(crate) fn needed(column: usize, word: &[u8]) -> Result<u32, Cause>
 pub(crate) fn amount(column: usize, word: &[u8]) -> Result<Option<u32>, Cause>
     ensures { result ≡ amount column word.now }
 {
+    amount_by(column, word, count_in(word))
+}
+
+/// The same of a word whose digits are this number.
+#[inline(always)]
+pub(crate) fn amount_by(
+    column: usize,
+    word: &[u8],
+    number: Option<u32>,
+) -> Result<Option<u32>, Cause>
+    requires { number ≡ count_in word.now }
+    ensures { result ≡ amount column word.now }
+{
     if is_text(word, "-1") {
         return Ok(None);
     }
-    let number = needed(column, word)?;
-    Ok(Some(number))
+    match number {
+        Some(number) => Ok(Some(number)),
+        None => Err(Cause::Unreadable(column)),
+    }
 }

@@ -1,5 +1,5 @@
 -- What is told of an import.
-use Rattle.std.specs.Prelude.{ℕ, ◌-◌, ◌==◌, Bool, List, [], ◌++◌, count_by, codes, decimal, flat_map, slice_index_or, if◌then◌else◌}
+use Rattle.std.specs.Prelude.{ℕ, ◌-◌, ◌==◌, Bool, List, [], ◌++◌, count_by, codes, decimal, flat_map, map, slice_index_or, if◌then◌else◌}
 use Rattle.tetri_logs.specs.Lines.{log_lines}
 use Rattle.tetri_logs.specs.declared.entry.Cause.{Cause}
 use Rattle.tetri_logs.specs.declared.entry.Cause.TheVariants.{Unreadable, Step, NoNodes, Backwards, TooLarge, PartNode, Outside, Repeated, Beyond, Constraint, NoSet}
@@ -23,12 +23,13 @@ cause_number Beyond = 8
 cause_number Constraint = 9
 cause_number NoSet = 10
 
--- whether a line is left out for a cause, in whatever column
-abbrev pub is_for : Cause → Reject → Bool
-is_for cause r = cause_number r.cause == cause_number cause
+-- why each line is left out, in whatever column
+abbrev pub causes_of : List Reject → List ℕ
+causes_of left = map (λ r. cause_number r.cause) left
 
-abbrev pub count_of : Cause → List Reject → ℕ
-count_of cause left = count_by (is_for cause) left
+-- how many of them for this cause
+abbrev pub count_of : Cause → List ℕ → ℕ
+count_of cause causes = count_by (λ n. n == cause_number cause) causes
 
 abbrev pub cause_word : Cause → List ℕ
 cause_word (Unreadable column) = codes "unreadable"
@@ -48,24 +49,28 @@ abbrev pub count_line : List ℕ → ℕ → List ℕ
 count_line word count = word ++ codes " " ++ decimal count ++ codes "\n"
 
 -- how many lines were left out for a cause
-abbrev pub cause_line : List Reject → Cause → List ℕ
-cause_line left cause = count_line (cause_word cause) (count_of cause left)
+abbrev pub cause_line : List ℕ → Cause → List ℕ
+cause_line causes cause = count_line (cause_word cause) (count_of cause causes)
 
--- how many lines are left out for what they say themselves, and for what they ask for
-abbrev pub first_causes : List Reject → List ℕ
-first_causes left = cause_line left (Unreadable 0) ++ cause_line left Step ++ cause_line left NoNodes ++ cause_line left Backwards
+-- how many lines were left out for what they say themselves, and for what they ask for
+abbrev pub first_causes : List ℕ → List ℕ
+first_causes causes = cause_line causes (Unreadable 0) ++ cause_line causes Step ++ cause_line causes NoNodes ++ cause_line causes Backwards
 
-abbrev pub last_causes : List Reject → List ℕ
-last_causes left = cause_line left TooLarge ++ cause_line left PartNode ++ cause_line left Outside ++ cause_line left Repeated ++ cause_line left Beyond
+abbrev pub last_causes : List ℕ → List ℕ
+last_causes causes = cause_line causes TooLarge ++ cause_line causes PartNode ++ cause_line causes Outside ++ cause_line causes Repeated ++ cause_line causes Beyond
 
 -- how many lines are left out for the nodes that they ask for, where nodes differ
-abbrev pub mixed_causes : Imported → List ℕ
-mixed_causes i = if i.mixed then cause_line i.left.items Constraint ++ cause_line i.left.items NoSet else []
+abbrev pub mixed_causes : Bool → List ℕ → List ℕ
+mixed_causes mixed causes = if mixed then cause_line causes Constraint ++ cause_line causes NoSet else []
+
+-- how many lines are left out for each cause
+abbrev pub all_causes : Bool → List ℕ → List ℕ
+all_causes mixed causes = first_causes causes ++ last_causes causes ++ mixed_causes mixed causes
 
 -- how many jobs are taken, how many of them take a whole node for fewer processors, how many lines are comments, and these
 abbrev pub counts_text : Imported → List ℕ
 counts_text i =
-    count_line (codes "taken") i.jobs ++ count_line (codes "rounded-up") i.rounded ++ count_line (codes "comments") i.comments ++ first_causes i.left.items ++ last_causes i.left.items ++ mixed_causes i
+    count_line (codes "taken") i.jobs ++ count_line (codes "rounded-up") i.rounded ++ count_line (codes "comments") i.comments ++ all_causes i.mixed (causes_of i.left.items)
 
 -- the column at which a line stops being one
 abbrev pub column_text : Cause → List ℕ

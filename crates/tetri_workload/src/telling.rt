@@ -1,6 +1,6 @@
 // What is told of an import.
 ghost use Rattle.std.specs.Prelude.{◌≡◌, ◌-◌, ◌++◌, [], IfOk, OnOk, flat_map, map, slice_index_or, string_bytes};
-ghost use Rattle.tetri_workload.specs.Telling.{cause_line, cause_number, cause_word, column_text, count_line, count_of, counts_text, fault_words, first_causes, from_words, gap_words, is_for, last_causes, mixed_causes, option_words, reason_text, reject_text, rejects_text, to_words};
+ghost use Rattle.tetri_workload.specs.Telling.{all_causes, cause_line, cause_number, cause_word, causes_of, column_text, count_line, count_of, counts_text, fault_words, first_causes, from_words, gap_words, last_causes, mixed_causes, option_words, reason_text, reject_text, rejects_text, to_words};
 
 use crate::importing::{ImportFault, Imported};
 use std::alloc::{AllocError, Global};
@@ -24,18 +24,20 @@ fn cause_number(cause: Cause) -> u8
     }
 }
 
-// Whether a line is left out for a cause, in whatever column.
-fn is_for(cause: Cause, reject: Reject) -> bool
-    ensures { result ≡ is_for cause reject }
+// Why each line is left out, in whatever column.
+fn causes_of(alloc: Global, left: &[Reject]) -> Result<Vec<u8>, AllocError>
+    ensures { IfOk result (λ v. v.items ≡ causes_of left.now) }
 {
-    cause_number(reject.cause) == cause_number(cause)
+    let causes = left.iter().map(|reject| cause_number(reject.cause));
+    causes.collect(alloc)
 }
 
-// How many lines were left out for a cause.
-fn count_of(cause: Cause, left: &[Reject]) -> usize
-    ensures { result ≡ count_of cause left.now }
+// How many of them for this cause.
+fn count_of(cause: Cause, causes: &[u8]) -> usize
+    ensures { result ≡ count_of cause causes.now }
 {
-    left.iter().filter(|reject| is_for(cause, **reject)).count()
+    let number = cause_number(cause);
+    causes.iter().filter(|n| **n == number).count()
 }
 
 fn cause_word(cause: Cause) -> &'static str
@@ -64,43 +66,59 @@ fn add_count(text: &mut String, word: &str, count: usize) -> Result<(), AllocErr
 }
 
 // A line that says how many lines were left out for a cause.
-fn add_cause(text: &mut String, cause: Cause, left: &[Reject]) -> Result<(), AllocError>
-    ensures { OnOk result (string_bytes text.new ≡ string_bytes text.old ++ cause_line left.now cause) }
+fn add_cause(text: &mut String, cause: Cause, causes: &[u8]) -> Result<(), AllocError>
+    ensures { OnOk result (string_bytes text.new ≡ string_bytes text.old ++ cause_line causes.now cause) }
 {
-    add_count(text, cause_word(cause), count_of(cause, left))
+    add_count(text, cause_word(cause), count_of(cause, causes))
 }
 
 // How many lines are left out for what they say themselves.
-fn add_first_causes(text: &mut String, left: &[Reject]) -> Result<(), AllocError>
-    ensures { OnOk result (string_bytes text.new ≡ string_bytes text.old ++ first_causes left.now) }
+fn add_first_causes(text: &mut String, causes: &[u8]) -> Result<(), AllocError>
+    ensures { OnOk result (string_bytes text.new ≡ string_bytes text.old ++ first_causes causes.now) }
 {
-    add_cause(text, Cause::Unreadable(0), left)?;
-    add_cause(text, Cause::Step, left)?;
-    add_cause(text, Cause::NoNodes, left)?;
-    add_cause(text, Cause::Backwards, left)
+    add_cause(text, Cause::Unreadable(0), causes)?;
+    add_cause(text, Cause::Step, causes)?;
+    add_cause(text, Cause::NoNodes, causes)?;
+    add_cause(text, Cause::Backwards, causes)
 }
 
 // How many lines are left out for what they ask for.
-fn add_last_causes(text: &mut String, left: &[Reject]) -> Result<(), AllocError>
-    ensures { OnOk result (string_bytes text.new ≡ string_bytes text.old ++ last_causes left.now) }
+fn add_last_causes(text: &mut String, causes: &[u8]) -> Result<(), AllocError>
+    ensures { OnOk result (string_bytes text.new ≡ string_bytes text.old ++ last_causes causes.now) }
 {
-    add_cause(text, Cause::TooLarge, left)?;
-    add_cause(text, Cause::PartNode, left)?;
-    add_cause(text, Cause::Outside, left)?;
-    add_cause(text, Cause::Repeated, left)?;
-    add_cause(text, Cause::Beyond, left)
+    add_cause(text, Cause::TooLarge, causes)?;
+    add_cause(text, Cause::PartNode, causes)?;
+    add_cause(text, Cause::Outside, causes)?;
+    add_cause(text, Cause::Repeated, causes)?;
+    add_cause(text, Cause::Beyond, causes)
 }
 
 // How many lines are left out for the nodes that they ask for, where nodes differ.
-fn add_mixed_causes(text: &mut String, imported: &Imported) -> Result<(), AllocError>
-    ensures { OnOk result (string_bytes text.new ≡ string_bytes text.old ++ mixed_causes imported.now) }
+fn add_mixed_causes(text: &mut String, mixed: bool, causes: &[u8]) -> Result<(), AllocError>
+    ensures { OnOk result (string_bytes text.new ≡ string_bytes text.old ++ mixed_causes mixed causes.now) }
 {
-    if !imported.mixed {
+    if !mixed {
         return Ok(());
     }
-    let left = imported.left.as_slice();
-    add_cause(text, Cause::Constraint, left)?;
-    add_cause(text, Cause::NoSet, left)
+    add_cause(text, Cause::Constraint, causes)?;
+    add_cause(text, Cause::NoSet, causes)
+}
+
+// How many lines are left out for each cause.
+fn add_causes(text: &mut String, mixed: bool, causes: &[u8]) -> Result<(), AllocError>
+    ensures { OnOk result (string_bytes text.new ≡ string_bytes text.old ++ all_causes mixed causes.now) }
+{
+    add_first_causes(text, causes)?;
+    add_last_causes(text, causes)?;
+    add_mixed_causes(text, mixed, causes)
+}
+
+// The same of an import.
+fn add_left(alloc: Global, text: &mut String, imported: &Imported) -> Result<(), AllocError>
+    ensures { OnOk result (string_bytes text.new ≡ string_bytes text.old ++ all_causes imported.now.mixed (causes_of imported.now.left.items)) }
+{
+    let causes = causes_of(alloc, imported.left.as_slice())?;
+    add_causes(text, imported.mixed, &causes)
 }
 
 /// How many jobs are taken, how many of them take a whole node for fewer processors, how many comments there are, and how many lines are
@@ -108,14 +126,11 @@ fn add_mixed_causes(text: &mut String, imported: &Imported) -> Result<(), AllocE
 pub fn counts_text(alloc: Global, imported: &Imported) -> Result<String, AllocError>
     ensures { IfOk result (λ text. string_bytes text ≡ counts_text imported.now) }
 {
-    let left = imported.left.as_slice();
     let mut text = String::new(alloc);
     add_count(&mut text, "taken", imported.jobs)?;
     add_count(&mut text, "rounded-up", imported.rounded)?;
     add_count(&mut text, "comments", imported.comments)?;
-    add_first_causes(&mut text, left)?;
-    add_last_causes(&mut text, left)?;
-    add_mixed_causes(&mut text, imported)?;
+    add_left(alloc, &mut text, imported)?;
     Ok(text)
 }
 
