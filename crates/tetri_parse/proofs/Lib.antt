@@ -5,6 +5,7 @@ mod FirstMet
 mod FirstFaults
 mod Grammars
 mod LeavesBack
+mod LeafSteps
 mod Lengths
 mod FirstPass
 mod Fronts

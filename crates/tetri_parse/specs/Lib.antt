@@ -3,6 +3,7 @@ pub mod Tokens
 pub mod Rows
 pub mod SetText
 pub mod LeafText
+pub mod LeafNumbers
 pub mod Reader
 pub mod Phrase
 pub mod Grammar

@@ -1,5 +1,5 @@
 // Expressions as text.
-ghost use Rattle.std.specs.Prelude.{◌≡◌, ◌++◌, ◌<◌, All, length, map, true, codes, OnOk, IfOk, string_bytes};
+ghost use Rattle.std.specs.Prelude.{◌≡◌, ◌++◌, ◌<◌, All, length, map, true, codes, decimal, OnOk, IfOk, string_bytes};
 ghost use Rattle.tetri_strl.specs.Aligned.{EachLeaf, EachLeafOf};
 ghost use Rattle.tetri_strl.specs.Tree.{tree, trees};
 ghost use Rattle.tetri_cluster.specs.Names.{differ, is_name};
@@ -101,6 +101,13 @@ fn add_leaf(
     )
 }
 
+// The last number of an expression, and its closing parenthesis.
+fn add_last_number(out: &mut String, number: u64) -> Result<(), AllocError>
+    ensures { OnOk result (string_bytes out.new ≡ string_bytes out.old ++ codes "," ++ decimal number ++ codes ")") }
+{
+    write!(out, ",{number})")
+}
+
 #[cycle(add_expr)]
 pub(crate) fn add_expr(
     out: &mut String,
@@ -123,12 +130,12 @@ pub(crate) fn add_expr(
         Expr::Scale(part, by) => {
             out.push_str("scale(")?;
             add_expr(out, arrival, cluster, sets, part)?;
-            write!(out, ",{by})")
+            add_last_number(out, *by)
         }
         Expr::Barrier(part, least) => {
             out.push_str("barrier(")?;
             add_expr(out, arrival, cluster, sets, part)?;
-            write!(out, ",{least})")
+            add_last_number(out, *least)
         }
     }
 }

@@ -1,13 +1,14 @@
 // The first pass: what a text spells.
 ghost use Rattle.std.specs.Prelude.{ℕ, ◌+◌, ◌<◌, ◌≤◌, length, IfOk};
 ghost use Rattle.tetri_parse.specs.Answers.{Gives};
+ghost use Rattle.tetri_parse.specs.LeafNumbers.{last_number_at, leaf_value_at, leaf_numbers_at, AreLeafNumbers};
 ghost use Rattle.tetri_parse.specs.Grammar.{leaf_at, part_with_number, goes_on_to_child, children_at, body_at, expr_at, whole_at};
 ghost use Rattle.tetri_parse.specs.Rows.{row_at};
 ghost use Rattle.tetri_parse.specs.Phrase.{leaf_text, phrase, phrases, line_up};
 ghost use Rattle.tetri_parse.specs.Written.{IsLeafFrom, HasPart, IsBody, AreSpelled, IsSpelled};
 
 use crate::fault::{Fault, Miss, Stop};
-use crate::number::number;
+use crate::number::{comma_number, number};
 use crate::set_text::set_front;
 use crate::syntax::{Join, LeafText, Syntax};
 use crate::token::{Word, first_word, goes_on, mark, missed, skip_blanks};
@@ -20,7 +21,48 @@ const MAX_LEAVES: u32 = 128;
 
 const MAX_VALUE: u64 = 1_000_000_000_000;
 
-#[tactic(auto, unfolding(crate::specs::Grammar::leaf_at))]
+// The numbers of a leaf, and how many bytes of the text were left at its value.
+#[derive(Drop)]
+struct LeafNumbers {
+    k: u32,
+    start: u32,
+    dur: u32,
+    v: u64,
+    value_left: usize,
+}
+
+// The value of a leaf behind its comma, how many bytes were left at it, and what stands behind the closing parenthesis.
+#[tactic(auto, unfolding(crate::specs::LeafNumbers::leaf_value_at))]
+fn leaf_value(text: &[u8]) -> Result<(u64, usize, &[u8]), Stop>
+    ensures value { Gives (λ x. ((x.0, x.1), x.2.now)) result (leaf_value_at text.now) }
+    ensures within { IfOk result (λ x. x.0 ≤ 1000000000000) }
+{
+    let value_text = skip_blanks(mark(b',', text)?);
+    let (v, text) = number(0, MAX_VALUE, value_text)?;
+    let text = mark(b')', text)?;
+    Ok((v, value_text.len(), text))
+}
+
+// The numbers of a leaf behind its set, and what stands behind the closing parenthesis.
+#[tactic(auto, unfolding(crate::specs::LeafNumbers::leaf_numbers_at))]
+fn leaf_numbers(text: &[u8]) -> Result<(LeafNumbers, &[u8]), Stop>
+    ensures value { Gives (λ x. (x.0, x.1.now)) result (leaf_numbers_at text.now) }
+    ensures within { IfOk result (λ x. AreLeafNumbers x.0) }
+{
+    let (k, text) = comma_number(1, 4096, text)?;
+    let (start, text) = comma_number(0, 10_000, text)?;
+    let (dur, text) = comma_number(1, 10_000, text)?;
+    let (v, value_left, text) = leaf_value(text)?;
+    let numbers = LeafNumbers {
+        k,
+        start,
+        dur,
+        v,
+        value_left,
+    };
+    Ok((numbers, text))
+}
+
 fn leaf<'t>(
     alloc: Global,
     cluster: &Cluster,
@@ -35,23 +77,18 @@ fn leaf<'t>(
 {
     let set_text = skip_blanks(mark(b'(', text)?);
     let (set, text) = set_front(alloc, cluster, set_text)?;
-    let (k, text) = number(1, 4096, mark(b',', text)?)?;
-    let (start, text) = number(0, 10_000, mark(b',', text)?)?;
-    let (dur, text) = number(1, 10_000, mark(b',', text)?)?;
-    let value_text = skip_blanks(mark(b',', text)?);
-    let (v, text) = number(0, MAX_VALUE, value_text)?;
-    let text = mark(b')', text)?;
+    let (numbers, text) = leaf_numbers(text)?;
     let leaf = LeafText {
         num,
         linear,
         set,
-        k: k as u32,
-        start: start as u32,
-        dur: dur as u32,
-        v,
+        k: numbers.k,
+        start: numbers.start,
+        dur: numbers.dur,
+        v: numbers.v,
         left,
         set_left: set_text.len(),
-        value_left: value_text.len(),
+        value_left: numbers.value_left,
     };
     Ok((leaf, text))
 }
@@ -109,36 +146,41 @@ fn body<'t>(
         }
         Word::Scale => {
             let (part, by, taken, text) = with_number(alloc, cluster, levels, taken, text)?;
-            Ok((Syntax::Scale(left, Box::new(alloc, part)?, by), taken, text))
+            Ok((Syntax::Scale(left, part, by), taken, text))
         }
         Word::Barrier => {
             let (part, least, taken, text) = with_number(alloc, cluster, levels, taken, text)?;
-            Ok((
-                Syntax::Barrier(left, Box::new(alloc, part)?, least),
-                taken,
-                text,
-            ))
+            Ok((Syntax::Barrier(left, part, least), taken, text))
         }
     }
 }
 
+// The last number of an expression behind its comma, and what stands behind the closing parenthesis.
+#[tactic(auto, unfolding(crate::specs::LeafNumbers::last_number_at))]
+fn last_number(text: &[u8]) -> Result<(u64, &[u8]), Stop>
+    ensures value { Gives (λ x. (x.0, x.1.now)) result (last_number_at text.now) }
+    ensures within { IfOk result (λ x. x.0 ≤ 1000000000000) }
+{
+    let (number, text) = number(0, MAX_VALUE, mark(b',', text)?)?;
+    let text = mark(b')', text)?;
+    Ok((number, text))
+}
+
 #[cycle(reading)]
-#[tactic(auto, unfolding(crate::specs::Grammar::part_with_number))]
 fn with_number<'t>(
     alloc: Global,
     cluster: &Cluster,
     levels: u32,
     taken: u32,
     text: &'t [u8],
-) -> Result<(Syntax<'t>, u64, u32, &'t [u8]), Stop>
-    ensures value { Gives (λ x. ((phrase cluster.now x.0, x.1), (x.2, x.3.now))) result (part_with_number cluster.now (expr_at cluster.now levels) taken text.now) }
-    ensures good { IfOk result (λ x. IsSpelled (length cluster.now) levels taken (phrase cluster.now x.0) x.2 × (x.1 ≤ 1000000000000)) }
+) -> Result<(Box<Syntax<'t>>, u64, u32, &'t [u8]), Stop>
+    ensures value { Gives (λ x. ((phrase cluster.now x.0.value, x.1), (x.2, x.3.now))) result (part_with_number cluster.now (expr_at cluster.now levels) taken text.now) }
+    ensures good { IfOk result (λ x. IsSpelled (length cluster.now) levels taken (phrase cluster.now x.0.value) x.2 × (x.1 ≤ 1000000000000)) }
 {
     let text = mark(b'(', text)?;
     let (part, taken, text) = expr(alloc, cluster, levels, taken, text)?;
-    let (number, text) = number(0, MAX_VALUE, mark(b',', text)?)?;
-    let text = mark(b')', text)?;
-    Ok((part, number, taken, text))
+    let (number, text) = last_number(text)?;
+    Ok((Box::new(alloc, part)?, number, taken, text))
 }
 
 #[cycle(reading)]

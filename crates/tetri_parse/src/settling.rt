@@ -1,6 +1,6 @@
 // The second pass: the faults of what a text spells, and the expression that it makes.
-ghost use Rattle.std.specs.Prelude.{◌≡◌, ◌≤◌, length, map, nat_lt, take};
-ghost use Rattle.tetri_strl.specs.Tree.{tree, join, row};
+ghost use Rattle.std.specs.Prelude.{◌≡◌, ◌≤◌, length, map, nat_lt, take, IfOk, IfErr};
+ghost use Rattle.tetri_strl.specs.Tree.{tree, join, scale, barrier, row};
 ghost use Rattle.tetri_strl.specs.WellMade.{PEAK};
 ghost use Rattle.tetri_parse.specs.Answers.{Gives};
 ghost use Rattle.tetri_parse.specs.Phrase.{leaf_text, phrase, phrases, line_up, operator};
@@ -114,6 +114,20 @@ fn joined(kind: Join, parts: Vec<Expr>) -> Expr
     }
 }
 
+fn scaled(alloc: Global, part: Expr, by: u64) -> Result<Expr, Stop>
+    ensures value { IfOk result (λ e. tree e ≡ scale (tree part) by) }
+    ensures memory { IfErr result (λ e. e ≡ Stop.NoMemory) }
+{
+    Ok(Expr::Scale(Box::new(alloc, part)?, by))
+}
+
+fn barred(alloc: Global, part: Expr, least: u64) -> Result<Expr, Stop>
+    ensures value { IfOk result (λ e. tree e ≡ barrier (tree part) least) }
+    ensures memory { IfErr result (λ e. e ≡ Stop.NoMemory) }
+{
+    Ok(Expr::Barrier(Box::new(alloc, part)?, least))
+}
+
 /// The expression that is spelled. The sets that were there keep their numbers.
 #[cycle(settling)]
 pub(crate) fn settle(
@@ -151,14 +165,14 @@ pub(crate) fn settle(
                 return Err(fault_at(Fault::TooRich, *left));
             }
             let part = settle(alloc, terms, wanted, part, cluster, sets, noted)?;
-            Ok(Expr::Scale(Box::new(alloc, part)?, *by))
+            scaled(alloc, part, *by)
         }
         Syntax::Barrier(left, part, least) => {
             if is_rich(cluster, terms.unit, syntax) {
                 return Err(fault_at(Fault::TooRich, *left));
             }
             let part = settle(alloc, terms, wanted, part, cluster, sets, noted)?;
-            Ok(Expr::Barrier(Box::new(alloc, part)?, *least * terms.unit))
+            barred(alloc, part, *least * terms.unit)
         }
     }
 }

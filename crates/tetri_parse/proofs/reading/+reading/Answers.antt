@@ -8,6 +8,7 @@ use Rattle.tetri_parse.specs.Grammar.{expr_at, goes_on_to_child}
 use Rattle.tetri_parse.specs.Phrase.{phrase, phrases}
 use Rattle.tetri_parse.proofs.Rows.{put_last, begins, goes_further, is_last, stops_in, stops_after, runs_out, stops_first}
 use Rattle.tetri_parse.proofs.Spelled.{spelled_push, has_part_push}
+use Rattle.tetri_parse.proofs.LeafSteps.{number_steps}
 use Rattle.tetri_parse.proofs.reading.+reading.Goals as goal
 
 pub child_row-loop-init : goal.child_row-loop-init
@@ -52,3 +53,22 @@ pub child_row-returns-then-not-more-clause-good : goal.child_row-returns-then-no
 child_row-returns-then-not-more-clause-good t c =
     let e : phrases c.args.cluster.now c.push.new.self.items ≡ phrases c.args.cluster.now c.loop.parts.items ++ phrase c.args.cluster.now c.in_ok-part.part ∷ [] = rw c.in_ok-push.ensures.items (map_push (phrase c.args.cluster.now) c.loop.parts.items c.in_ok-part.part) in
     rw e (has_part_push _ _, spelled_push _ _ _ _ _ _ _ c.loop.invariant.good c.in_ok-part.ensures.good)
+
+pub with_number-returns-in_err-text-clause-value : goal.with_number-returns-in_err-text-clause-value
+with_number-returns-in_err-text-clause-value t c =
+    let p = err_from_is_err_and c.from_residual.result c.from_residual.ensures.1 in
+    rw (p.1, p.2, number_steps c.args.cluster.now (expr_at c.args.cluster.now c.args.levels) c.args.taken c.args.text.now) (stops_first c.in_err-text.field-0.0 _ _ c.in_err-text.ensures)
+
+pub with_number-returns-in_err-part-clause-value : goal.with_number-returns-in_err-part-clause-value
+with_number-returns-in_err-part-clause-value t c =
+    let p = err_from_is_err_and c.from_residual-in_err-part.result c.from_residual-in_err-part.ensures.1 in
+    rw (p.1, p.2, number_steps c.args.cluster.now (expr_at c.args.cluster.now c.args.levels) c.args.taken c.args.text.now, c.in_ok-text.ensures) (stops_first c.in_err-part.field-0.0 _ _ c.in_err-part.ensures.value)
+
+pub with_number-returns-in_err-number-clause-value : goal.with_number-returns-in_err-number-clause-value
+with_number-returns-in_err-number-clause-value t c =
+    let p = err_from_is_err_and c.from_residual-in_err-number.result c.from_residual-in_err-number.ensures.1 in
+    rw (p.1, p.2, number_steps c.args.cluster.now (expr_at c.args.cluster.now c.args.levels) c.args.taken c.args.text.now, c.in_ok-text.ensures, c.in_ok-part.ensures.value) (stops_first c.in_err-number.field-0.0 _ _ c.in_err-number.ensures.value)
+
+pub with_number-returns-clause-value : goal.with_number-returns-clause-value
+with_number-returns-clause-value t c =
+    rw (number_steps c.args.cluster.now (expr_at c.args.cluster.now c.args.levels) c.args.taken c.args.text.now, c.in_ok-text.ensures, c.in_ok-part.ensures.value, c.in_ok-number.ensures.value, c.in_ok-new.ensures.ok) refl
