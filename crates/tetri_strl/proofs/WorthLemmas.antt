@@ -1,5 +1,5 @@
 -- Worths against one another, by induction over the tree.
-use Rattle.std.proofs.Common.{◌≡◌, ℕ, zero, suc, length, get_or, drop, ◌*◌, ◌/◌, ◌<◌, ◌≤◌, min, max, Bool, true, false, cond, nat_le, Contains, ◌==◌, List, [], ◌∷◌, refl, ap, arith, le_trans}
+use Rattle.std.proofs.Common.{◌≡◌, ℕ, zero, suc, length, get_or, drop, ◌+◌, ◌*◌, ◌/◌, ◌<◌, ◌≤◌, min, max, Bool, true, false, cond, nat_le, Contains, ◌==◌, List, [], ◌∷◌, refl, ap, arith, le_trans}
 use Rattle.std.proofs.Math.Nat.{mul_comm, mul-zero, mul-le-mul_left, div-mul-le_self}
 use Rattle.std.proofs.lemmas.Nat.{mul-le}
 use Rattle.std.proofs.lemmas.Bool.Decides.{nat_tests}
@@ -189,3 +189,20 @@ worth_at-none l good = by_kind l.linear (0 == l.k) (λ e. omega (arith, eq_from_
     by_kind true same never = let e : min l.k 0 ≡ 0 = omega arith in rw e (mul-zero (l.v / l.k))
     by_kind false true never = absurd (never refl)
     by_kind false false never = refl
+
+-- one part further on in a greatest, a least and a sum
+pub greatest_more : (best here next rest whole : ℕ) → next ≡ max here best → max best (max here rest) ≡ whole → max next rest ≡ whole
+greatest_more best here next rest whole new so_far = omega arith
+
+pub least_more : (low here next : ℕ) → next ≡ min here low → next ≡ min low here
+least_more low here next new = omega arith
+
+pub added_more : (sum here next rest whole : ℕ) → next ≡ here → sum + (here + rest) ≡ whole → sum + next + rest ≡ whole
+added_more sum here next rest whole new so_far = omega arith
+
+-- and at its end
+pub greatest_end : (best whole : ℕ) → max best 0 ≡ whole → best ≡ whole
+greatest_end best whole so_far = omega arith
+
+pub added_end : (sum whole : ℕ) → sum + 0 ≡ whole → sum ≡ whole
+added_end sum whole so_far = omega arith
