@@ -1,3 +1,4 @@
+pub mod ItemLemmas
 pub mod NoticeLaws
 pub mod ObjectLemmas
 pub mod Options

@@ -1,5 +1,6 @@
 -- Steps that may give nothing, where nothing is a fault.
 use Rattle.std.proofs.Common.{◌≡◌, Option, Some, None, option_and_then, ok_or, Ok, refl}
+use Rattle.std.specs.Prelude.{option_map}
 use Rattle.tetri_notice.specs.Answers.{Stops}
 use Rattle.tetri_notice.specs.declared.fault.Stop.{Stop}
 use Rattle.tetri_notice.specs.declared.fault.Stop.TheVariants as stops
@@ -19,3 +20,9 @@ stops_first (Some x) f why (stops.Because other) h = absurd (cc)
 -- a first step that gave nothing
 pub stops_none : {A : Type 0} (o : Option A) (why : TraceWhy) → o ≡ None → Stops (stops.Because why) (ok_or o why)
 stops_none o why h = rw h refl
+
+-- a step that stops is all that is seen of what is made of its value
+pub stops_map : {A B : Type 0} (o : Option A) (f : A → B) (why : TraceWhy) (stop : Stop) → Stops stop (ok_or o why) → Stops stop (ok_or (option_map f o) why)
+stops_map o f why stops.NoMemory h = tt
+stops_map None f why (stops.Because other) h = cc
+stops_map (Some x) f why (stops.Because other) h = absurd (cc)

@@ -37,7 +37,7 @@ fn slot_at(closure: &Value, key: &str, low: u32) -> Result<u32, Stop>
 }
 
 // The first and the last slot of a closure.
-#[tactic(auto, using(crate::proofs::Options::some_from_ok, crate::proofs::Options::stops_first, crate::proofs::Options::stops_none), unfolding(crate::specs::Closures::slots_in))]
+#[tactic(auto, unfolding(crate::specs::Closures::slots_in))]
 fn slots_in(value: &Value) -> Result<(u32, u32), Stop>
     ensures value { Gives (λ slots. slots) result (ok_or (slots_in (view value.now)) (whys.BadField fields.Closures)) }
     ensures within { IfOk result (λ slots. (slots.0 ≤ slots.1) × (slots.1 ≤ 30000)) }
@@ -47,7 +47,7 @@ fn slots_in(value: &Value) -> Result<(u32, u32), Stop>
     Ok((from, to))
 }
 
-#[tactic(auto, using(crate::proofs::Options::some_from_ok, crate::proofs::Options::stops_first, crate::proofs::Options::stops_none), unfolding(crate::specs::Closures::closure_in))]
+#[tactic(auto, unfolding(crate::specs::Closures::closure_in))]
 fn closure_in(alloc: Global, value: &Value) -> Result<ClosureText, Stop>
     ensures value { Gives (λ c. c) result (ok_or (closure_in (view value.now)) (whys.BadField fields.Closures)) }
     ensures within { IfOk result IsWithinLimits }
@@ -61,7 +61,6 @@ fn closure_in(alloc: Global, value: &Value) -> Result<ClosureText, Stop>
     Ok(ClosureText { node, from, to })
 }
 
-#[tactic(auto, using(crate::proofs::Options::some_from_ok, crate::proofs::Options::stops_first, crate::proofs::Options::stops_none))]
 fn closures_in(alloc: Global, value: &Value) -> Result<Vec<ClosureText>, Stop>
     ensures value { Gives (λ v. v.items) result (ok_or (option_and_then closures_in (as_array (view value.now))) (whys.BadField fields.Closures)) }
     ensures within { IfOk result (λ v. All IsWithinLimits v.items) }
