@@ -1,5 +1,6 @@
 // The words of an import.
-use clap::{Arg, ArgAction, ArgMatches, Command, value_parser};
+use crate::builders::{choice, flag, number, titled, valued};
+use clap::{Arg, ArgAction, ArgMatches, Command};
 use std::alloc::{AllocError, Global};
 use tetri_logs::{Format, Options, Worth, seconds_in};
 use tetri_request::Class;
@@ -16,69 +17,128 @@ pub struct Asked<'a> {
     pub nodes_file: Option<&'a str>,
 }
 
-// An option that holds a number.
-fn number<'a>(alloc: Global, name: &'a str, help: &'a str) -> Arg<'a> {
-    Arg::new(alloc, name)
-        .long(name)
-        .value_name("N")
-        .value_parser(value_parser!(u32))
-        .help(help)
+// The word that names a format.
+fn format_word<'a>(alloc: Global) -> Arg<'a> {
+    Arg::new(alloc, "FORMAT")
+        .required(true)
+        .value_parser(["swf", "sacct"].as_slice())
 }
 
-// An option that holds a time.
-fn time<'a>(alloc: Global, name: &'a str, help: &'a str) -> Arg<'a> {
-    Arg::new(alloc, name)
-        .long(name)
-        .value_name("TIME")
-        .help(help)
+// The word that names a log.
+fn log_word<'a>(alloc: Global) -> Arg<'a> {
+    Arg::new(alloc, "LOG")
+        .required(true)
+        .help("the log, a file or -")
 }
 
-// An option that holds one of a few words, the first by default.
-fn choice<'a>(alloc: Global, name: &'a str, words: &'a [&'a str], help: &'a str) -> Arg<'a> {
-    Arg::new(alloc, name)
-        .long(name)
-        .value_parser(words)
-        .help(help)
+// The command on a log.
+fn on_log<'a>(alloc: Global) -> Result<Command<'a>, AllocError> {
+    titled(
+        alloc,
+        "import",
+        "Writes the trace of an accounting log",
+        "Example: tetri_ctl import swf cluster.swf --slack 12 > cluster.jsonl",
+    )
+    .arg(format_word(alloc))?
+    .arg(log_word(alloc))
 }
 
-// With what is asked of the cluster and of its cycles.
-fn with_cycles<'a>(alloc: Global, command: Command<'a>) -> Result<Command<'a>, AllocError> {
+// With what is asked of the slots and of the nodes.
+fn with_slots<'a>(alloc: Global, command: Command<'a>) -> Result<Command<'a>, AllocError> {
     command
-        .arg(number(alloc, "slot", "seconds of a slot [default: 300]"))?
+        .arg(number(alloc, "slot", "N", "seconds of a slot [default: 300]"))?
         .arg(number(
             alloc,
             "processors",
+            "N",
             "processors of a node [default: what the log says, or 1]",
         ))?
         .arg(number(
             alloc,
             "nodes",
+            "N",
             "number of nodes [default: what the log says of them]",
-        ))?
+        ))
+}
+
+// With what is asked of the cycles.
+fn with_cycles<'a>(alloc: Global, command: Command<'a>) -> Result<Command<'a>, AllocError> {
+    command
         .arg(number(
             alloc,
             "window",
+            "N",
             "slots in which leaves may start [default: 16]",
         ))?
-        .arg(number(alloc, "budget", "nodes of a search tree [default: 200]"))
+        .arg(number(
+            alloc,
+            "budget",
+            "N",
+            "nodes of a search tree [default: 200]",
+        ))
 }
 
-// With what is asked of the jobs: which are taken, how long they may wait, and what they are worth.
+// The option that names a file of nodes.
+fn nodes_file_word<'a>(alloc: Global) -> Arg<'a> {
+    valued(
+        alloc,
+        "nodes-file",
+        "FILE",
+        "the nodes with their partitions and features: what sinfo -a -h -N -o '%N\\t%T\\t%P\\t%f' prints",
+    )
+}
+
+// The option that names the nodes of a partition.
+fn partition_word<'a>(alloc: Global) -> Arg<'a> {
+    valued(
+        alloc,
+        "partition",
+        "NAME=HOSTS",
+        "the nodes of a partition, as batch=n[1-8]; once for each",
+    )
+    .action(ArgAction::Append)
+}
+
+// With the nodes where they differ.
+fn with_nodes<'a>(alloc: Global, command: Command<'a>) -> Result<Command<'a>, AllocError> {
+    command
+        .arg(nodes_file_word(alloc))?
+        .arg(partition_word(alloc))
+}
+
+// With how many jobs are taken, and how long they may wait.
 fn with_jobs<'a>(alloc: Global, command: Command<'a>) -> Result<Command<'a>, AllocError> {
     command
         .arg(number(
             alloc,
             "unit",
+            "N",
             "what each worth is multiplied by [default: 1]",
         ))?
-        .arg(number(alloc, "jobs", "how many jobs are taken at most"))?
-        .arg(number(alloc, "slack", "slots that a job may wait [default: 288]"))?
-        .arg(time(
+        .arg(number(alloc, "jobs", "N", "how many jobs are taken at most"))?
+        .arg(number(
+            alloc,
+            "slack",
+            "N",
+            "slots that a job may wait [default: 288]",
+        ))
+}
+
+// With which jobs are taken, and what they are worth.
+fn with_worth<'a>(alloc: Global, command: Command<'a>) -> Result<Command<'a>, AllocError> {
+    command
+        .arg(valued(
             alloc,
             "from",
+            "TIME",
             "jobs that are submitted at this time or later",
         ))?
-        .arg(time(alloc, "to", "jobs that are submitted before this time"))?
+        .arg(valued(
+            alloc,
+            "to",
+            "TIME",
+            "jobs that are submitted before this time",
+        ))?
         .arg(choice(
             alloc,
             "worth",
@@ -93,50 +153,27 @@ fn with_jobs<'a>(alloc: Global, command: Command<'a>) -> Result<Command<'a>, All
         ))
 }
 
-// With the nodes where they differ.
-fn with_nodes<'a>(alloc: Global, command: Command<'a>) -> Result<Command<'a>, AllocError> {
-    let file = Arg::new(alloc, "nodes-file")
-        .long("nodes-file")
-        .value_name("FILE")
-        .help(
-            "the nodes with their partitions and features: what sinfo -a -h -N -o '%N\\t%T\\t%P\\t%f' prints",
-        );
-    let partition = Arg::new(alloc, "partition")
-        .long("partition")
-        .value_name("NAME=HOSTS")
-        .action(ArgAction::Append)
-        .help("the nodes of a partition, as batch=n[1-8]; once for each");
-    command.arg(file)?.arg(partition)
-}
-
 // With what is asked of jobs that share nodes, and of lines that are left out.
 fn with_rejects<'a>(alloc: Global, command: Command<'a>) -> Result<Command<'a>, AllocError> {
-    let whole = Arg::new(alloc, "whole-nodes-only")
-        .long("whole-nodes-only")
-        .action(ArgAction::SetTrue)
-        .help("leave out jobs with fewer processors than a node has");
-    let rejects = Arg::new(alloc, "rejects")
-        .long("rejects")
-        .value_name("FILE")
-        .help("write each line that is left out, with its number and its cause");
-    command.arg(whole)?.arg(rejects)
+    command
+        .arg(flag(
+            alloc,
+            "whole-nodes-only",
+            "leave out jobs with fewer processors than a node has",
+        ))?
+        .arg(valued(
+            alloc,
+            "rejects",
+            "FILE",
+            "write each line that is left out, with its number and its cause",
+        ))
 }
 
 /// The words of the command.
 pub fn import_command<'a>(alloc: Global) -> Result<Command<'a>, AllocError> {
-    let format = Arg::new(alloc, "FORMAT")
-        .required(true)
-        .value_parser(["swf", "sacct"].as_slice());
-    let log = Arg::new(alloc, "LOG")
-        .required(true)
-        .help("the log, a file or -");
-    let command = Command::new(alloc, "import")
-        .about("Writes the trace of an accounting log")
-        .after_help("Example: tetri_ctl import swf cluster.swf --slack 12 > cluster.jsonl")
-        .arg(format)?
-        .arg(log)?;
+    let command = with_slots(alloc, on_log(alloc)?)?;
     let command = with_nodes(alloc, with_cycles(alloc, command)?)?;
-    with_rejects(alloc, with_jobs(alloc, command)?)
+    with_rejects(alloc, with_worth(alloc, with_jobs(alloc, command)?)?)
 }
 
 fn number_of(matches: &ArgMatches, name: &str) -> Option<u32> {

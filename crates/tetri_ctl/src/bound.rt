@@ -1,8 +1,9 @@
 // `tetri_ctl bound TRACE REPORT`
-use crate::named::{Shelf, open_report, open_trace, report_word, trace_word};
+use crate::builders::{flag, on_report, valued};
+use crate::named::{Shelf, open_report, open_trace};
 use crate::refusals::end_of;
 use crate::said::{USAGE, complain};
-use clap::{Arg, ArgAction, ArgMatches, Command};
+use clap::{ArgMatches, Command};
 use std::alloc::{AllocError, Global};
 use tetri_io::StdSink;
 use tetri_priced::{BySearch, Wanted, price_report};
@@ -10,21 +11,19 @@ use tetri_run::Status;
 
 /// The words of the command.
 pub fn command<'a>(alloc: Global) -> Result<Command<'a>, AllocError> {
-    let slots = Arg::new(alloc, "slots")
-        .long("slots")
-        .value_name("FROM-TO")
-        .help("tell of the cycles of these slots alone, both included");
-    let no_prices = Arg::new(alloc, "no-prices")
-        .long("no-prices")
-        .action(ArgAction::SetTrue)
-        .help("leave the prices out");
-    Command::new(alloc, "bound")
-        .about("Tells the bounds of a report that is accepted, lowered by prices of nodes")
-        .after_help("Example: tetri_ctl bound day.jsonl day.report --slots 8-16 --no-prices")
-        .arg(trace_word(alloc))?
-        .arg(report_word(alloc))?
-        .arg(slots)?
-        .arg(no_prices)
+    on_report(
+        alloc,
+        "bound",
+        "Tells the bounds of a report that is accepted, lowered by prices of nodes",
+        "Example: tetri_ctl bound day.jsonl day.report --slots 8-16 --no-prices",
+    )?
+    .arg(valued(
+        alloc,
+        "slots",
+        "FROM-TO",
+        "tell of the cycles of these slots alone, both included",
+    ))?
+    .arg(flag(alloc, "no-prices", "leave the prices out"))
 }
 
 // The first and the last slot that a text names, as `8-16`.

@@ -1,8 +1,9 @@
 // `tetri_ctl chart TRACE REPORT [REPORT2]`
-use crate::named::{Shelf, open_report, open_trace, report_word, trace_word};
+use crate::builders::{choice, number, on_report};
+use crate::named::{Shelf, open_report, open_trace};
 use crate::refusals::end_of;
 use crate::said::{USAGE, complain};
-use clap::{Arg, ArgMatches, Command, value_parser};
+use clap::{Arg, ArgMatches, Command};
 use std::alloc::{AllocError, Global};
 use tetri_chart::{Colours, PairStatus, View, chart, chart_pair, clock_of};
 use tetri_cluster::{Name, NameFault, NameList};
@@ -10,41 +11,52 @@ use tetri_figures::tags_of;
 use tetri_io::StdSink;
 use tetri_run::Status;
 
+// The word that names another report.
+fn second_word<'a>(alloc: Global) -> Arg<'a> {
+    Arg::new(alloc, "REPORT2").help(
+        "another report of the trace, which is drawn below, a file or -",
+    )
+}
+
+// The option that says what the colours tell.
+fn colour_word<'a>(alloc: Global) -> Arg<'a> {
+    choice(
+        alloc,
+        "colour",
+        &["job", "class", "tag"],
+        "colour bars by job, by the class of the job, or by the first tag of the node",
+    )
+    .value_name("WHAT")
+}
+
+// With what is asked of the drawing.
+fn with_view<'a>(alloc: Global, command: Command<'a>) -> Result<Command<'a>, AllocError> {
+    command
+        .arg(number(
+            alloc,
+            "cycle",
+            "N",
+            "show what this cycle planned for later slots",
+        ))?
+        .arg(number(alloc, "from", "SLOT", "begin with this slot of the run"))?
+        .arg(number(
+            alloc,
+            "to",
+            "SLOT",
+            "end with this slot of the run, and not with the last in which a piece runs",
+        ))?
+        .arg(colour_word(alloc))
+}
+
 /// The words of the command.
 pub fn command<'a>(alloc: Global) -> Result<Command<'a>, AllocError> {
-    let second = Arg::new(alloc, "REPORT2").help(
-        "another report of the trace, which is drawn below, a file or -",
-    );
-    let cycle = Arg::new(alloc, "cycle")
-        .long("cycle")
-        .value_name("N")
-        .help("show what this cycle planned for later slots")
-        .value_parser(value_parser!(u32));
-    let from = Arg::new(alloc, "from")
-        .long("from")
-        .value_name("SLOT")
-        .help("begin with this slot of the run")
-        .value_parser(value_parser!(u32));
-    let to = Arg::new(alloc, "to")
-        .long("to")
-        .value_name("SLOT")
-        .help("end with this slot of the run, and not with the last in which a piece runs")
-        .value_parser(value_parser!(u32));
-    let colour = Arg::new(alloc, "colour")
-        .long("colour")
-        .value_name("WHAT")
-        .value_parser(["job", "class", "tag"].as_slice())
-        .help("colour bars by job, by the class of the job, or by the first tag of the node");
-    Command::new(alloc, "chart")
-        .about("Draws a report that is accepted, or two of one trace over the same slots, as SVG")
-        .after_help("Example: tetri_ctl chart day.jsonl day.report > day.svg")
-        .arg(trace_word(alloc))?
-        .arg(report_word(alloc))?
-        .arg(second)?
-        .arg(cycle)?
-        .arg(from)?
-        .arg(to)?
-        .arg(colour)
+    let command = on_report(
+        alloc,
+        "chart",
+        "Draws a report that is accepted, or two of one trace over the same slots, as SVG",
+        "Example: tetri_ctl chart day.jsonl day.report > day.svg",
+    )?;
+    with_view(alloc, command.arg(second_word(alloc))?)
 }
 
 // The tags as names.

@@ -1,5 +1,6 @@
 // `tetri_ctl check TRACE REPORT`
-use crate::named::{Shelf, open_report, open_trace, report_word, trace_word};
+use crate::builders::on_report;
+use crate::named::{Shelf, open_report, open_trace};
 use crate::refusals::end_of;
 use clap::{ArgMatches, Command};
 use std::alloc::{AllocError, Global};
@@ -8,11 +9,12 @@ use tetri_run::{Status, run_check};
 
 /// The words of the command.
 pub fn command<'a>(alloc: Global) -> Result<Command<'a>, AllocError> {
-    Command::new(alloc, "check")
-        .about("Checks a report against its trace, as tetri check does")
-        .after_help("Example: zcat day.report.gz | tetri_ctl check day.jsonl -")
-        .arg(trace_word(alloc))?
-        .arg(report_word(alloc))
+    on_report(
+        alloc,
+        "check",
+        "Checks a report against its trace, as tetri check does",
+        "Example: zcat day.report.gz | tetri_ctl check day.jsonl -",
+    )
 }
 
 // Checks a report that can be read.

@@ -6,7 +6,8 @@ ghost use Rattle.tetri_trace.specs.Sound.{IsSound};
 use crate::accounted::{
     format_of, format_word, kept_trace, policy_of, policy_word, prices_word, report_account, send,
 };
-use crate::named::{Shelf, open_trace, trace_word};
+use crate::builders::on_trace;
+use crate::named::{Shelf, open_trace};
 use crate::said::{USAGE, complain, no_memory};
 use clap::{Arg, ArgAction, ArgMatches, Command};
 use std::alloc::{AllocError, Global};
@@ -14,19 +15,25 @@ use tetri_accounts::{Account, account_policy};
 use tetri_figures::{Bounds, Compared, compare_text};
 use tetri_trace::Trace;
 
+// The word that names reports.
+fn reports_word<'a>(alloc: Global) -> Arg<'a> {
+    Arg::new(alloc, "REPORT")
+        .num_args(1..)
+        .help("reports of the trace, files, one perhaps -")
+}
+
 /// The words of the command.
 pub fn command<'a>(alloc: Global) -> Result<Command<'a>, AllocError> {
-    let reports = Arg::new(alloc, "REPORT")
-        .num_args(1..)
-        .help("reports of the trace, files, one perhaps -");
-    Command::new(alloc, "compare")
-        .about("Tells figures of several runs of one trace, and which jobs start at other times")
-        .after_help("Example: tetri_ctl compare day.jsonl day.report --policy fcfs --policy easy")
-        .arg(trace_word(alloc))?
-        .arg(reports)?
-        .arg(policy_word(alloc).action(ArgAction::Append))?
-        .arg(prices_word(alloc))?
-        .arg(format_word(alloc))
+    on_trace(
+        alloc,
+        "compare",
+        "Tells figures of several runs of one trace, and which jobs start at other times",
+        "Example: tetri_ctl compare day.jsonl day.report --policy fcfs --policy easy",
+    )?
+    .arg(reports_word(alloc))?
+    .arg(policy_word(alloc).action(ArgAction::Append))?
+    .arg(prices_word(alloc))?
+    .arg(format_word(alloc))
 }
 
 // Puts an account with its name to the others.

@@ -1,8 +1,9 @@
 // `tetri_ctl export TRACE [REPORT] --cycle N`
-use crate::named::{Shelf, open_report, open_trace, report_word, trace_word};
+use crate::builders::{choice, number, on_trace, report_word};
+use crate::named::{Shelf, open_report, open_trace};
 use crate::refusals::end_of;
 use crate::said::{REFUSED, USAGE, complain, end, shown, too_large};
-use clap::{Arg, ArgMatches, Command, value_parser};
+use clap::{Arg, ArgMatches, Command};
 use std::alloc::{AllocError, Global};
 use tetri_advice::{Advisor, Panel};
 use tetri_export::Format;
@@ -13,28 +14,34 @@ use tetri_programs::{Exported, export_cycle, export_report};
 use tetri_run::{Status, status_of};
 use tetri_trace::read_trace;
 
+// The word that names a report, where its run is exported.
+fn run_word<'a>(alloc: Global) -> Arg<'a> {
+    report_word(alloc)
+        .required(false)
+        .help("the report whose run it is, a file or -")
+}
+
+// The option that names the cycle.
+fn cycle_word<'a>(alloc: Global) -> Arg<'a> {
+    number(alloc, "cycle", "N", "the cycle whose program is written").required(true)
+}
+
 /// The words of the command.
 pub fn command<'a>(alloc: Global) -> Result<Command<'a>, AllocError> {
-    let cycle = Arg::new(alloc, "cycle")
-        .long("cycle")
-        .value_name("N")
-        .required(true)
-        .value_parser(value_parser!(u32))
-        .help("the cycle whose program is written");
-    let format = Arg::new(alloc, "format")
-        .long("format")
-        .value_parser(["lp", "mps"].as_slice())
-        .help("how it is written [default: lp]");
-    let report = report_word(alloc)
-        .required(false)
-        .help("the report whose run it is, a file or -");
-    Command::new(alloc, "export")
-        .about("Writes the integer program of a cycle of a run, for other solvers")
-        .after_help("Example: tetri_ctl export day.jsonl --cycle 7 > day7.lp")
-        .arg(trace_word(alloc))?
-        .arg(report)?
-        .arg(cycle)?
-        .arg(format)
+    on_trace(
+        alloc,
+        "export",
+        "Writes the integer program of a cycle of a run, for other solvers",
+        "Example: tetri_ctl export day.jsonl --cycle 7 > day7.lp",
+    )?
+    .arg(run_word(alloc))?
+    .arg(cycle_word(alloc))?
+    .arg(choice(
+        alloc,
+        "format",
+        &["lp", "mps"],
+        "how it is written [default: lp]",
+    ))
 }
 
 // The format that the words ask for.

@@ -1,7 +1,8 @@
 // `tetri_ctl lint TRACE`
-use crate::named::{Shelf, open_trace, trace_word};
+use crate::builders::{flag, on_trace};
+use crate::named::{Shelf, open_trace};
 use crate::said::{BAD_INPUT, NO_MEMORY, REFUSED, WRITE_FAULT, complain, read_fault, shown};
-use clap::{Arg, ArgAction, ArgMatches, Command};
+use clap::{ArgMatches, Command};
 use std::alloc::{AllocError, Global};
 use std::fmt::Write;
 use tetri_io::{StdSink, send_all};
@@ -9,15 +10,13 @@ use tetri_lint::{Level, LintFault, Linted, add_finding, add_refusal, level_of, l
 
 /// The words of the command.
 pub fn command<'a>(alloc: Global) -> Result<Command<'a>, AllocError> {
-    let strict = Arg::new(alloc, "strict")
-        .long("strict")
-        .action(ArgAction::SetTrue)
-        .help("end with 1 where there is a warning");
-    Command::new(alloc, "lint")
-        .about("Tells why a trace is refused, or what is suspicious in it")
-        .after_help("Example: tetri_ctl lint day.jsonl --strict")
-        .arg(trace_word(alloc))?
-        .arg(strict)
+    on_trace(
+        alloc,
+        "lint",
+        "Tells why a trace is refused, or what is suspicious in it",
+        "Example: tetri_ctl lint day.jsonl --strict",
+    )?
+    .arg(flag(alloc, "strict", "end with 1 where there is a warning"))
 }
 
 // What is found in a trace of this name, a line each.

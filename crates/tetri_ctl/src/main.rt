@@ -5,6 +5,7 @@
 mod accounted;
 mod asked;
 mod bound;
+mod builders;
 mod chart;
 mod check;
 mod compare;
@@ -33,9 +34,9 @@ fn words<R: env::Env + AllocGlobal>(rt: &R) -> io::Result<Vec<String>> {
     env::args(rt)?.collect(rt.alloc()).map_err(io::Error::from)
 }
 
-// The command line.
-fn command<'a>(alloc: Global) -> Result<Command<'a>, AllocError> {
-    Command::new(alloc, "tetri_ctl")
+// The program, without its commands.
+fn program<'a>(alloc: Global) -> Result<Command<'a>, AllocError> {
+    let program = Command::new(alloc, "tetri_ctl")
         .bin_name("tetri_ctl")?
         .about(
             "What people use around tetri: plans, checks, imports, pictures, accounts, bounds, exports, lint, queues",
@@ -44,19 +45,41 @@ fn command<'a>(alloc: Global) -> Result<Command<'a>, AllocError> {
         .propagate_version(true)
         .subcommand_required(true)
         .arg_required_else_help(true)
-        .after_help("In the place of a file - is standard input. Read on: docs/CTL.md")
+        .after_help("In the place of a file - is standard input. Read on: docs/CTL.md");
+    Ok(program)
+}
+
+// With the commands that plan, check, import and draw.
+fn with_plans<'a>(alloc: Global, program: Command<'a>) -> Result<Command<'a>, AllocError> {
+    program
         .subcommand(plan::command(alloc)?)?
         .subcommand(check::command(alloc)?)?
         .subcommand(import::command(alloc)?)?
-        .subcommand(chart::command(alloc)?)?
+        .subcommand(chart::command(alloc)?)
+}
+
+// With the commands that tell of runs.
+fn with_accounts<'a>(alloc: Global, program: Command<'a>) -> Result<Command<'a>, AllocError> {
+    program
         .subcommand(jobs::command(alloc)?)?
         .subcommand(stats::command(alloc)?)?
         .subcommand(compare::command(alloc)?)?
-        .subcommand(bound::command(alloc)?)?
+        .subcommand(bound::command(alloc)?)
+}
+
+// With the commands around other solvers and resource managers.
+fn with_others<'a>(alloc: Global, program: Command<'a>) -> Result<Command<'a>, AllocError> {
+    program
         .subcommand(export::command(alloc)?)?
         .subcommand(lint::command(alloc)?)?
         .subcommand(queue::command(alloc)?)?
         .subcommand(orders::command(alloc)?)
+}
+
+// The command line.
+fn command<'a>(alloc: Global) -> Result<Command<'a>, AllocError> {
+    let program = with_plans(alloc, program(alloc)?)?;
+    with_others(alloc, with_accounts(alloc, program)?)
 }
 
 // Whether the word of this name stands for standard input.

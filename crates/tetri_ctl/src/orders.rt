@@ -1,8 +1,9 @@
 // `tetri_ctl orders TRACE REPORT`
-use crate::named::{Shelf, open_report, open_trace, report_word, trace_word};
+use crate::builders::{choice, flag, on_report};
+use crate::named::{Shelf, open_report, open_trace};
 use crate::refusals::end_of;
 use crate::said::{NO_MEMORY, REFUSED, WRITE_FAULT, complain};
-use clap::{Arg, ArgAction, ArgMatches, Command};
+use clap::{ArgMatches, Command};
 use std::alloc::{AllocError, Global};
 use tetri_io::{StdSink, send_all};
 use tetri_queue::{Launches, OrderFault, OrderForm, orders_text};
@@ -10,25 +11,19 @@ use tetri_run::check_seen;
 
 /// The words of the command.
 pub fn command<'a>(alloc: Global) -> Result<Command<'a>, AllocError> {
-    Command::new(alloc, "orders")
-        .about(
-            "Writes the launches of the last cycle of a report that is accepted, as commands or objects",
-        )
-        .after_help("Example: tetri_ctl orders cycle.jsonl cycle.report --slurm")
-        .arg(trace_word(alloc))?
-        .arg(report_word(alloc))?
-        .arg(
-            Arg::new(alloc, "slurm")
-                .long("slurm")
-                .action(ArgAction::SetTrue)
-                .help("as commands of Slurm, a line a job"),
-        )?
-        .arg(
-            Arg::new(alloc, "format")
-                .long("format")
-                .value_parser(["jsonl"].as_slice())
-                .help("as objects, a line a job [default: jsonl]"),
-        )
+    on_report(
+        alloc,
+        "orders",
+        "Writes the launches of the last cycle of a report that is accepted, as commands or objects",
+        "Example: tetri_ctl orders cycle.jsonl cycle.report --slurm",
+    )?
+    .arg(flag(alloc, "slurm", "as commands of Slurm, a line a job"))?
+    .arg(choice(
+        alloc,
+        "format",
+        &["jsonl"],
+        "as objects, a line a job [default: jsonl]",
+    ))
 }
 
 // The orders of a report that can be read. Where there are none to write, the error is the exit number.

@@ -1,5 +1,6 @@
 // `tetri_ctl plan TRACE`
-use crate::named::{Shelf, open_trace, trace_word};
+use crate::builders::{choice, on_trace};
+use crate::named::{Shelf, open_trace};
 use crate::refusals::end_of;
 use clap::{Arg, ArgMatches, Command};
 use std::alloc::{AllocError, Global};
@@ -25,18 +26,21 @@ enum Search {
 // The bytes of a plan's copies of dictionaries at most.
 const KEEP_BYTES: usize = 268_435_456;
 
+// The option that says how plans are searched for.
+fn search_word<'a>(alloc: Global) -> Arg<'a> {
+    let help = "how plans are searched for; exact is tetri plan [default: swift]";
+    choice(alloc, "search", &["exact", "prices", "swift"], help).value_name("HOW")
+}
+
 /// The words of the command.
 pub fn command<'a>(alloc: Global) -> Result<Command<'a>, AllocError> {
-    let search = Arg::new(alloc, "search")
-        .long("search")
-        .value_name("HOW")
-        .value_parser(["exact", "prices", "swift"].as_slice())
-        .help("how plans are searched for; exact is tetri plan [default: swift]");
-    Command::new(alloc, "plan")
-        .about("Plans a trace, and writes its report")
-        .after_help("Example: tetri_ctl import swf cluster.swf | tetri_ctl plan - > cluster.report")
-        .arg(trace_word(alloc))?
-        .arg(search)
+    on_trace(
+        alloc,
+        "plan",
+        "Plans a trace, and writes its report",
+        "Example: tetri_ctl import swf cluster.swf | tetri_ctl plan - > cluster.report",
+    )?
+    .arg(search_word(alloc))
 }
 
 fn search_of(words: &ArgMatches<'_>) -> Search {

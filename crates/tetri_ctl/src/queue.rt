@@ -1,8 +1,9 @@
 // `tetri_ctl queue --jobs FILE --nodes FILE`
+use crate::builders::{choice, flag, number, titled, valued};
 use crate::said::{
     BAD_INPUT, NO_MEMORY, READ_FAULT, REFUSED, USAGE, WRITE_FAULT, complain, unread,
 };
-use clap::{Arg, ArgAction, ArgMatches, Command, value_parser};
+use clap::{Arg, ArgMatches, Command};
 use std::alloc::{AllocError, Global};
 use std::fs;
 use tetri_io::{StdSink, parts_at, send_all};
@@ -16,22 +17,10 @@ use tetri_request::Class;
 
 // An option that names a file.
 fn file<'a>(alloc: Global, name: &'a str, help: &'a str) -> Arg<'a> {
-    Arg::new(alloc, name)
-        .long(name)
-        .value_name("FILE")
-        .help(help)
+    valued(alloc, name, "FILE", help)
 }
 
-// An option that holds a number.
-fn number<'a>(alloc: Global, name: &'a str, help: &'a str) -> Arg<'a> {
-    Arg::new(alloc, name)
-        .long(name)
-        .value_name("N")
-        .value_parser(value_parser!(u32))
-        .help(help)
-}
-
-// With the files.
+// With the files of jobs and of nodes.
 fn with_files<'a>(alloc: Global, command: Command<'a>) -> Result<Command<'a>, AllocError> {
     command
         .arg(file(alloc, "jobs", "the lines of squeue, a file or -").required(true))?
@@ -40,7 +29,12 @@ fn with_files<'a>(alloc: Global, command: Command<'a>) -> Result<Command<'a>, Al
             "arrays",
             "the pending arrays, as 6_[0-3%2], which squeue prints without -r, a file or -",
         ))?
-        .arg(file(alloc, "nodes", "the lines of sinfo, a file or -").required(true))?
+        .arg(file(alloc, "nodes", "the lines of sinfo, a file or -").required(true))
+}
+
+// With the files of reservations, and of lines that are not taken.
+fn with_more_files<'a>(alloc: Global, command: Command<'a>) -> Result<Command<'a>, AllocError> {
+    command
         .arg(file(
             alloc,
             "reservations",
@@ -53,57 +47,79 @@ fn with_files<'a>(alloc: Global, command: Command<'a>) -> Result<Command<'a>, Al
         ))
 }
 
-// With what is asked of the jobs.
-fn with_jobs<'a>(alloc: Global, command: Command<'a>) -> Result<Command<'a>, AllocError> {
+// With what is asked of the cycle.
+fn with_cycle<'a>(alloc: Global, command: Command<'a>) -> Result<Command<'a>, AllocError> {
     command
-        .arg(
-            Arg::new(alloc, "worth")
-                .long("worth")
-                .value_parser(["node-slots", "priority"].as_slice())
-                .help("what a job is worth [default: node-slots]"),
-        )?
+        .arg(valued(
+            alloc,
+            "now",
+            "TIME",
+            "when slot 0 begins, by the manager's clock",
+        ))?
+        .arg(number(alloc, "slot", "N", "seconds of a slot [default: 60]"))?
+        .arg(number(
+            alloc,
+            "window",
+            "N",
+            "slots in which leaves may start [default: 16]",
+        ))?
+        .arg(number(
+            alloc,
+            "budget",
+            "N",
+            "nodes of a search tree [default: 200]",
+        ))
+}
+
+// With what a job is worth.
+fn with_worth<'a>(alloc: Global, command: Command<'a>) -> Result<Command<'a>, AllocError> {
+    command
+        .arg(choice(
+            alloc,
+            "worth",
+            &["node-slots", "priority"],
+            "what a job is worth [default: node-slots]",
+        ))?
         .arg(number(
             alloc,
             "waiting",
+            "N",
             "how many times its node-slots a job is worth more for each slot that it has waited [default: 0]",
+        ))
+}
+
+// With how a job may wait, and what it is given.
+fn with_waits<'a>(alloc: Global, command: Command<'a>) -> Result<Command<'a>, AllocError> {
+    command
+        .arg(number(
+            alloc,
+            "slack",
+            "N",
+            "slots that a job may wait [default: 288]",
         ))?
-        .arg(number(alloc, "slack", "slots that a job may wait [default: 288]"))?
-        .arg(
-            Arg::new(alloc, "class")
-                .long("class")
-                .value_parser(["decay", "steady"].as_slice())
-                .help("whether waiting costs [default: decay]"),
-        )?
-        .arg(
-            Arg::new(alloc, "whole")
-                .long("whole")
-                .action(ArgAction::SetTrue)
-                .help("each job is given whole nodes, whatever its line says of sharing"),
-        )
+        .arg(choice(
+            alloc,
+            "class",
+            &["decay", "steady"],
+            "whether waiting costs [default: decay]",
+        ))?
+        .arg(flag(
+            alloc,
+            "whole",
+            "each job is given whole nodes, whatever its line says of sharing",
+        ))
 }
 
 /// The words of the command.
 pub fn command<'a>(alloc: Global) -> Result<Command<'a>, AllocError> {
-    let command = Command::new(alloc, "queue")
-        .about("Writes the trace of one cycle of a resource manager's queue")
-        .after_help(
-            "Example: tetri_ctl queue --jobs jobs.txt --nodes nodes.txt --slot 60 > cycle.jsonl",
-        );
-    let command = with_files(alloc, command)?
-        .arg(
-            Arg::new(alloc, "now")
-                .long("now")
-                .value_name("TIME")
-                .help("when slot 0 begins, by the manager's clock"),
-        )?
-        .arg(number(alloc, "slot", "seconds of a slot [default: 60]"))?
-        .arg(number(
-            alloc,
-            "window",
-            "slots in which leaves may start [default: 16]",
-        ))?
-        .arg(number(alloc, "budget", "nodes of a search tree [default: 200]"))?;
-    with_jobs(alloc, command)
+    let command = titled(
+        alloc,
+        "queue",
+        "Writes the trace of one cycle of a resource manager's queue",
+        "Example: tetri_ctl queue --jobs jobs.txt --nodes nodes.txt --slot 60 > cycle.jsonl",
+    );
+    let command = with_more_files(alloc, with_files(alloc, command)?)?;
+    with_waits(alloc, with_worth(alloc, with_cycle(alloc, command)?)?)
 }
 
 // All that a file has.
