@@ -180,6 +180,10 @@ fn number_of(matches: &ArgMatches, name: &str) -> Option<u32> {
     matches.get_one::<u32>(name)
 }
 
+fn number_or(matches: &ArgMatches, name: &str, default: u32) -> u32 {
+    number_of(matches, name).unwrap_or(default)
+}
+
 // The second since 1970 that a text says: a number of seconds, or as `2024-05-01T12:34:56`.
 fn second_in(text: &str) -> Option<u32> {
     match seconds_in(text.as_bytes()) {
@@ -217,23 +221,30 @@ fn class_of(matches: &ArgMatches) -> Class {
     }
 }
 
-/// What the words ask for. `None` where a time is no time.
-pub fn asked_of<'a>(matches: &ArgMatches<'a>) -> Option<Asked<'a>> {
-    let options = Options {
-        slot: number_of(matches, "slot").unwrap_or(300),
+// How the log becomes a trace. `None` where a time is no time.
+fn options_of(matches: &ArgMatches) -> Option<Options> {
+    let from = time_of(matches, "from")?;
+    let to = time_of(matches, "to")?;
+    Some(Options {
+        slot: number_or(matches, "slot", 300),
         processors: number_of(matches, "processors"),
         nodes: number_of(matches, "nodes"),
-        window: number_of(matches, "window").unwrap_or(16),
-        budget: number_of(matches, "budget").unwrap_or(200),
-        unit: number_of(matches, "unit").unwrap_or(1),
-        from: time_of(matches, "from")?,
-        to: time_of(matches, "to")?,
+        window: number_or(matches, "window", 16),
+        budget: number_or(matches, "budget", 200),
+        unit: number_or(matches, "unit", 1),
+        from,
+        to,
         jobs: number_of(matches, "jobs"),
         worth: worth_of(matches),
-        slack: number_of(matches, "slack").unwrap_or(288),
+        slack: number_or(matches, "slack", 288),
         class: class_of(matches),
         whole_nodes_only: matches.get_flag("whole-nodes-only"),
-    };
+    })
+}
+
+/// What the words ask for. `None` where a time is no time.
+pub fn asked_of<'a>(matches: &ArgMatches<'a>) -> Option<Asked<'a>> {
+    let options = options_of(matches)?;
     Some(Asked {
         format: format_of(matches),
         log: matches.get_str("LOG").unwrap_or(""),

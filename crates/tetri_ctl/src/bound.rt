@@ -1,6 +1,6 @@
 // `tetri_ctl bound TRACE REPORT`
 use crate::builders::{flag, on_report, valued};
-use crate::named::{Shelf, open_report, open_trace};
+use crate::named::{Shelf, open_both};
 use crate::refusals::end_of;
 use crate::said::{USAGE, complain};
 use clap::{ArgMatches, Command};
@@ -56,8 +56,7 @@ fn bounded(
     report: &str,
     wanted: Wanted,
 ) -> Result<Status, u8> {
-    open_trace(rt, shelf, trace)?;
-    open_report(rt, shelf, report)?;
+    open_both(rt, shelf, trace, report)?;
     let mut sink = StdSink::new(rt.stdout());
     let alloc = rt.alloc();
     Ok(price_report(alloc, trace, report, wanted, BySearch, shelf, &mut sink))

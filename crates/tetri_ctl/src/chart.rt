@@ -1,6 +1,6 @@
 // `tetri_ctl chart TRACE REPORT [REPORT2]`
 use crate::builders::{choice, number, on_report};
-use crate::named::{Shelf, open_report, open_trace};
+use crate::named::{Shelf, open_both, open_report};
 use crate::refusals::end_of;
 use crate::said::{USAGE, complain};
 use clap::{Arg, ArgMatches, Command};
@@ -120,8 +120,7 @@ fn drawn(
     report: &str,
     words: &ArgMatches<'_>,
 ) -> Result<Status, u8> {
-    open_trace(rt, shelf, trace)?;
-    open_report(rt, shelf, report)?;
+    open_both(rt, shelf, trace, report)?;
     let Ok(view) = view_of(rt.alloc(), shelf, trace, words) else {
         return Ok(Status::NoMemory);
     };
@@ -139,8 +138,7 @@ fn drawn_pair(
     second: &str,
     words: &ArgMatches<'_>,
 ) -> Result<PairStatus, u8> {
-    open_trace(rt, shelf, trace)?;
-    open_report(rt, shelf, first)?;
+    open_both(rt, shelf, trace, first)?;
     open_report(rt, shelf, second)?;
     let Ok(view) = view_of(rt.alloc(), shelf, trace, words) else {
         return Ok(PairStatus::First(Status::NoMemory));

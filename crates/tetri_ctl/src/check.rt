@@ -1,6 +1,6 @@
 // `tetri_ctl check TRACE REPORT`
 use crate::builders::on_report;
-use crate::named::{Shelf, open_report, open_trace};
+use crate::named::{Shelf, open_both};
 use crate::refusals::end_of;
 use clap::{ArgMatches, Command};
 use std::alloc::{AllocError, Global};
@@ -24,8 +24,7 @@ fn checked(
     trace: &str,
     report: &str,
 ) -> Result<Status, u8> {
-    open_trace(rt, shelf, trace)?;
-    open_report(rt, shelf, report)?;
+    open_both(rt, shelf, trace, report)?;
     let mut sink = StdSink::new(rt.stdout());
     Ok(run_check(rt.alloc(), trace, report, shelf, &mut sink))
 }

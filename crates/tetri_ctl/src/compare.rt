@@ -120,6 +120,23 @@ fn accounts_of(
     }
 }
 
+// Tells of the reports and of the policies, as the words ask, and gives the exit number.
+fn tell(
+    rt: &HostRuntime,
+    trace: &str,
+    reports: &[&str],
+    policies: &[&str],
+    words: &ArgMatches<'_>,
+) -> u8 {
+    match accounts_of(rt, trace, reports, policies, words.get_flag("prices")) {
+        Ok((kept, runs)) => {
+            let text = compare_text(rt.alloc(), &kept, &runs, format_of(words));
+            send(rt, text)
+        }
+        Err(number) => number,
+    }
+}
+
 /// Tells of what the words name, and gives the exit number.
 pub fn run(rt: &HostRuntime, words: &ArgMatches<'_>) -> u8 {
     let trace = words.get_str("TRACE").unwrap_or("");
@@ -129,11 +146,5 @@ pub fn run(rt: &HostRuntime, words: &ArgMatches<'_>) -> u8 {
         complain(rt, trace, "neither a report nor a policy is named");
         return USAGE;
     }
-    match accounts_of(rt, trace, reports, policies, words.get_flag("prices")) {
-        Ok((kept, runs)) => {
-            let text = compare_text(rt.alloc(), &kept, &runs, format_of(words));
-            send(rt, text)
-        }
-        Err(number) => number,
-    }
+    tell(rt, trace, reports, policies, words)
 }

@@ -1,13 +1,12 @@
 // `tetri_ctl export TRACE [REPORT] --cycle N`
+use crate::advisors::shipped_panel;
 use crate::builders::{choice, number, on_trace, report_word};
-use crate::named::{Shelf, open_report, open_trace};
+use crate::named::{Shelf, open_both, open_trace};
 use crate::refusals::end_of;
 use crate::said::{REFUSED, USAGE, complain, end, shown, too_large};
 use clap::{Arg, ArgMatches, Command};
 use std::alloc::{AllocError, Global};
-use tetri_advice::{Advisor, Panel};
 use tetri_export::Format;
-use tetri_greedy::{ByDeadline, ByWorth};
 use tetri_io::{StdSink, send_all};
 use tetri_notice::TraceFault;
 use tetri_programs::{Exported, export_cycle, export_report};
@@ -64,12 +63,7 @@ fn seat_and_export(
         Ok(trace) => trace,
         Err(fault) => return Ok(Err(fault)),
     };
-    let by_deadline: Box<dyn Advisor> = Box::new(rt.alloc(), ByDeadline::new())?;
-    let by_worth: Box<dyn Advisor> = Box::new(rt.alloc(), ByWorth::new())?;
-    let mut panel = Panel::new(rt.alloc());
-    if panel.seat(by_deadline).is_err() || panel.seat(by_worth).is_err() {
-        return Err(AllocError);
-    }
+    let mut panel = shipped_panel(rt.alloc())?;
     Ok(Ok(export_cycle(rt.alloc(), &trace, cycle, format, &mut panel)?))
 }
 
@@ -153,10 +147,7 @@ fn run_plan(rt: &HostRuntime, trace: &str, cycle: u32, format: Format) -> u8 {
 // Exports a cycle of the run of a report, and gives the exit number.
 fn run_report(rt: &HostRuntime, trace: &str, report: &str, cycle: u32, format: Format) -> u8 {
     let mut shelf = Shelf::new(rt.alloc(), rt);
-    if let Err(number) = open_trace(rt, &mut shelf, trace) {
-        return number;
-    }
-    if let Err(number) = open_report(rt, &mut shelf, report) {
+    if let Err(number) = open_both(rt, &mut shelf, trace, report) {
         return number;
     }
     match export_report(rt.alloc(), trace, report, cycle, format, &mut shelf) {

@@ -1,11 +1,10 @@
 // `tetri_ctl lint TRACE`
 use crate::builders::{flag, on_trace};
 use crate::named::{Shelf, open_trace};
-use crate::said::{BAD_INPUT, NO_MEMORY, REFUSED, WRITE_FAULT, complain, read_fault, shown};
+use crate::said::{BAD_INPUT, NO_MEMORY, REFUSED, complain, read_fault, shown, write_output};
 use clap::{ArgMatches, Command};
 use std::alloc::{AllocError, Global};
 use std::fmt::Write;
-use tetri_io::{StdSink, send_all};
 use tetri_lint::{Level, LintFault, Linted, add_finding, add_refusal, level_of, lint};
 
 /// The words of the command.
@@ -62,13 +61,9 @@ fn write_out(rt: &HostRuntime, name: &str, linted: &Linted, is_strict: bool) -> 
         complain(rt, name, "out of memory");
         return NO_MEMORY;
     };
-    let mut out = StdSink::new(rt.stdout());
-    match send_all(&mut out, text.as_bytes()) {
+    match write_output(rt, text.as_bytes()) {
         Ok(()) => number_of(linted, is_strict),
-        Err(_) => {
-            complain(rt, "standard output", "write fault");
-            WRITE_FAULT
-        }
+        Err(number) => number,
     }
 }
 

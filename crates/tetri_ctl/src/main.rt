@@ -3,6 +3,7 @@
 #![tactic(auto)]
 
 mod accounted;
+mod advisors;
 mod asked;
 mod bound;
 mod builders;

@@ -26,3 +26,14 @@ pub fn open_report(rt: &HostRuntime, shelf: &mut Shelf<'_>, name: &str) -> Resul
         Err(why) => Err(unread(rt, name, &why, READ_FAULT)),
     }
 }
+
+/// Makes a trace and a report of it ready to be read, as `open_trace` the trace.
+pub fn open_both(
+    rt: &HostRuntime,
+    shelf: &mut Shelf<'_>,
+    trace: &str,
+    report: &str,
+) -> Result<(), u8> {
+    open_trace(rt, shelf, trace)?;
+    open_report(rt, shelf, report)
+}
