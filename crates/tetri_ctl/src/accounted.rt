@@ -3,11 +3,11 @@ ghost use Rattle.tetri_trace.specs.Scenario.{scenario};
 ghost use Rattle.tetri_trace.specs.Sound.{IsSound};
 ghost use Rattle.std.specs.Prelude.{IfOk};
 
-use crate::builders::{choice, flag, on_trace, report_word};
+use crate::builders::{Built, choice, flag, on_trace, report_word, with_word};
 use crate::named::{Shelf, open_report, open_trace};
 use crate::refusals::end_of;
 use crate::said::{USAGE, complain, end, no_memory};
-use clap::{Arg, ArgMatches, Command};
+use clap::{Arg, ArgMatches};
 use std::alloc::{AllocError, Global};
 use tetri_accounts::{Account, account_policy, account_report};
 use tetri_figures::{Bounds, Format, PricedSums};
@@ -56,15 +56,10 @@ pub fn prices_word<'a>(alloc: Global) -> Arg<'a> {
 }
 
 /// A command on a trace and the run of a report or of a policy.
-pub fn on_run<'a>(
-    alloc: Global,
-    name: &'a str,
-    about: &'a str,
-    after: &'a str,
-) -> Result<Command<'a>, AllocError> {
-    on_trace(alloc, name, about, after)?
-        .arg(report_word(alloc).required(false))?
-        .arg(policy_word(alloc))
+pub fn on_run<'a>(alloc: Global, name: &'a str, about: &'a str, after: &'a str) -> Built<'a> {
+    let command = on_trace(alloc, name, about, after);
+    let command = with_word(command, report_word(alloc).required(false));
+    with_word(command, policy_word(alloc))
 }
 
 /// The policy of a word.

@@ -1,7 +1,7 @@
 // The words of an import.
-use crate::builders::{choice, flag, number, titled, valued};
-use clap::{Arg, ArgAction, ArgMatches, Command};
-use std::alloc::{AllocError, Global};
+use crate::builders::{Built, choice, flag, number, titled, valued, with_word};
+use clap::{Arg, ArgAction, ArgMatches};
+use std::alloc::Global;
 use tetri_logs::{Format, Options, Worth, seconds_in};
 use tetri_request::Class;
 
@@ -32,50 +32,63 @@ fn log_word<'a>(alloc: Global) -> Arg<'a> {
 }
 
 // The command on a log.
-fn on_log<'a>(alloc: Global) -> Result<Command<'a>, AllocError> {
-    titled(
+fn on_log<'a>(alloc: Global) -> Built<'a> {
+    let command = titled(
         alloc,
         "import",
         "Writes the trace of an accounting log",
         "Example: tetri_ctl import swf cluster.swf --slack 12 > cluster.jsonl",
-    )
-    .arg(format_word(alloc))?
-    .arg(log_word(alloc))
+    );
+    let command = with_word(command, format_word(alloc));
+    with_word(command, log_word(alloc))
 }
 
 // With what is asked of the slots and of the nodes.
-fn with_slots<'a>(alloc: Global, command: Command<'a>) -> Result<Command<'a>, AllocError> {
-    command
-        .arg(number(alloc, "slot", "N", "seconds of a slot [default: 300]"))?
-        .arg(number(
+fn with_slots<'a>(alloc: Global, command: Built<'a>) -> Built<'a> {
+    let command = with_word(
+        command,
+        number(alloc, "slot", "N", "seconds of a slot [default: 300]"),
+    );
+    let command = with_word(
+        command,
+        number(
             alloc,
             "processors",
             "N",
             "processors of a node [default: what the log says, or 1]",
-        ))?
-        .arg(number(
+        ),
+    );
+    with_word(
+        command,
+        number(
             alloc,
             "nodes",
             "N",
             "number of nodes [default: what the log says of them]",
-        ))
+        ),
+    )
 }
 
 // With what is asked of the cycles.
-fn with_cycles<'a>(alloc: Global, command: Command<'a>) -> Result<Command<'a>, AllocError> {
-    command
-        .arg(number(
+fn with_cycles<'a>(alloc: Global, command: Built<'a>) -> Built<'a> {
+    let command = with_word(
+        command,
+        number(
             alloc,
             "window",
             "N",
             "slots in which leaves may start [default: 16]",
-        ))?
-        .arg(number(
+        ),
+    );
+    with_word(
+        command,
+        number(
             alloc,
             "budget",
             "N",
             "nodes of a search tree [default: 200]",
-        ))
+        ),
+    )
 }
 
 // The option that names a file of nodes.
@@ -100,80 +113,103 @@ fn partition_word<'a>(alloc: Global) -> Arg<'a> {
 }
 
 // With the nodes where they differ.
-fn with_nodes<'a>(alloc: Global, command: Command<'a>) -> Result<Command<'a>, AllocError> {
-    command
-        .arg(nodes_file_word(alloc))?
-        .arg(partition_word(alloc))
+fn with_nodes<'a>(alloc: Global, command: Built<'a>) -> Built<'a> {
+    let command = with_word(command, nodes_file_word(alloc));
+    with_word(command, partition_word(alloc))
 }
 
 // With how many jobs are taken, and how long they may wait.
-fn with_jobs<'a>(alloc: Global, command: Command<'a>) -> Result<Command<'a>, AllocError> {
-    command
-        .arg(number(
+fn with_jobs<'a>(alloc: Global, command: Built<'a>) -> Built<'a> {
+    let command = with_word(
+        command,
+        number(
             alloc,
             "unit",
             "N",
             "what each worth is multiplied by [default: 1]",
-        ))?
-        .arg(number(alloc, "jobs", "N", "how many jobs are taken at most"))?
-        .arg(number(
+        ),
+    );
+    let command = with_word(
+        command,
+        number(alloc, "jobs", "N", "how many jobs are taken at most"),
+    );
+    with_word(
+        command,
+        number(
             alloc,
             "slack",
             "N",
             "slots that a job may wait [default: 288]",
-        ))
+        ),
+    )
 }
 
 // With which jobs are taken, and what they are worth.
-fn with_worth<'a>(alloc: Global, command: Command<'a>) -> Result<Command<'a>, AllocError> {
-    command
-        .arg(valued(
+fn with_worth<'a>(alloc: Global, command: Built<'a>) -> Built<'a> {
+    let command = with_word(
+        command,
+        valued(
             alloc,
             "from",
             "TIME",
             "jobs that are submitted at this time or later",
-        ))?
-        .arg(valued(
+        ),
+    );
+    let command = with_word(
+        command,
+        valued(
             alloc,
             "to",
             "TIME",
             "jobs that are submitted before this time",
-        ))?
-        .arg(choice(
+        ),
+    );
+    let command = with_word(
+        command,
+        choice(
             alloc,
             "worth",
             &["node-slots", "job"],
             "what a job is worth",
-        ))?
-        .arg(choice(
+        ),
+    );
+    with_word(
+        command,
+        choice(
             alloc,
             "class",
             &["steady", "decay"],
             "whether waiting costs",
-        ))
+        ),
+    )
 }
 
 // With what is asked of jobs that share nodes, and of lines that are left out.
-fn with_rejects<'a>(alloc: Global, command: Command<'a>) -> Result<Command<'a>, AllocError> {
-    command
-        .arg(flag(
+fn with_rejects<'a>(alloc: Global, command: Built<'a>) -> Built<'a> {
+    let command = with_word(
+        command,
+        flag(
             alloc,
             "whole-nodes-only",
             "leave out jobs with fewer processors than a node has",
-        ))?
-        .arg(valued(
+        ),
+    );
+    with_word(
+        command,
+        valued(
             alloc,
             "rejects",
             "FILE",
             "write each line that is left out, with its number and its cause",
-        ))
+        ),
+    )
 }
 
 /// The words of the command.
-pub fn import_command<'a>(alloc: Global) -> Result<Command<'a>, AllocError> {
-    let command = with_slots(alloc, on_log(alloc)?)?;
-    let command = with_nodes(alloc, with_cycles(alloc, command)?)?;
-    with_rejects(alloc, with_worth(alloc, with_jobs(alloc, command)?)?)
+pub fn import_command<'a>(alloc: Global) -> Built<'a> {
+    let command = with_slots(alloc, on_log(alloc));
+    let command = with_nodes(alloc, with_cycles(alloc, command));
+    with_rejects(alloc, with_worth(alloc, with_jobs(alloc, command)))
 }
 
 fn number_of(matches: &ArgMatches, name: &str) -> Option<u32> {

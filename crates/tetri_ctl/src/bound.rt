@@ -1,29 +1,32 @@
 // `tetri_ctl bound TRACE REPORT`
-use crate::builders::{flag, on_report, valued};
+use crate::builders::{Built, flag, on_report, valued, with_word};
 use crate::named::{Shelf, open_both};
 use crate::refusals::end_of;
 use crate::said::{USAGE, complain};
-use clap::{ArgMatches, Command};
-use std::alloc::{AllocError, Global};
+use clap::ArgMatches;
+use std::alloc::Global;
 use tetri_io::StdSink;
 use tetri_priced::{BySearch, Wanted, price_report};
 use tetri_run::Status;
 
 /// The words of the command.
-pub fn command<'a>(alloc: Global) -> Result<Command<'a>, AllocError> {
-    on_report(
+pub fn command<'a>(alloc: Global) -> Built<'a> {
+    let command = on_report(
         alloc,
         "bound",
         "Tells the bounds of a report that is accepted, lowered by prices of nodes",
         "Example: tetri_ctl bound day.jsonl day.report --slots 8-16 --no-prices",
-    )?
-    .arg(valued(
-        alloc,
-        "slots",
-        "FROM-TO",
-        "tell of the cycles of these slots alone, both included",
-    ))?
-    .arg(flag(alloc, "no-prices", "leave the prices out"))
+    );
+    let command = with_word(
+        command,
+        valued(
+            alloc,
+            "slots",
+            "FROM-TO",
+            "tell of the cycles of these slots alone, both included",
+        ),
+    );
+    with_word(command, flag(alloc, "no-prices", "leave the prices out"))
 }
 
 // The first and the last slot that a text names, as `8-16`.

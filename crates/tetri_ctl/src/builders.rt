@@ -2,29 +2,34 @@
 use clap::{Arg, ArgAction, Command, value_parser};
 use std::alloc::{AllocError, Global};
 
+/// A command that is being built, or that there is no memory for it.
+pub type Built<'a> = Result<Command<'a>, AllocError>;
+
+/// The same with one word more.
+pub fn with_word<'a>(command: Built<'a>, word: Arg<'a>) -> Built<'a> {
+    command?.arg(word)
+}
+
+/// The same with one command more below it.
+pub fn with_command<'a>(program: Built<'a>, command: Built<'a>) -> Built<'a> {
+    program?.subcommand(command?)
+}
+
 /// A command, with what its help says first and last.
-pub fn titled<'a>(alloc: Global, name: &'a str, about: &'a str, after: &'a str) -> Command<'a> {
-    Command::new(alloc, name).about(about).after_help(after)
+pub fn titled<'a>(alloc: Global, name: &'a str, about: &'a str, after: &'a str) -> Built<'a> {
+    Ok(Command::new(alloc, name).about(about).after_help(after))
 }
 
 /// A command on a trace.
-pub fn on_trace<'a>(
-    alloc: Global,
-    name: &'a str,
-    about: &'a str,
-    after: &'a str,
-) -> Result<Command<'a>, AllocError> {
-    titled(alloc, name, about, after).arg(trace_word(alloc))
+pub fn on_trace<'a>(alloc: Global, name: &'a str, about: &'a str, after: &'a str) -> Built<'a> {
+    let command = titled(alloc, name, about, after);
+    with_word(command, trace_word(alloc))
 }
 
 /// A command on a trace and a report of it.
-pub fn on_report<'a>(
-    alloc: Global,
-    name: &'a str,
-    about: &'a str,
-    after: &'a str,
-) -> Result<Command<'a>, AllocError> {
-    on_trace(alloc, name, about, after)?.arg(report_word(alloc))
+pub fn on_report<'a>(alloc: Global, name: &'a str, about: &'a str, after: &'a str) -> Built<'a> {
+    let command = on_trace(alloc, name, about, after);
+    with_word(command, report_word(alloc))
 }
 
 /// The word that names a trace.

@@ -1,9 +1,9 @@
 // `tetri_ctl chart TRACE REPORT [REPORT2]`
-use crate::builders::{choice, number, on_report};
+use crate::builders::{Built, choice, number, on_report, with_word};
 use crate::named::{Shelf, open_both, open_report};
 use crate::refusals::end_of;
 use crate::said::{USAGE, complain};
-use clap::{Arg, ArgMatches, Command};
+use clap::{Arg, ArgMatches};
 use std::alloc::{AllocError, Global};
 use tetri_chart::{Colours, PairStatus, View, chart, chart_pair, clock_of};
 use tetri_cluster::{Name, NameFault, NameList};
@@ -30,33 +30,41 @@ fn colour_word<'a>(alloc: Global) -> Arg<'a> {
 }
 
 // With what is asked of the drawing.
-fn with_view<'a>(alloc: Global, command: Command<'a>) -> Result<Command<'a>, AllocError> {
-    command
-        .arg(number(
+fn with_view<'a>(alloc: Global, command: Built<'a>) -> Built<'a> {
+    let command = with_word(
+        command,
+        number(
             alloc,
             "cycle",
             "N",
             "show what this cycle planned for later slots",
-        ))?
-        .arg(number(alloc, "from", "SLOT", "begin with this slot of the run"))?
-        .arg(number(
+        ),
+    );
+    let command = with_word(
+        command,
+        number(alloc, "from", "SLOT", "begin with this slot of the run"),
+    );
+    let command = with_word(
+        command,
+        number(
             alloc,
             "to",
             "SLOT",
             "end with this slot of the run, and not with the last in which a piece runs",
-        ))?
-        .arg(colour_word(alloc))
+        ),
+    );
+    with_word(command, colour_word(alloc))
 }
 
 /// The words of the command.
-pub fn command<'a>(alloc: Global) -> Result<Command<'a>, AllocError> {
+pub fn command<'a>(alloc: Global) -> Built<'a> {
     let command = on_report(
         alloc,
         "chart",
         "Draws a report that is accepted, or two of one trace over the same slots, as SVG",
         "Example: tetri_ctl chart day.jsonl day.report > day.svg",
-    )?;
-    with_view(alloc, command.arg(second_word(alloc))?)
+    );
+    with_view(alloc, with_word(command, second_word(alloc)))
 }
 
 // The tags as names.

@@ -1,14 +1,14 @@
 // `tetri_ctl check TRACE REPORT`
-use crate::builders::on_report;
+use crate::builders::{Built, on_report};
 use crate::named::{Shelf, open_both};
 use crate::refusals::end_of;
-use clap::{ArgMatches, Command};
-use std::alloc::{AllocError, Global};
+use clap::ArgMatches;
+use std::alloc::Global;
 use tetri_io::StdSink;
 use tetri_run::{Status, run_check};
 
 /// The words of the command.
-pub fn command<'a>(alloc: Global) -> Result<Command<'a>, AllocError> {
+pub fn command<'a>(alloc: Global) -> Built<'a> {
     on_report(
         alloc,
         "check",

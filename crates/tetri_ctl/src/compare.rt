@@ -6,10 +6,10 @@ ghost use Rattle.tetri_trace.specs.Sound.{IsSound};
 use crate::accounted::{
     format_of, format_word, kept_trace, policy_of, policy_word, prices_word, report_account, send,
 };
-use crate::builders::on_trace;
+use crate::builders::{Built, on_trace, with_word};
 use crate::named::{Shelf, open_trace};
 use crate::said::{USAGE, complain, no_memory};
-use clap::{Arg, ArgAction, ArgMatches, Command};
+use clap::{Arg, ArgAction, ArgMatches};
 use std::alloc::{AllocError, Global};
 use tetri_accounts::{Account, account_policy};
 use tetri_figures::{Bounds, Compared, compare_text};
@@ -23,17 +23,17 @@ fn reports_word<'a>(alloc: Global) -> Arg<'a> {
 }
 
 /// The words of the command.
-pub fn command<'a>(alloc: Global) -> Result<Command<'a>, AllocError> {
-    on_trace(
+pub fn command<'a>(alloc: Global) -> Built<'a> {
+    let command = on_trace(
         alloc,
         "compare",
         "Tells figures of several runs of one trace, and which jobs start at other times",
         "Example: tetri_ctl compare day.jsonl day.report --policy fcfs --policy easy",
-    )?
-    .arg(reports_word(alloc))?
-    .arg(policy_word(alloc).action(ArgAction::Append))?
-    .arg(prices_word(alloc))?
-    .arg(format_word(alloc))
+    );
+    let command = with_word(command, reports_word(alloc));
+    let command = with_word(command, policy_word(alloc).action(ArgAction::Append));
+    let command = with_word(command, prices_word(alloc));
+    with_word(command, format_word(alloc))
 }
 
 // Puts an account with its name to the others.

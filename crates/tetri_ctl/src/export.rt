@@ -1,10 +1,10 @@
 // `tetri_ctl export TRACE [REPORT] --cycle N`
 use crate::advisors::shipped_panel;
-use crate::builders::{choice, number, on_trace, report_word};
+use crate::builders::{Built, choice, number, on_trace, report_word, with_word};
 use crate::named::{Shelf, open_both, open_trace};
 use crate::refusals::end_of;
 use crate::said::{REFUSED, USAGE, complain, end, shown, too_large};
-use clap::{Arg, ArgMatches, Command};
+use clap::{Arg, ArgMatches};
 use std::alloc::{AllocError, Global};
 use tetri_export::Format;
 use tetri_io::{StdSink, send_all};
@@ -26,21 +26,24 @@ fn cycle_word<'a>(alloc: Global) -> Arg<'a> {
 }
 
 /// The words of the command.
-pub fn command<'a>(alloc: Global) -> Result<Command<'a>, AllocError> {
-    on_trace(
+pub fn command<'a>(alloc: Global) -> Built<'a> {
+    let command = on_trace(
         alloc,
         "export",
         "Writes the integer program of a cycle of a run, for other solvers",
         "Example: tetri_ctl export day.jsonl --cycle 7 > day7.lp",
-    )?
-    .arg(run_word(alloc))?
-    .arg(cycle_word(alloc))?
-    .arg(choice(
-        alloc,
-        "format",
-        &["lp", "mps"],
-        "how it is written [default: lp]",
-    ))
+    );
+    let command = with_word(command, run_word(alloc));
+    let command = with_word(command, cycle_word(alloc));
+    with_word(
+        command,
+        choice(
+            alloc,
+            "format",
+            &["lp", "mps"],
+            "how it is written [default: lp]",
+        ),
+    )
 }
 
 // The format that the words ask for.

@@ -1,9 +1,10 @@
 // `tetri_ctl import FORMAT LOG`
 use crate::asked::{Asked, asked_of, import_command};
+use crate::builders::Built;
 use crate::said::{
     NO_MEMORY, READ_FAULT, REFUSED, USAGE, WRITE_FAULT, complain, unread, write_output,
 };
-use clap::{ArgMatches, Command};
+use clap::ArgMatches;
 use std::alloc::{AllocError, Global};
 use std::fs;
 use tetri_cluster::NodeText;
@@ -16,7 +17,7 @@ use tetri_workload::{
 };
 
 /// The words of the command.
-pub fn command<'a>(alloc: Global) -> Result<Command<'a>, AllocError> {
+pub fn command<'a>(alloc: Global) -> Built<'a> {
     import_command(alloc)
 }
 

@@ -1,19 +1,20 @@
 // `tetri_ctl jobs TRACE REPORT`
 use crate::accounted::{Run, account_in, format_of, format_word, on_run, send};
+use crate::builders::{Built, with_word};
 use crate::named::Shelf;
-use clap::{ArgMatches, Command};
-use std::alloc::{AllocError, Global};
+use clap::ArgMatches;
+use std::alloc::Global;
 use tetri_figures::jobs_text;
 
 /// The words of the command.
-pub fn command<'a>(alloc: Global) -> Result<Command<'a>, AllocError> {
-    on_run(
+pub fn command<'a>(alloc: Global) -> Built<'a> {
+    let command = on_run(
         alloc,
         "jobs",
         "Tells of each job of a run: when it started, how long it waited, where it ran",
         "Example: tetri_ctl jobs day.jsonl day.report --format csv > day.csv",
-    )?
-    .arg(format_word(alloc))
+    );
+    with_word(command, format_word(alloc))
 }
 
 /// Tells of what the words name, and gives the exit number.

@@ -1,21 +1,24 @@
 // `tetri_ctl lint TRACE`
-use crate::builders::{flag, on_trace};
+use crate::builders::{Built, flag, on_trace, with_word};
 use crate::named::{Shelf, open_trace};
 use crate::said::{BAD_INPUT, NO_MEMORY, REFUSED, complain, read_fault, shown, write_output};
-use clap::{ArgMatches, Command};
+use clap::ArgMatches;
 use std::alloc::{AllocError, Global};
 use std::fmt::Write;
 use tetri_lint::{Level, LintFault, Linted, add_finding, add_refusal, level_of, lint};
 
 /// The words of the command.
-pub fn command<'a>(alloc: Global) -> Result<Command<'a>, AllocError> {
-    on_trace(
+pub fn command<'a>(alloc: Global) -> Built<'a> {
+    let command = on_trace(
         alloc,
         "lint",
         "Tells why a trace is refused, or what is suspicious in it",
         "Example: tetri_ctl lint day.jsonl --strict",
-    )?
-    .arg(flag(alloc, "strict", "end with 1 where there is a warning"))
+    );
+    with_word(
+        command,
+        flag(alloc, "strict", "end with 1 where there is a warning"),
+    )
 }
 
 // What is found in a trace of this name, a line each.

@@ -22,10 +22,11 @@ mod refusals;
 mod said;
 mod stats;
 
+use builders::{Built, with_command};
 use clap::error::ErrorKind;
 use clap::{ArgMatches, Command, Error};
 use said::{USAGE, WRITE_FAULT};
-use std::alloc::{AllocError, Global};
+use std::alloc::Global;
 use std::process::ExitCode;
 use std::{env, io};
 use tetri_about::VERSION;
@@ -36,7 +37,7 @@ fn words<R: env::Env + AllocGlobal>(rt: &R) -> io::Result<Vec<String>> {
 }
 
 // The program, without its commands.
-fn program<'a>(alloc: Global) -> Result<Command<'a>, AllocError> {
+fn program<'a>(alloc: Global) -> Built<'a> {
     let program = Command::new(alloc, "tetri_ctl")
         .bin_name("tetri_ctl")?
         .about(
@@ -51,36 +52,33 @@ fn program<'a>(alloc: Global) -> Result<Command<'a>, AllocError> {
 }
 
 // With the commands that plan, check, import and draw.
-fn with_plans<'a>(alloc: Global, program: Command<'a>) -> Result<Command<'a>, AllocError> {
-    program
-        .subcommand(plan::command(alloc)?)?
-        .subcommand(check::command(alloc)?)?
-        .subcommand(import::command(alloc)?)?
-        .subcommand(chart::command(alloc)?)
+fn with_plans<'a>(alloc: Global, program: Built<'a>) -> Built<'a> {
+    let program = with_command(program, plan::command(alloc));
+    let program = with_command(program, check::command(alloc));
+    let program = with_command(program, import::command(alloc));
+    with_command(program, chart::command(alloc))
 }
 
 // With the commands that tell of runs.
-fn with_accounts<'a>(alloc: Global, program: Command<'a>) -> Result<Command<'a>, AllocError> {
-    program
-        .subcommand(jobs::command(alloc)?)?
-        .subcommand(stats::command(alloc)?)?
-        .subcommand(compare::command(alloc)?)?
-        .subcommand(bound::command(alloc)?)
+fn with_accounts<'a>(alloc: Global, program: Built<'a>) -> Built<'a> {
+    let program = with_command(program, jobs::command(alloc));
+    let program = with_command(program, stats::command(alloc));
+    let program = with_command(program, compare::command(alloc));
+    with_command(program, bound::command(alloc))
 }
 
 // With the commands around other solvers and resource managers.
-fn with_others<'a>(alloc: Global, program: Command<'a>) -> Result<Command<'a>, AllocError> {
-    program
-        .subcommand(export::command(alloc)?)?
-        .subcommand(lint::command(alloc)?)?
-        .subcommand(queue::command(alloc)?)?
-        .subcommand(orders::command(alloc)?)
+fn with_others<'a>(alloc: Global, program: Built<'a>) -> Built<'a> {
+    let program = with_command(program, export::command(alloc));
+    let program = with_command(program, lint::command(alloc));
+    let program = with_command(program, queue::command(alloc));
+    with_command(program, orders::command(alloc))
 }
 
 // The command line.
-fn command<'a>(alloc: Global) -> Result<Command<'a>, AllocError> {
-    let program = with_plans(alloc, program(alloc)?)?;
-    with_others(alloc, with_accounts(alloc, program)?)
+fn command<'a>(alloc: Global) -> Built<'a> {
+    let program = with_plans(alloc, program(alloc));
+    with_others(alloc, with_accounts(alloc, program))
 }
 
 // Whether the word of this name stands for standard input.

@@ -1,28 +1,34 @@
 // `tetri_ctl orders TRACE REPORT`
-use crate::builders::{choice, flag, on_report};
+use crate::builders::{Built, choice, flag, on_report, with_word};
 use crate::named::{Shelf, open_both};
 use crate::refusals::end_of;
 use crate::said::{NO_MEMORY, REFUSED, complain, write_output};
-use clap::{ArgMatches, Command};
-use std::alloc::{AllocError, Global};
+use clap::ArgMatches;
+use std::alloc::Global;
 use tetri_queue::{Launches, OrderFault, OrderForm, orders_text};
 use tetri_run::check_seen;
 
 /// The words of the command.
-pub fn command<'a>(alloc: Global) -> Result<Command<'a>, AllocError> {
-    on_report(
+pub fn command<'a>(alloc: Global) -> Built<'a> {
+    let command = on_report(
         alloc,
         "orders",
         "Writes the launches of the last cycle of a report that is accepted, as commands or objects",
         "Example: tetri_ctl orders cycle.jsonl cycle.report --slurm",
-    )?
-    .arg(flag(alloc, "slurm", "as commands of Slurm, a line a job"))?
-    .arg(choice(
-        alloc,
-        "format",
-        &["jsonl"],
-        "as objects, a line a job [default: jsonl]",
-    ))
+    );
+    let command = with_word(
+        command,
+        flag(alloc, "slurm", "as commands of Slurm, a line a job"),
+    );
+    with_word(
+        command,
+        choice(
+            alloc,
+            "format",
+            &["jsonl"],
+            "as objects, a line a job [default: jsonl]",
+        ),
+    )
 }
 
 // Says why there are no orders, and gives the exit number.

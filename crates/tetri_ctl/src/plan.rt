@@ -1,9 +1,9 @@
 // `tetri_ctl plan TRACE`
 use crate::advisors::shipped_panel;
-use crate::builders::{choice, on_trace};
+use crate::builders::{Built, choice, on_trace, with_word};
 use crate::named::{Shelf, open_trace};
 use crate::refusals::end_of;
-use clap::{Arg, ArgMatches, Command};
+use clap::{Arg, ArgMatches};
 use std::alloc::{AllocError, Global};
 use tetri_advice::Panel;
 use tetri_by_price::ByPrice;
@@ -33,14 +33,14 @@ fn search_word<'a>(alloc: Global) -> Arg<'a> {
 }
 
 /// The words of the command.
-pub fn command<'a>(alloc: Global) -> Result<Command<'a>, AllocError> {
-    on_trace(
+pub fn command<'a>(alloc: Global) -> Built<'a> {
+    let command = on_trace(
         alloc,
         "plan",
         "Plans a trace, and writes its report",
         "Example: tetri_ctl import swf cluster.swf | tetri_ctl plan - > cluster.report",
-    )?
-    .arg(search_word(alloc))
+    );
+    with_word(command, search_word(alloc))
 }
 
 fn search_of(words: &ArgMatches<'_>) -> Search {

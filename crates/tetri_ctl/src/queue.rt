@@ -1,9 +1,9 @@
 // `tetri_ctl queue --jobs FILE --nodes FILE`
-use crate::builders::{choice, flag, number, titled, valued};
+use crate::builders::{Built, choice, flag, number, titled, valued, with_word};
 use crate::said::{
     BAD_INPUT, NO_MEMORY, READ_FAULT, REFUSED, USAGE, WRITE_FAULT, complain, unread, write_output,
 };
-use clap::{Arg, ArgMatches, Command};
+use clap::{Arg, ArgMatches};
 use std::alloc::{AllocError, Global};
 use std::fs;
 use tetri_io::parts_at;
@@ -30,105 +30,142 @@ fn file<'a>(alloc: Global, name: &'a str, help: &'a str) -> Arg<'a> {
 }
 
 // With the files of jobs and of nodes.
-fn with_files<'a>(alloc: Global, command: Command<'a>) -> Result<Command<'a>, AllocError> {
-    command
-        .arg(file(alloc, "jobs", "the lines of squeue, a file or -").required(true))?
-        .arg(file(
+fn with_files<'a>(alloc: Global, command: Built<'a>) -> Built<'a> {
+    let command = with_word(
+        command,
+        file(alloc, "jobs", "the lines of squeue, a file or -").required(true),
+    );
+    let command = with_word(
+        command,
+        file(
             alloc,
             "arrays",
             "the pending arrays, as 6_[0-3%2], which squeue prints without -r, a file or -",
-        ))?
-        .arg(file(alloc, "nodes", "the lines of sinfo, a file or -").required(true))
+        ),
+    );
+    with_word(
+        command,
+        file(alloc, "nodes", "the lines of sinfo, a file or -").required(true),
+    )
 }
 
 // With the files of reservations, and of lines that are not taken.
-fn with_more_files<'a>(alloc: Global, command: Command<'a>) -> Result<Command<'a>, AllocError> {
-    command
-        .arg(file(
+fn with_more_files<'a>(alloc: Global, command: Built<'a>) -> Built<'a> {
+    let command = with_word(
+        command,
+        file(
             alloc,
             "reservations",
             "the lines of scontrol show reservation --oneliner, a file or -",
-        ))?
-        .arg(file(
+        ),
+    );
+    with_word(
+        command,
+        file(
             alloc,
             "rejects",
             "write there each line of the jobs that is not taken, behind what becomes of it",
-        ))
+        ),
+    )
 }
 
 // With what is asked of the cycle.
-fn with_cycle<'a>(alloc: Global, command: Command<'a>) -> Result<Command<'a>, AllocError> {
-    command
-        .arg(valued(
+fn with_cycle<'a>(alloc: Global, command: Built<'a>) -> Built<'a> {
+    let command = with_word(
+        command,
+        valued(
             alloc,
             "now",
             "TIME",
             "when slot 0 begins, by the manager's clock",
-        ))?
-        .arg(number(alloc, "slot", "N", "seconds of a slot [default: 60]"))?
-        .arg(number(
+        ),
+    );
+    let command = with_word(
+        command,
+        number(alloc, "slot", "N", "seconds of a slot [default: 60]"),
+    );
+    let command = with_word(
+        command,
+        number(
             alloc,
             "window",
             "N",
             "slots in which leaves may start [default: 16]",
-        ))?
-        .arg(number(
+        ),
+    );
+    with_word(
+        command,
+        number(
             alloc,
             "budget",
             "N",
             "nodes of a search tree [default: 200]",
-        ))
+        ),
+    )
 }
 
 // With what a job is worth.
-fn with_worth<'a>(alloc: Global, command: Command<'a>) -> Result<Command<'a>, AllocError> {
-    command
-        .arg(choice(
+fn with_worth<'a>(alloc: Global, command: Built<'a>) -> Built<'a> {
+    let command = with_word(
+        command,
+        choice(
             alloc,
             "worth",
             &["node-slots", "priority"],
             "what a job is worth [default: node-slots]",
-        ))?
-        .arg(number(
+        ),
+    );
+    with_word(
+        command,
+        number(
             alloc,
             "waiting",
             "N",
             "how many times its node-slots a job is worth more for each slot that it has waited [default: 0]",
-        ))
+        ),
+    )
 }
 
 // With how a job may wait, and what it is given.
-fn with_waits<'a>(alloc: Global, command: Command<'a>) -> Result<Command<'a>, AllocError> {
-    command
-        .arg(number(
+fn with_waits<'a>(alloc: Global, command: Built<'a>) -> Built<'a> {
+    let command = with_word(
+        command,
+        number(
             alloc,
             "slack",
             "N",
             "slots that a job may wait [default: 288]",
-        ))?
-        .arg(choice(
+        ),
+    );
+    let command = with_word(
+        command,
+        choice(
             alloc,
             "class",
             &["decay", "steady"],
             "whether waiting costs [default: decay]",
-        ))?
-        .arg(flag(
+        ),
+    );
+    with_word(
+        command,
+        flag(
             alloc,
             "whole",
             "each job is given whole nodes, whatever its line says of sharing",
-        ))
+        ),
+    )
 }
 
 /// The words of the command.
-pub fn command<'a>(alloc: Global) -> Result<Command<'a>, AllocError> {
+pub fn command<'a>(alloc: Global) -> Built<'a> {
     let command = titled(
         alloc,
         "queue",
         "Writes the trace of one cycle of a resource manager's queue",
         "Example: tetri_ctl queue --jobs jobs.txt --nodes nodes.txt --slot 60 > cycle.jsonl",
     );
-    let command = with_more_files(alloc, with_files(alloc, command)?)?;
-    with_waits(alloc, with_worth(alloc, with_cycle(alloc, command)?)?)
+    let command = with_more_files(alloc, with_files(alloc, command));
+    with_waits(alloc, with_worth(alloc, with_cycle(alloc, command)))
 }
 
 // All that a file has.

@@ -3,9 +3,9 @@ ghost use Rattle.tetri_trace.specs.Scenario.{scenario};
 ghost use Rattle.tetri_trace.specs.Sound.{IsSound};
 
 use crate::accounted::{Run, account_in, format_of, format_word, on_run, prices_word, send};
-use crate::builders::choice;
+use crate::builders::{Built, choice, with_word};
 use crate::named::Shelf;
-use clap::{Arg, ArgMatches, Command};
+use clap::{Arg, ArgMatches};
 use std::alloc::{AllocError, Global};
 use tetri_figures::{By, stats_text, tags_of};
 
@@ -16,16 +16,16 @@ fn by_word<'a>(alloc: Global) -> Arg<'a> {
 }
 
 /// The words of the command.
-pub fn command<'a>(alloc: Global) -> Result<Command<'a>, AllocError> {
-    on_run(
+pub fn command<'a>(alloc: Global) -> Built<'a> {
+    let command = on_run(
         alloc,
         "stats",
         "Tells figures of a run: waits, use of nodes, worth, cycles",
         "Example: tetri_ctl stats day.jsonl day.report --by tag",
-    )?
-    .arg(by_word(alloc))?
-    .arg(prices_word(alloc))?
-    .arg(format_word(alloc))
+    );
+    let command = with_word(command, by_word(alloc));
+    let command = with_word(command, prices_word(alloc));
+    with_word(command, format_word(alloc))
 }
 
 fn by_of(words: &ArgMatches<'_>) -> By {
