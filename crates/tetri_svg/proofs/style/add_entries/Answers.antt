@@ -1,0 +1,8 @@
+use Rattle.std.proofs.Common.{string_bytes}
+use Rattle.tetri_svg.specs.Style.{entries_text}
+use Rattle.tetri_svg.proofs.Pushed.{pushed}
+use Rattle.tetri_svg.proofs.style.add_entries.Goals as goal
+
+pub returns : goal.returns
+unfolding entries_text
+returns c = pushed c.push_str.result (string_bytes c.args.out.now) _ entries_text c.push_str.ensures.bytes
