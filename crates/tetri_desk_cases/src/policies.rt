@@ -55,6 +55,25 @@ fn tell_grants(out: &mut String, grants: &[Grant], starts: &[u32]) -> Result<(),
     Ok(())
 }
 
+fn tell_head(out: &mut String, head: &Head) -> Result<(), AllocError> {
+    write!(out, "cycle {}\n", head.number)?;
+    tell_happened(out, &head.happened)?;
+    write!(out, "worth {}\n", head.value)?;
+    tell_grants(out, head.grants.as_slice(), &head.starts)
+}
+
+impl Lines {
+    // Counts a cycle of this worth, behind which the run stands so.
+    fn count(&mut self, state: &State, worth: u64) {
+        self.cycles = self.cycles.saturating_add(1);
+        self.launched = state.launched_count();
+        self.ended = state.ended_count();
+        self.cancelled = state.cancelled_count();
+        self.expired = state.expired_count();
+        self.worth = self.worth.saturating_add(u128::from(worth));
+    }
+}
+
 impl Observer for Lines {
     ghost saw = { λ _ _ _ _ _. Unit {0} };
 
@@ -66,17 +85,8 @@ impl Observer for Lines {
         slot: SeenSlot<'_>,
         head: &Head,
     ) -> Result<(), AllocError> {
-        write!(self.text, "cycle {}\n", head.number)?;
-        tell_happened(&mut self.text, &head.happened)?;
-        write!(self.text, "worth {}\n", head.value)?;
-        tell_grants(&mut self.text, head.grants.as_slice(), &head.starts)?;
-        self.cycles = self.cycles.saturating_add(1);
-        self.launched = state.launched_count();
-        self.ended = state.ended_count();
-        self.cancelled = state.cancelled_count();
-        self.expired = state.expired_count();
-        self.worth = self.worth.saturating_add(u128::from(slot.worth));
-        Ok(())
+        self.count(state, slot.worth);
+        tell_head(&mut self.text, head)
     }
 }
 
@@ -117,26 +127,43 @@ fn lines_by(alloc: Global, content: &str, policy: Policy) -> Result<String, Allo
     }
 }
 
+fn expect_lines(
+    alloc: Global,
+    tally: &mut Tally,
+    given: &Given,
+    kind: &str,
+    policy: Policy,
+    body: &str,
+) -> Result<(), AllocError> {
+    let found = lines_by(alloc, given.trace.as_str(), policy)?;
+    tally.expect(kind, found.as_str(), body)
+}
+
+fn judge_section(
+    alloc: Global,
+    given: &mut Given,
+    tally: &mut Tally,
+    kind: &str,
+    body: &str,
+) -> Result<(), AllocError> {
+    match kind {
+        "fcfs" => expect_lines(alloc, tally, given, kind, Policy::FirstCome, body),
+        "easy" => expect_lines(alloc, tally, given, kind, Policy::Backfill, body),
+        _ => {
+            if given.take(alloc, kind, body)? {
+                return Ok(());
+            }
+            tally.expect(kind, "no such section", "")
+        }
+    }
+}
+
 /// Judges a table of traces and of their lines by a policy.
 pub fn judge(alloc: Global, table: &str) -> Result<Tally, AllocError> {
     let mut tally = Tally::new(alloc);
     let mut given = Given::new(alloc);
     for (kind, body) in sections_of(alloc, table)? {
-        match kind {
-            "fcfs" => {
-                let found = lines_by(alloc, given.trace.as_str(), Policy::FirstCome)?;
-                tally.expect(kind, found.as_str(), body)?;
-            }
-            "easy" => {
-                let found = lines_by(alloc, given.trace.as_str(), Policy::Backfill)?;
-                tally.expect(kind, found.as_str(), body)?;
-            }
-            _ => {
-                if !given.take(alloc, kind, body)? {
-                    tally.expect(kind, "no such section", "")?;
-                }
-            }
-        }
+        judge_section(alloc, &mut given, &mut tally, kind, body)?;
     }
     Ok(tally)
 }
