@@ -95,19 +95,22 @@ fn crowd_told(alloc: Global, jobs: u32) -> Result<String, AllocError> {
     format!(in alloc; "{lines} lines, {bytes} bytes")
 }
 
+// The lines of figures that are of the bounds that prices make.
+fn priced_lines(alloc: Global, text: &str) -> Result<String, AllocError> {
+    let mut lines = String::new(alloc);
+    for line in text.lines() {
+        if line.starts_with("priced ") {
+            write!(lines, "{line}\n")?;
+        }
+    }
+    Ok(lines)
+}
+
 // The last two lines of the figures of such a crowd, those of the bounds that prices make.
 fn crowd_priced(alloc: Global, jobs: u32) -> Result<String, AllocError> {
     let given = crowd(alloc, jobs)?;
     let text = told(alloc, &given, "priced table")?;
-    let all = text_in(alloc, &text)?;
-    let mut lines = String::new(alloc);
-    for line in all.as_str().lines() {
-        if line.starts_with("priced ") {
-            lines.push_str(line)?;
-            lines.push_str("\n")?;
-        }
-    }
-    Ok(lines)
+    priced_lines(alloc, str::from_utf8(&text).unwrap_or("not text"))
 }
 
 // The figures of the run of a trace by a policy.

@@ -55,25 +55,6 @@ fn tell_grants(out: &mut String, grants: &[Grant], starts: &[u32]) -> Result<(),
     Ok(())
 }
 
-fn tell_head(out: &mut String, head: &Head) -> Result<(), AllocError> {
-    write!(out, "cycle {}\n", head.number)?;
-    tell_happened(out, &head.happened)?;
-    write!(out, "worth {}\n", head.value)?;
-    tell_grants(out, head.grants.as_slice(), &head.starts)
-}
-
-impl Lines {
-    // Counts a cycle of this worth, behind which the run stands so.
-    fn count(&mut self, state: &State, worth: u64) {
-        self.cycles = self.cycles.saturating_add(1);
-        self.launched = state.launched_count();
-        self.ended = state.ended_count();
-        self.cancelled = state.cancelled_count();
-        self.expired = state.expired_count();
-        self.worth = self.worth.saturating_add(u128::from(worth));
-    }
-}
-
 impl Observer for Lines {
     ghost saw = { λ _ _ _ _ _. Unit {0} };
 
@@ -85,8 +66,17 @@ impl Observer for Lines {
         slot: SeenSlot<'_>,
         head: &Head,
     ) -> Result<(), AllocError> {
-        self.count(state, slot.worth);
-        tell_head(&mut self.text, head)
+        write!(self.text, "cycle {}\n", head.number)?;
+        tell_happened(&mut self.text, &head.happened)?;
+        write!(self.text, "worth {}\n", head.value)?;
+        tell_grants(&mut self.text, head.grants.as_slice(), &head.starts)?;
+        self.cycles = self.cycles.saturating_add(1);
+        self.launched = state.launched_count();
+        self.ended = state.ended_count();
+        self.cancelled = state.cancelled_count();
+        self.expired = state.expired_count();
+        self.worth = self.worth.saturating_add(u128::from(slot.worth));
+        Ok(())
     }
 }
 

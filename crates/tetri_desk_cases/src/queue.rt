@@ -3,8 +3,8 @@ use std::alloc::{AllocError, Global};
 use tetri_hosts::{HostsFault, expand};
 use tetri_io::MemShelf;
 use tetri_queue::{
-    Asked, Launches, OrderForm, Queue, QueueTexts, QueueWorth, counts_text, fault_text,
-    orders_text, queue_trace,
+    Asked, Launches, OrderForm, QueueTexts, QueueWorth, counts_text, fault_text, orders_text,
+    queue_trace,
 };
 use tetri_request::Class;
 use tetri_run::check_seen;
@@ -61,13 +61,7 @@ fn asked_of(words: &str) -> Asked {
     asked
 }
 
-// The trace of a queue with the counts behind it.
-fn queue_told(alloc: Global, queue: &Queue) -> Result<String, AllocError> {
-    let counts = counts_text(alloc, queue)?;
-    format!(in alloc; "{}{counts}", queue.trace)
-}
-
-// The trace of the queue that is asked for, or why there is none.
+// The trace of a queue with the counts behind it, or why there is none.
 fn told(alloc: Global, texts: &Texts, words: &str) -> Result<String, AllocError> {
     let asked = asked_of(words);
     let lines = QueueTexts {
@@ -77,17 +71,14 @@ fn told(alloc: Global, texts: &Texts, words: &str) -> Result<String, AllocError>
         reservations: &texts.reservations,
     };
     match queue_trace(alloc, &asked, lines) {
-        Ok(queue) => queue_told(alloc, &queue),
+        Ok(queue) => {
+            let mut text = String::from_str(alloc, queue.trace.as_str())?;
+            let counts = counts_text(alloc, &queue)?;
+            text.push_str(counts.as_str())?;
+            Ok(text)
+        }
         Err(fault) => format!(in alloc; "{}\n", fault_text(fault)),
     }
-}
-
-// Adds a word, behind a space where it is not the first one.
-fn add_word(told: &mut String, word: &str) -> Result<(), AllocError> {
-    if !told.is_empty() {
-        told.push_str(" ")?;
-    }
-    told.push_str(word)
 }
 
 // The hosts of a list, with spaces between, or why it is none.
@@ -101,7 +92,10 @@ fn hosts(alloc: Global, text: &str, most: u32) -> Result<String, AllocError> {
     };
     let mut told = String::new(alloc);
     for name in names.as_slice() {
-        add_word(&mut told, name.text())?;
+        if !told.is_empty() {
+            told.push_str(" ")?;
+        }
+        told.push_str(name.text())?;
     }
     Ok(told)
 }
@@ -117,17 +111,11 @@ fn hosts_rows(alloc: Global, tally: &mut Tally, most: &str, body: &str) -> Resul
     Ok(())
 }
 
-// The shelf with the trace and the report.
-fn shelf_of(alloc: Global, given: &Given) -> Result<MemShelf, AllocError> {
-    let mut shelf = MemShelf::new(alloc, 4096, &[])?;
-    shelf.put("trace", given.trace.as_bytes())?;
-    shelf.put("report", given.report.as_bytes())?;
-    Ok(shelf)
-}
-
 // The orders of the last trace and report.
-fn orders(alloc: Global, given: &Given, form: OrderForm) -> Result<String, AllocError> {
-    let mut shelf = shelf_of(alloc, given)?;
+fn orders(alloc: Global, texts: &Texts, form: OrderForm) -> Result<String, AllocError> {
+    let mut shelf = MemShelf::new(alloc, 4096, &[])?;
+    shelf.put("trace", texts.given.trace.as_bytes())?;
+    shelf.put("report", texts.given.report.as_bytes())?;
     let mut launches = Launches::new(alloc);
     match check_seen(alloc, "trace", "report", &mut shelf, &mut launches) {
         Ok(trace) => match orders_text(alloc, form, &trace, &launches) {
@@ -138,39 +126,7 @@ fn orders(alloc: Global, given: &Given, form: OrderForm) -> Result<String, Alloc
     }
 }
 
-fn form_of(word: &str) -> OrderForm {
-    match word {
-        "slurm" => OrderForm::Slurm,
-        _ => OrderForm::Json,
-    }
-}
-
-fn expect_queue(
-    alloc: Global,
-    texts: &Texts,
-    tally: &mut Tally,
-    kind: &str,
-    words: &str,
-    body: &str,
-) -> Result<(), AllocError> {
-    let found = told(alloc, texts, words)?;
-    tally.expect(kind, found.trim_end_matches('\n'), body)
-}
-
-fn expect_orders(
-    alloc: Global,
-    given: &Given,
-    tally: &mut Tally,
-    kind: &str,
-    form: &str,
-    body: &str,
-) -> Result<(), AllocError> {
-    let found = orders(alloc, given, form_of(form))?;
-    tally.expect(kind, found.trim_end_matches('\n'), body)
-}
-
-// Judges a section that gives no text of a queue.
-fn judge_answers(
+fn judge_section(
     alloc: Global,
     texts: &mut Texts,
     tally: &mut Tally,
@@ -179,43 +135,31 @@ fn judge_answers(
 ) -> Result<(), AllocError> {
     let (word, more) = kind.split_once(": ").unwrap_or((kind, ""));
     match word {
-        "hosts" => hosts_rows(alloc, tally, more, body),
-        "queue" => expect_queue(alloc, texts, tally, kind, more, body),
-        "orders" => expect_orders(alloc, &texts.given, tally, kind, more, body),
+        "jobs" => texts.jobs = bytes_of(alloc, body)?,
+        "arrays" => texts.arrays = bytes_of(alloc, body)?,
+        "nodes" => texts.nodes = bytes_of(alloc, body)?,
+        "reservations" => texts.reservations = bytes_of(alloc, body)?,
+        "hosts" => hosts_rows(alloc, tally, more, body)?,
+        "queue" => {
+            let found = told(alloc, texts, more)?;
+            tally.expect(kind, found.trim_end_matches('\n'), body)?;
+        }
+        "orders" => {
+            let form = if more == "slurm" {
+                OrderForm::Slurm
+            } else {
+                OrderForm::Json
+            };
+            let found = orders(alloc, texts, form)?;
+            tally.expect(kind, found.trim_end_matches('\n'), body)?;
+        }
         _ => {
-            if texts.given.take(alloc, kind, body)? {
-                return Ok(());
+            if !texts.given.take(alloc, kind, body)? {
+                tally.expect("a section", kind, "a known kind")?;
             }
-            tally.expect("a section", kind, "a known kind")
         }
     }
-}
-
-impl Texts {
-    // Takes a text of a queue; false where a section of this kind gives none.
-    fn take(&mut self, alloc: Global, kind: &str, body: &str) -> Result<bool, AllocError> {
-        match kind {
-            "jobs" => self.jobs = bytes_of(alloc, body)?,
-            "arrays" => self.arrays = bytes_of(alloc, body)?,
-            "nodes" => self.nodes = bytes_of(alloc, body)?,
-            "reservations" => self.reservations = bytes_of(alloc, body)?,
-            _ => return Ok(false),
-        }
-        Ok(true)
-    }
-}
-
-fn judge_section(
-    alloc: Global,
-    texts: &mut Texts,
-    tally: &mut Tally,
-    kind: &str,
-    body: &str,
-) -> Result<(), AllocError> {
-    if texts.take(alloc, kind, body)? {
-        return Ok(());
-    }
-    judge_answers(alloc, texts, tally, kind, body)
+    Ok(())
 }
 
 /// What differs from what the sections of a table want.

@@ -57,14 +57,6 @@ fn add_pair(out: &mut String, draw: &mut Draw, word: &str, window: u32) -> Resul
     write!(out, ")")
 }
 
-fn add_pairs(out: &mut String, draw: &mut Draw, window: u32) -> Result<(), AllocError> {
-    write!(out, "max(")?;
-    add_pair(out, draw, "min", window)?;
-    write!(out, ",")?;
-    add_pair(out, draw, "sum", window)?;
-    write!(out, ")")
-}
-
 // The expression of a job.
 fn add_expression(out: &mut String, draw: &mut Draw, window: u32) -> Result<(), AllocError> {
     match draw.below(4) {
@@ -74,7 +66,13 @@ fn add_expression(out: &mut String, draw: &mut Draw, window: u32) -> Result<(), 
         }
         1 => add_pair(out, draw, "max", window),
         2 => add_pair(out, draw, "min", window),
-        _ => add_pairs(out, draw, window),
+        _ => {
+            write!(out, "max(")?;
+            add_pair(out, draw, "min", window)?;
+            write!(out, ",")?;
+            add_pair(out, draw, "sum", window)?;
+            write!(out, ")")
+        }
     }
 }
 

@@ -32,53 +32,6 @@ fn zeros(alloc: Global, count: usize) -> Result<Vec<Frac>, AllocError> {
     Ok(point)
 }
 
-// What closes nothing.
-fn idle_close(alloc: Global) -> Proposal {
-    Proposal::Close {
-        q: 0,
-        weights: Vec::new(alloc),
-    }
-}
-
-// A row that is not there.
-fn far_close(alloc: Global) -> Result<Proposal, AllocError> {
-    Ok(Proposal::Close {
-        q: i128::MAX,
-        weights: weights_of(alloc, u32::MAX, i128::MIN)?,
-    })
-}
-
-// A point outside, of so many columns.
-fn far_whole(alloc: Global, columns: usize) -> Result<Proposal, AllocError> {
-    Ok(Proposal::Whole {
-        q: 1,
-        weights: Vec::new(alloc),
-        point: vec![in alloc; i128::MAX; columns]?,
-    })
-}
-
-// A split at a column that is not there.
-fn far_split(alloc: Global) -> Result<Proposal, AllocError> {
-    Ok(Proposal::Split {
-        q: 0,
-        weights: weights_of(alloc, 0, -1)?,
-        column: u32::MAX,
-        at: i128::MIN,
-        point: Vec::new(alloc),
-    })
-}
-
-// A split that parts nothing, of so many columns.
-fn idle_split(alloc: Global, columns: usize) -> Result<Proposal, AllocError> {
-    Ok(Proposal::Split {
-        q: -1,
-        weights: Vec::new(alloc),
-        column: 0,
-        at: 0,
-        point: zeros(alloc, columns)?,
-    })
-}
-
 impl Engine for Wild {
     fn propose(
         &mut self,
@@ -89,11 +42,33 @@ impl Engine for Wild {
     ) -> Result<Option<Proposal>, AllocError> {
         self.turn = self.turn.wrapping_add(1);
         match self.turn % 6 {
-            0 => Ok(Some(idle_close(alloc))),
-            1 => Ok(Some(far_close(alloc)?)),
-            2 => Ok(Some(far_whole(alloc, p.costs.len())?)),
-            3 => Ok(Some(far_split(alloc)?)),
-            4 => Ok(Some(idle_split(alloc, p.costs.len())?)),
+            0 => Ok(Some(Proposal::Close {
+                q: 0,
+                weights: Vec::new(alloc),
+            })),
+            1 => Ok(Some(Proposal::Close {
+                q: i128::MAX,
+                weights: weights_of(alloc, u32::MAX, i128::MIN)?,
+            })),
+            2 => Ok(Some(Proposal::Whole {
+                q: 1,
+                weights: Vec::new(alloc),
+                point: vec![in alloc; i128::MAX; p.costs.len()]?,
+            })),
+            3 => Ok(Some(Proposal::Split {
+                q: 0,
+                weights: weights_of(alloc, 0, -1)?,
+                column: u32::MAX,
+                at: i128::MIN,
+                point: Vec::new(alloc),
+            })),
+            4 => Ok(Some(Proposal::Split {
+                q: -1,
+                weights: Vec::new(alloc),
+                column: 0,
+                at: 0,
+                point: zeros(alloc, p.costs.len())?,
+            })),
             _ => Ok(None),
         }
     }
