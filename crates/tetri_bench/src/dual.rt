@@ -3,7 +3,7 @@ ghost use Rattle.tetri_ip.specs.Points.{IsFit, IsInBox, bounds_of};
 
 use std::alloc::{AllocError, Global};
 use std::io;
-use std::time::CpuClock;
+use std::time::{CpuClock, Duration};
 use tetri_ip::{Program, Region, Weight};
 use tetri_simplex::{Full, Mirrored, Outcome, Sparse, Whole, run_on};
 
@@ -30,18 +30,30 @@ fn sum(weights: &[Weight]) -> i128 {
     sum
 }
 
-fn tell(rt: &impl Print, outcome: Outcome) -> io::Result<()> {
+fn tell(rt: &impl Print, outcome: &Outcome) -> io::Result<()> {
     match outcome {
-        Outcome::Best {
-            point: _,
-            q,
-            weights,
-        } => println!(rt; "best {q} {}", sum(&weights)),
-        Outcome::Cut { q: _, weights: _ } => println!(rt; "cut"),
-        Outcome::Empty { weights: _ } => println!(rt; "empty"),
+        Outcome::Best { q, weights, .. } => println!(rt; "best {q} {}", sum(weights)),
+        Outcome::Cut { .. } => println!(rt; "cut"),
+        Outcome::Empty { .. } => println!(rt; "empty"),
         Outcome::Past(_) => println!(rt; "past"),
         Outcome::Long => println!(rt; "long"),
     }
+}
+
+// How a run ends, and how long it takes.
+fn timed_outcome(
+    rt: &impl CpuClock,
+    alloc: Global,
+    p: &Program,
+    kind: &str,
+) -> io::Result<(Outcome, Duration)>
+    requires { IsFit p.now }
+{
+    let whole = Region::whole(alloc, p)?;
+    let start = rt.thread_cpu_time()?;
+    let outcome = outcome_of(alloc, p, &whole, kind)?;
+    let end = rt.thread_cpu_time()?;
+    Ok((outcome, end.saturating_sub(start)))
 }
 
 /// Runs a program over dictionaries of a kind. It writes the multiplier and the sum of the weights of the best point to standard output,
@@ -55,13 +67,10 @@ pub fn run_one(
 ) -> io::Result<()>
     requires { IsFit p.now }
 {
-    let whole = Region::whole(alloc, p)?;
-    let start = rt.thread_cpu_time()?;
-    let outcome = outcome_of(alloc, p, &whole, kind)?;
-    let end = rt.thread_cpu_time()?;
-    tell(rt, outcome)?;
+    let (outcome, time) = timed_outcome(rt, alloc, p, kind)?;
+    tell(rt, &outcome)?;
     if timed {
-        eprintln!(rt; "{}", end.saturating_sub(start).as_nanos())?;
+        eprintln!(rt; "{}", time.as_nanos())?;
     }
     Ok(())
 }

@@ -5,7 +5,7 @@ mod work;
 use operands::{Kind, pairs};
 use std::alloc::Global;
 use std::io;
-use std::time::CpuClock;
+use std::time::{CpuClock, Duration};
 use tetri_num::Frac;
 use work::{Tally, products, sums};
 
@@ -20,33 +20,36 @@ pub fn add_two(rt: &impl Print) -> io::Result<()> {
     }
 }
 
+// Makes so many sums and products of a kind of operands.
+fn measure_kind(
+    rt: &(impl CpuClock + Print + Eprint),
+    alloc: Global,
+    kind: Kind,
+    size: u64,
+) -> io::Result<()> {
+    let (left, right) = pairs(alloc, kind, PAIRS)?;
+    let rounds = size / PAIRS;
+    let start = rt.thread_cpu_time()?;
+    let added = sums(&left, &right, rounds);
+    let between = rt.thread_cpu_time()?;
+    let multiplied = products(&left, &right, rounds);
+    let end = rt.thread_cpu_time()?;
+    report(rt, kind, "sums", size, added, between.saturating_sub(start))?;
+    report(
+        rt,
+        kind,
+        "products",
+        size,
+        multiplied,
+        end.saturating_sub(between),
+    )
+}
+
 /// Makes so many sums and products of each kind of operands. It writes how many of them left the range and a checksum of the others to
 /// standard output, and the nanoseconds of all to standard error.
 pub fn measure(rt: &(impl CpuClock + Print + Eprint), alloc: Global, size: u64) -> io::Result<()> {
     for kind in [Kind::Whole, Kind::Small, Kind::Word, Kind::Wide] {
-        let (left, right) = pairs(alloc, kind, PAIRS)?;
-        let rounds = size / PAIRS;
-        let start = rt.thread_cpu_time()?;
-        let added = sums(&left, &right, rounds);
-        let between = rt.thread_cpu_time()?;
-        let multiplied = products(&left, &right, rounds);
-        let end = rt.thread_cpu_time()?;
-        report(
-            rt,
-            kind,
-            "sums",
-            size,
-            added,
-            between.saturating_sub(start).as_nanos(),
-        )?;
-        report(
-            rt,
-            kind,
-            "products",
-            size,
-            multiplied,
-            end.saturating_sub(between).as_nanos(),
-        )?;
+        measure_kind(rt, alloc, kind, size)?;
     }
     Ok(())
 }
@@ -57,12 +60,12 @@ fn report(
     what: &str,
     size: u64,
     tally: Tally,
-    nanoseconds: u128,
+    time: Duration,
 ) -> io::Result<()> {
     let name = kind.name();
     println!(rt;
         "{name} {what} {size}: {} past, checksum {:016x}",
         tally.past, tally.checksum
     )?;
-    eprintln!(rt; "{name} {what} {nanoseconds}")
+    eprintln!(rt; "{name} {what} {}", time.as_nanos())
 }

@@ -57,26 +57,46 @@ fn try_each(rt: &HostRuntime, files: &[String]) -> io::Result<()> {
     Ok(())
 }
 
+// Weighs the program of a file by the weights and rounds that words say.
+fn time_weighing(rt: &HostRuntime, file: &str, weights: &str, rounds: &str) -> io::Result<()> {
+    weigh(rt, file, number(weights), number(rounds), true)
+}
+
+fn show_search(rt: &HostRuntime, trace: &str, timed: bool) -> io::Result<()> {
+    searches::show(rt, rt.alloc(), trace, timed)
+}
+
+fn show_usage(rt: &HostRuntime) -> io::Result<()> {
+    eprintln!(rt; "usage: tetri_bench each|num|weigh|dual|search|tree ARGUMENT ..")
+}
+
+// What is timed of one argument.
+fn time_one(rt: &HostRuntime, what: &str, argument: &str) -> io::Result<()> {
+    match what {
+        "num" => fractions::measure(rt, rt.alloc(), u64::from(number(argument))),
+        "search" => show_search(rt, argument, true),
+        "tree" => show_search(rt, argument, false),
+        _ => show_usage(rt),
+    }
+}
+
+// What is timed of the arguments behind the first one.
+fn time_words(rt: &HostRuntime, what: &str, arguments: &[String]) -> io::Result<()> {
+    match (what, arguments) {
+        ("dual", [kind, file]) => run_dual(rt, kind.as_str(), file.as_str(), true),
+        ("weigh", [file, weights, rounds]) => {
+            time_weighing(rt, file.as_str(), weights.as_str(), rounds.as_str())
+        }
+        (_, [argument]) => time_one(rt, what, argument.as_str()),
+        _ => show_usage(rt),
+    }
+}
+
 fn main(rt: HostRuntime) -> io::Result<()> {
     let words: Vec<String> = env::args(&rt)?.skip(1).collect(rt.alloc())?;
     match words.as_slice() {
         [what, files @ ..] if what.as_str() == "each" => try_each(&rt, files),
-        [what, size] if what.as_str() == "num" => {
-            fractions::measure(&rt, rt.alloc(), u64::from(number(size.as_str())))
-        }
-        [what, file, weights, rounds] if what.as_str() == "weigh" => {
-            let (weights, rounds) = (number(weights.as_str()), number(rounds.as_str()));
-            weigh(&rt, file.as_str(), weights, rounds, true)
-        }
-        [what, kind, file] if what.as_str() == "dual" => {
-            run_dual(&rt, kind.as_str(), file.as_str(), true)
-        }
-        [what, trace] if what.as_str() == "search" => {
-            searches::show(&rt, rt.alloc(), trace.as_str(), true)
-        }
-        [what, trace] if what.as_str() == "tree" => {
-            searches::show(&rt, rt.alloc(), trace.as_str(), false)
-        }
-        _ => eprintln!(rt; "usage: tetri_bench each|num|weigh|dual|search|tree ARGUMENT .."),
+        [what, arguments @ ..] => time_words(&rt, what.as_str(), arguments),
+        [] => show_usage(&rt),
     }
 }

@@ -53,15 +53,20 @@ impl Numbers {
         Ok(Row { terms, right })
     }
 
+    fn next_rows(&mut self, alloc: Global, count: u32) -> Result<Vec<Row>, AllocError> {
+        let mut rows = Vec::new(alloc);
+        for _ in 0..count {
+            rows.push(self.next_row(alloc)?)?;
+        }
+        Ok(rows)
+    }
+
     fn next_program(&mut self, alloc: Global) -> Result<Program, AllocError> {
         let columns = self.next_count();
         let count = self.next_count();
         let costs = self.next_list(alloc, columns)?;
         let upper = self.next_list(alloc, columns)?;
-        let mut rows = Vec::new(alloc);
-        for _ in 0..count {
-            rows.push(self.next_row(alloc)?)?;
-        }
+        let rows = self.next_rows(alloc, count)?;
         Ok(Program {
             costs,
             lower: vec![in alloc; 0i128; columns as usize]?,

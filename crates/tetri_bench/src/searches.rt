@@ -1,5 +1,7 @@
 // Searches, shown and timed.
-ghost use Rattle.std.specs.Prelude.{IfOk, IfSome};
+ghost use Rattle.std.specs.Prelude.{◌≡◌, ◌<◌, ◌^◌, All, IfOk, IfSome, pos};
+ghost use Rattle.tetri_compile.specs.Gain.{most_gain};
+ghost use Rattle.tetri_ip.specs.Points.{IsFit};
 ghost use Rattle.tetri_space.specs.Sound.{IsSound as IsSoundSpace};
 ghost use Rattle.tetri_space.specs.Space.{space};
 ghost use Rattle.tetri_trace.specs.Scenario.{scenario};
@@ -13,8 +15,9 @@ use std::io;
 use std::rt::Files;
 use std::time::CpuClock;
 use tetri_cert::print_mark;
-use tetri_compile::{compile, size};
+use tetri_compile::{Compiled, compile, size};
 use tetri_io::FileShelf;
+use tetri_ip::Program;
 use tetri_search::{Found, search};
 use tetri_space::{Instance, find_partitions};
 use tetri_state::State;
@@ -41,6 +44,53 @@ fn tree_lines(alloc: Global, found: &Found) -> Result<String, AllocError> {
     Ok(lines)
 }
 
+// Searches a program of a size, and writes what is found.
+fn search_program(
+    rt: &(impl CpuClock + Print + Eprint),
+    alloc: Global,
+    c: &Compiled,
+    size: (u64, u64),
+    budget: u32,
+    timed: bool,
+) -> io::Result<()>
+    requires fit { IsFit c.now.program }
+    requires lower { All (λ z. z ≡ pos 0) c.now.program.lower.items }
+    requires bounded { most_gain c.now.program < 2 ^ 64 }
+{
+    let start = rt.thread_cpu_time()?;
+    let found = search(alloc, c, 0, budget)?;
+    let end = rt.thread_cpu_time()?;
+    tell_found(rt, size, &found)?;
+    if timed {
+        let whole = end.saturating_sub(start).as_nanos();
+        return time_runs(rt, alloc, &c.program, &found, whole);
+    }
+    let lines = tree_lines(alloc, &found)?;
+    print!(rt; "{lines}")
+}
+
+fn tell_found(rt: &impl Print, size: (u64, u64), found: &Found) -> io::Result<()> {
+    let (columns, rows) = size;
+    println!(rt;
+        "{columns} columns, {rows} rows: best {}, bound {}, nodes {}",
+        found.best, found.bound, found.nodes
+    )
+}
+
+// Makes the dual runs of what was found anew, and writes their time behind that of the whole.
+fn time_runs(
+    rt: &(impl CpuClock + Eprint),
+    alloc: Global,
+    p: &Program,
+    found: &Found,
+    whole: u128,
+) -> io::Result<()>
+    requires { IsFit p.now }
+{
+    let runs = all_runs(rt, alloc, p, 0, found.marks.as_slice())?;
+    eprintln!(rt; "{whole} {} {}", runs.time.as_nanos(), runs.count)
+}
+
 fn measure(
     rt: &(impl CpuClock + Print + Eprint),
     alloc: Global,
@@ -56,20 +106,7 @@ fn measure(
         return println!(rt; "{columns} columns, {rows} rows: too large");
     }
     let c = compile(alloc, inst, &parts)?;
-    let start = rt.thread_cpu_time()?;
-    let found = search(alloc, &c, 0, budget)?;
-    let end = rt.thread_cpu_time()?;
-    println!(rt;
-        "{columns} columns, {rows} rows: best {}, bound {}, nodes {}",
-        found.best, found.bound, found.nodes
-    )?;
-    if timed {
-        let runs = all_runs(rt, alloc, &c.program, 0, found.marks.as_slice())?;
-        let whole = end.saturating_sub(start).as_nanos();
-        return eprintln!(rt; "{whole} {} {}", runs.time.as_nanos(), runs.count);
-    }
-    let lines = tree_lines(alloc, &found)?;
-    print!(rt; "{lines}")
+    search_program(rt, alloc, &c, (columns, rows), budget, timed)
 }
 
 /// Searches the program of the instance that the trace in a file has at slot 0, within the trace's budget. It writes the program's

@@ -5,7 +5,7 @@ ghost use Rattle.tetri_ip.specs.Weighed.{AreOfRows};
 
 use std::alloc::{AllocError, Global};
 use std::io;
-use std::time::CpuClock;
+use std::time::{CpuClock, Duration};
 use tetri_ip::{Program, Region, WeighFault, Weight, weigh, weigh_over};
 use tetri_tables::are_weights;
 
@@ -56,6 +56,43 @@ fn sum_over(p: &Program, r: &Region, weights: &[Weight], factors: &mut [i128], r
     sum
 }
 
+// Weighs by these weights in both ways.
+fn weigh_by(
+    rt: &(impl CpuClock + Print + Eprint),
+    alloc: Global,
+    p: &Program,
+    weights: &[Weight],
+    rounds: u32,
+    timed: bool,
+) -> io::Result<()>
+    requires fit { IsFit p.now }
+    requires rows { AreOfRows p.now weights.now }
+{
+    let whole = Region::whole(alloc, p)?;
+    let mut factors = vec![in alloc; 0i128; p.costs.len()]?;
+    let start = rt.thread_cpu_time()?;
+    let plain = sum(p, &whole, weights, rounds);
+    let between = rt.thread_cpu_time()?;
+    let over = sum_over(p, &whole, weights, &mut factors, rounds);
+    let end = rt.thread_cpu_time()?;
+    println!(rt; "{plain} {over}")?;
+    if !timed {
+        return Ok(());
+    }
+    let (first, second) = (between.saturating_sub(start), end.saturating_sub(between));
+    tell_times(rt, first, second, rounds)
+}
+
+// Writes the nanoseconds of a call of each way.
+fn tell_times(rt: &impl Eprint, plain: Duration, over: Duration, rounds: u32) -> io::Result<()> {
+    let rounds = u128::from(rounds.max(1));
+    eprintln!(rt;
+        "{} {}",
+        plain.as_nanos() / rounds,
+        over.as_nanos() / rounds
+    )
+}
+
 /// Weighs a program by so many weights so often, in both ways. It writes the sums of what the calls answer to standard output, and, where
 /// it is timed, the nanoseconds of a call of each to standard error.
 pub fn weigh_both(
@@ -68,26 +105,10 @@ pub fn weigh_both(
 ) -> io::Result<()>
     requires { IsFit p.now }
 {
-    let whole = Region::whole(alloc, p)?;
     let rows = u32::try_from(p.rows.len()).unwrap_or(0);
     let weights = even_weights(alloc, rows, count)?;
     if !are_weights(p, &weights) {
         return eprintln!(rt; "{count} weights: too many");
     }
-    let mut factors = vec![in alloc; 0i128; p.costs.len()]?;
-    let start = rt.thread_cpu_time()?;
-    let plain = sum(p, &whole, &weights, rounds);
-    let between = rt.thread_cpu_time()?;
-    let over = sum_over(p, &whole, &weights, &mut factors, rounds);
-    let end = rt.thread_cpu_time()?;
-    println!(rt; "{plain} {over}")?;
-    if !timed {
-        return Ok(());
-    }
-    let rounds = u128::from(rounds.max(1));
-    eprintln!(rt;
-        "{} {}",
-        between.saturating_sub(start).as_nanos() / rounds,
-        end.saturating_sub(between).as_nanos() / rounds
-    )
+    weigh_by(rt, alloc, p, &weights, rounds, timed)
 }

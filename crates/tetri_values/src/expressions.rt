@@ -98,16 +98,22 @@ fn told(alloc: Global, e: &Expr, what: &str) -> Result<String, AllocError>
     }
 }
 
+fn expect_row(alloc: Global, tally: &mut Tally, e: &Expr, row: &str) -> Result<(), AllocError>
+    requires { IsWellMade (tree e.now) }
+{
+    let (what, wanted) = halves(row);
+    let what = expand_text(alloc, what)?;
+    let wanted = expand_text(alloc, wanted)?;
+    let found = told(alloc, e, what.as_str())?;
+    tally.expect(row, found.as_str(), wanted.as_str())
+}
+
 fn expect_rows(alloc: Global, tally: &mut Tally, e: &Expr, body: &str) -> Result<(), AllocError>
     requires { IsWellMade (tree e.now) }
 {
     thrifty_grants_start_together(e);
     for row in body.lines() {
-        let (what, wanted) = halves(row);
-        let what = expand_text(alloc, what)?;
-        let wanted = expand_text(alloc, wanted)?;
-        let found = told(alloc, e, what.as_str())?;
-        tally.expect(row, found.as_str(), wanted.as_str())?;
+        expect_row(alloc, tally, e, row)?;
     }
     Ok(())
 }

@@ -19,18 +19,29 @@ mod table;
 mod texts;
 mod unaligned;
 
+use std::alloc::AllocError;
 use std::{env, fs, io};
+use tetri_tables::Tally;
+
+// Judges the table of this name.
+fn judge(rt: &HostRuntime, name: &str, text: &str) -> Result<Tally, AllocError> {
+    match name {
+        "files.txt" => texts::judge_files(rt.alloc(), rt, text),
+        _ => table::judge(rt.alloc(), text),
+    }
+}
+
+// Judges a table, and prints what differs and how many cases there were.
+fn judge_file(rt: &HostRuntime, name: &str) -> io::Result<()> {
+    let text = fs::read_to_string(rt, name)?;
+    let tally = judge(rt, name, text.as_str())?;
+    print!(rt; "{}", tally.differences)?;
+    println!(rt; "{name}: {} cases", tally.cases)
+}
 
 fn main(rt: HostRuntime) -> io::Result<()> {
     for name in env::args(&rt)?.skip(1) {
-        let text = fs::read_to_string(&rt, name.as_str())?;
-        let tally = if name.as_str() == "files.txt" {
-            texts::judge_files(rt.alloc(), &rt, text.as_str())?
-        } else {
-            table::judge(rt.alloc(), text.as_str())?
-        };
-        print!(rt; "{}", tally.differences)?;
-        println!(rt; "{name}: {} cases", tally.cases)?;
+        judge_file(&rt, name.as_str())?;
     }
     Ok(())
 }

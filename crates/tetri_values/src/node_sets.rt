@@ -41,20 +41,50 @@ fn told(alloc: Global, sets: &Sets) -> Result<String, AllocError> {
     format!(in alloc; "{} {nodes:?} {third} {fourth}", sets.len())
 }
 
+// 4,096 sets of two nodes, found under their numbers.
+fn fill(alloc: Global, tally: &mut Tally, sets: &mut Sets) -> Result<(), AllocError> {
+    for first in 0..4096u32 {
+        let wanted = format!(in alloc; "Ok({first})")?;
+        expect_found(alloc, tally, sets, first, first + 1, wanted.as_str())?;
+    }
+    Ok(())
+}
+
+// What is told of the first so many sets, which are left then.
+fn expect_first(
+    alloc: Global,
+    tally: &mut Tally,
+    sets: &mut Sets,
+    count: u32,
+    what: &str,
+    wanted: &str,
+) -> Result<(), AllocError> {
+    sets.truncate(count);
+    let found = told(alloc, sets)?;
+    tally.expect(what, found.as_str(), wanted)
+}
+
 /// 4,096 sets of two nodes, one more, and fewer.
 pub fn numbered_sets(alloc: Global, tally: &mut Tally) -> Result<(), AllocError> {
     let mut sets = Sets::new(alloc);
-    for first in 0..4096u32 {
-        let wanted = format!(in alloc; "Ok({first})")?;
-        expect_found(alloc, tally, &mut sets, first, first + 1, wanted.as_str())?;
-    }
+    fill(alloc, tally, &mut sets)?;
     expect_found(alloc, tally, &mut sets, 7, 8, "Ok(7)")?;
     expect_found(alloc, tally, &mut sets, 7, 9, "Err(Full)")?;
-    sets.truncate(5000);
-    let all = told(alloc, &sets)?;
-    tally.expect("all sets", all.as_str(), "4096 [2, 3] true false")?;
-    sets.truncate(3);
-    let fewer = told(alloc, &sets)?;
-    tally.expect("three sets", fewer.as_str(), "3 [2, 3] true false")?;
+    expect_first(
+        alloc,
+        tally,
+        &mut sets,
+        5000,
+        "all sets",
+        "4096 [2, 3] true false",
+    )?;
+    expect_first(
+        alloc,
+        tally,
+        &mut sets,
+        3,
+        "three sets",
+        "3 [2, 3] true false",
+    )?;
     expect_found(alloc, tally, &mut sets, 7, 9, "Ok(3)")
 }

@@ -62,6 +62,22 @@ fn kept_told(alloc: Global, parts: &Parts, text: &str) -> Result<String, AllocEr
     grants_told(alloc, kept.as_slice())
 }
 
+// What the grants to a part are worth there.
+fn part_total(
+    alloc: Global,
+    inst: &Instance,
+    parts: &Parts,
+    part: u32,
+    a: &Allotment,
+) -> Result<u64, AllocError>
+    requires sound { IsSound (space inst.now) }
+    requires within { part < length parts.now }
+{
+    let inst = parts.part_of(alloc, inst, part)?;
+    let kept = parts.keep(alloc, part, a)?;
+    Ok(total(&inst, &kept))
+}
+
 // What grants are worth, and what those to each part are worth there.
 fn totals_told(
     alloc: Global,
@@ -74,9 +90,8 @@ fn totals_told(
     let a = grants_in(alloc, grants)?;
     let mut out = format!(in alloc; "{} of", total(inst, &a))?;
     for part in 0..parts.count() {
-        let inst = parts.part_of(alloc, inst, part)?;
-        let kept = parts.keep(alloc, part, &a)?;
-        write!(out, " {}", total(&inst, &kept))?;
+        let worth = part_total(alloc, inst, parts, part, &a)?;
+        write!(out, " {worth}")?;
     }
     Ok(out)
 }

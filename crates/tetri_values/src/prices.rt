@@ -1,4 +1,5 @@
 // The bounds that prices give.
+ghost use Rattle.tetri_space.specs.Partitions.{ArePartitionsOf, parts_of};
 ghost use Rattle.tetri_space.specs.Sound.{IsSound};
 ghost use Rattle.tetri_space.specs.Space.{space};
 
@@ -30,6 +31,20 @@ fn even_row(alloc: Global, count: u32, price: u64) -> Result<Vec<u64>, AllocErro
     Ok(row)
 }
 
+// So many such rows.
+fn even_rows(
+    alloc: Global,
+    rows: u32,
+    count: u32,
+    price: u64,
+) -> Result<Vec<Vec<u64>>, AllocError> {
+    let mut all = Vec::new(alloc);
+    for _ in 0..rows {
+        all.push(even_row(alloc, count, price)?)?;
+    }
+    Ok(all)
+}
+
 // Prices by partition and slot: `even PRICE`, or rows with ` | ` between them.
 fn rows_in(
     alloc: Global,
@@ -37,17 +52,35 @@ fn rows_in(
     parts: &Partitions,
     text: &str,
 ) -> Result<Vec<Vec<u64>>, AllocError> {
-    let mut rows = Vec::new(alloc);
     if let Some(price) = text.strip_prefix("even ") {
-        for _ in 0..parts.count() {
-            rows.push(even_row(alloc, inst.window, price.parse::<u64>().unwrap_or(0))?)?;
-        }
-        return Ok(rows);
+        let price = price.parse::<u64>().unwrap_or(0);
+        return even_rows(alloc, parts.count(), inst.window, price);
     }
+    let mut rows = Vec::new(alloc);
     for row in text.split(" | ") {
         rows.push(row_in(alloc, row)?)?;
     }
     Ok(rows)
+}
+
+// What the bound of prices is, if these are within their limits.
+fn bound_told(
+    alloc: Global,
+    inst: &Instance,
+    parts: &Partitions,
+    rows: Vec<Vec<u64>>,
+    unit: u64,
+) -> Result<String, AllocError>
+    requires sound { IsSound (space inst.now) }
+    requires partitions { ArePartitionsOf (space inst.now) (parts_of parts.now) }
+{
+    if unit == 0 || UNIT_MOST < unit || !are_prices(inst, parts, &rows) {
+        return String::from_str(alloc, "no prices");
+    }
+    let capacities = capacities_of(alloc, inst, parts)?;
+    let prices = Prices::of(alloc, inst, rows)?;
+    let bound = priced_bound(alloc, inst, parts, &capacities, &prices, unit)?;
+    format!(in alloc; "{bound}")
 }
 
 /// The bound that prices in parts of a unit give: `UNIT PRICES`; `no prices` where these are not within their limits.
@@ -60,11 +93,5 @@ pub fn told(alloc: Global, inst: &Instance, text: &str) -> Result<String, AllocE
     let unit = unit.parse::<u64>().unwrap_or(0);
     let parts = find_partitions(alloc, inst)?;
     let rows = rows_in(alloc, inst, &parts, text)?;
-    if unit == 0 || UNIT_MOST < unit || !are_prices(inst, &parts, &rows) {
-        return String::from_str(alloc, "no prices");
-    }
-    let capacities = capacities_of(alloc, inst, &parts)?;
-    let prices = Prices::of(alloc, inst, rows)?;
-    let bound = priced_bound(alloc, inst, &parts, &capacities, &prices, unit)?;
-    format!(in alloc; "{bound}")
+    bound_told(alloc, inst, &parts, rows, unit)
 }

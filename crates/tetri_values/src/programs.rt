@@ -1,5 +1,9 @@
 // Programs of instances: what they say, their points, their trees and their dual runs.
-ghost use Rattle.tetri_ip.specs.Points.{IsFit, IsInBox, bounds_of};
+ghost use Rattle.std.specs.Prelude.{◌≡◌, length};
+ghost use Rattle.tetri_compile.specs.Counting.{AreCountsOf};
+ghost use Rattle.tetri_compile.specs.Flat.{IsCompiled};
+ghost use Rattle.tetri_ip.specs.Points.{IsBetween, IsFit, IsInBox, IsPoint, bounds_of, box_of};
+ghost use Rattle.tetri_space.specs.Partitions.{ArePartitionsOf, parts_of};
 ghost use Rattle.tetri_space.specs.Sound.{IsSound};
 ghost use Rattle.tetri_space.specs.Space.{space};
 
@@ -199,7 +203,30 @@ fn values_told(
     Ok(out)
 }
 
-// What a point takes, what it earns, and what is assigned to it, where the numbers are a point.
+// What a point takes, what it earns, and what is assigned to it.
+fn taken_told(
+    alloc: Global,
+    inst: &Instance,
+    parts: &Partitions,
+    c: &Compiled,
+    point: &[i128],
+) -> Result<String, AllocError>
+    requires sound { IsSound (space inst.now) }
+    requires partitions { ArePartitionsOf (space inst.now) (parts_of parts.now) }
+    requires compiled { IsCompiled (space inst.now) c.now }
+    requires fit { IsFit c.now.program }
+    requires counts { AreCountsOf c.now.program c.now.counts.items }
+    requires count { length point.now ≡ length c.now.program.costs.items }
+    requires inside { IsBetween (length c.now.program.costs.items) c.now.program.lower.items point.now c.now.program.upper.items }
+    requires point { IsPoint c.now.program (box_of c.now.program) point.now }
+{
+    let taken = counts_of(alloc, c, point)?;
+    let earned = objective_at(&c.program, point);
+    let a = assign(alloc, inst, parts, c, point)?;
+    values_told(alloc, &taken, earned, &a)
+}
+
+// The same where the numbers of a text are a point.
 fn point_told(alloc: Global, inst: &Instance, text: &str) -> Result<String, AllocError>
     requires { IsSound (space inst.now) }
 {
@@ -214,10 +241,7 @@ fn point_told(alloc: Global, inst: &Instance, text: &str) -> Result<String, Allo
     if point.len() != c.program.costs.len() || !holds_point(&c.program, &whole, &point) {
         return String::from_str(alloc, "no point");
     }
-    let taken = counts_of(alloc, &c, &point)?;
-    let earned = objective_at(&c.program, &point);
-    let a = assign(alloc, inst, &parts, &c, &point)?;
-    values_told(alloc, &taken, earned, &a)
+    taken_told(alloc, inst, &parts, &c, &point)
 }
 
 fn mark_in(alloc: Global, line: &str) -> Option<Mark> {

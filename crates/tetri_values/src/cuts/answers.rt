@@ -23,6 +23,16 @@ fn weights_told(out: &mut String, weights: &[Weight]) -> Result<(), AllocError> 
     Ok(())
 }
 
+fn made_told(alloc: Global, made: Result<Row, CutFault>) -> Result<String, AllocError> {
+    let mut out = String::new(alloc);
+    match made {
+        Ok(row) => row_told(&mut out, &row)?,
+        Err(CutFault::Past(column)) => write!(out, "past {column}")?,
+        Err(CutFault::NoMemory) => return Err(AllocError),
+    }
+    Ok(out)
+}
+
 fn cut_told(alloc: Global, p: &Program, text: &str) -> Result<String, AllocError>
     requires fit { IsFit p.now }
     requires lower { HasNoNegativeBound p.now }
@@ -33,13 +43,7 @@ fn cut_told(alloc: Global, p: &Program, text: &str) -> Result<String, AllocError
     if q < 1 || !are_weights(p, &weights) {
         return String::from_str(alloc, "no weights");
     }
-    let mut out = String::new(alloc);
-    match cut(alloc, p, q, &weights) {
-        Ok(row) => row_told(&mut out, &row)?,
-        Err(CutFault::Past(column)) => write!(out, "past {column}")?,
-        Err(CutFault::NoMemory) => return Err(AllocError),
-    }
-    Ok(out)
+    made_told(alloc, cut(alloc, p, q, &weights))
 }
 
 fn past_told(alloc: Global, past: &Past) -> Result<String, AllocError> {

@@ -72,6 +72,18 @@ pub fn point_in(alloc: Global, text: &str) -> Result<Vec<Frac>, AllocError> {
     Ok(point)
 }
 
+// Takes a line of a program.
+fn take_line(alloc: Global, p: &mut Program, line: &str) -> Result<(), AllocError> {
+    let (word, rest) = line.split_once(' ').unwrap_or((line, ""));
+    match word {
+        "costs" => p.costs = numbers_in(alloc, rest)?,
+        "lower" => p.lower = numbers_in(alloc, rest)?,
+        "upper" => p.upper = numbers_in(alloc, rest)?,
+        _ => p.rows.push(row_in(alloc, rest)?)?,
+    }
+    Ok(())
+}
+
 /// The program of a text: lines with its costs, its lower and its upper bounds, and then a line for each row.
 pub fn program_in(alloc: Global, text: &str) -> Result<Program, AllocError> {
     let mut p = Program {
@@ -81,13 +93,7 @@ pub fn program_in(alloc: Global, text: &str) -> Result<Program, AllocError> {
         rows: Vec::new(alloc),
     };
     for line in text.lines() {
-        let (word, rest) = line.split_once(' ').unwrap_or((line, ""));
-        match word {
-            "costs" => p.costs = numbers_in(alloc, rest)?,
-            "lower" => p.lower = numbers_in(alloc, rest)?,
-            "upper" => p.upper = numbers_in(alloc, rest)?,
-            _ => p.rows.push(row_in(alloc, rest)?)?,
-        }
+        take_line(alloc, &mut p, line)?;
     }
     Ok(p)
 }

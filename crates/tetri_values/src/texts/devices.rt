@@ -55,21 +55,31 @@ impl Write for Narrow {
     }
 }
 
+// How sending a word ends.
+fn sent_word(sink: &mut StdSink<Narrow>, word: &str) -> &'static str {
+    match send_all(sink, word.as_bytes()) {
+        Ok(()) => "sent;",
+        Err(_) => "failed;",
+    }
+}
+
+// How sending words one behind the other ends.
+fn sent_told(alloc: Global, words: &str) -> Result<String, AllocError> {
+    let mut sink = StdSink::new(Narrow {
+        bytes: Vec::new(alloc),
+    });
+    let mut found = String::new(alloc);
+    for word in words.split(' ') {
+        found.push_str(sent_word(&mut sink, word))?;
+    }
+    Ok(found)
+}
+
 /// Rows `WORDS => ANSWERS`: how sending each word ends, one behind the other, to a writer that takes two bytes a write and six in all.
 pub fn narrow_writes(alloc: Global, tally: &mut Tally, body: &str) -> Result<(), AllocError> {
     for row in body.lines() {
         let (what, wanted) = halves(row);
-        let mut sink = StdSink::new(Narrow {
-            bytes: Vec::new(alloc),
-        });
-        let mut found = String::new(alloc);
-        for word in what.split(' ') {
-            let answer = match send_all(&mut sink, word.as_bytes()) {
-                Ok(()) => "sent;",
-                Err(_) => "failed;",
-            };
-            found.push_str(answer)?;
-        }
+        let found = sent_told(alloc, what)?;
         tally.expect(row, found.as_str(), wanted)?;
     }
     Ok(())
