@@ -8,7 +8,7 @@ ghost use Rattle.tetri_ip.specs.Points.{IsFit, IsInBox, bounds_of};
 ghost use Rattle.tetri_ip.specs.Weighed.{AreOfRows};
 ghost use Rattle.tetri_ip.specs.Forming.{weigh_answer};
 ghost use Rattle.tetri_simplex.specs.Ends.{End, past, when_weighed, weighted_end, objective_weights, row_weights, cut_end, best_end, empty_end};
-ghost use Rattle.tetri_dictionary.specs.Faults.{EndsPast};
+ghost use Rattle.tetri_simplex.specs.Faults.{EndsPast};
 ghost use Rattle.tetri_dictionary.specs.Fractions.{values};
 ghost use Rattle.tetri_simplex.specs.Outcomes.{end_of};
 ghost use Rattle.tetri_dictionary.specs.Steps.{place_at};

@@ -5,7 +5,8 @@ ghost use Rattle.std.specs.Prelude.{◌≡◌, ◌+◌, ◌-◌, ◌<◌, length
 ghost use Rattle.tetri_ip.specs.Points.{IsFit, IsInBox, bounds_of};
 ghost use Rattle.tetri_simplex.specs.Certificates.{Certifies};
 ghost use Rattle.tetri_simplex.specs.Ends.{End, is_cut};
-ghost use Rattle.tetri_dictionary.specs.Faults.{EndsPast, IsFault};
+ghost use Rattle.tetri_dictionary.specs.Faults.{IsFault};
+ghost use Rattle.tetri_simplex.specs.Faults.{EndsPast};
 ghost use Rattle.tetri_simplex.specs.Machine.{ends, turn, next, at_step, run, machine};
 ghost use Rattle.tetri_simplex.specs.Outcomes.{end_of};
 ghost use Rattle.tetri_simplex.specs.Turns.{turn_of, HasPlaces, LeavesWithin, GoesOn};
