@@ -13,7 +13,7 @@ use Rattle.tetri_num.specs.declared.fractions.Op.TheVariants.{Add, Mul}
 use Rattle.tetri_num.specs.Checked.{checked_product, checked_sum}
 use Rattle.tetri_num.specs.Frac.{value}
 use Rattle.tetri_ip.specs.declared.programs.Term.{Term}
-use Rattle.tetri_simplex.specs.Fractions.{values}
+use Rattle.tetri_dictionary.specs.Fractions.{values}
 use Rattle.tetri_simplex.specs.Relaxation.{coordinate, left_value}
 use Rattle.tetri_simplex.proofs.DualRunLaws.{checked_product_is, checked_sum_is}
 use Rattle.tetri_cuts.specs.Breaking.{Refusal, add_term, form_left, or_refused, refusal_of}

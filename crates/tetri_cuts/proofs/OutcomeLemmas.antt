@@ -11,7 +11,7 @@ use Rattle.tetri_ip.specs.Points.{Bounds, box_of}
 use Rattle.tetri_simplex.specs.declared.outcome.Outcome.{Outcome}
 use Rattle.tetri_simplex.specs.Certificates.{Certifies, CertifiesBest, CertifiesCut}
 use Rattle.tetri_simplex.specs.Ends.{End, best, cut}
-use Rattle.tetri_simplex.specs.Fractions.{values}
+use Rattle.tetri_dictionary.specs.Fractions.{values}
 use Rattle.tetri_simplex.specs.Machine.{machine}
 use Rattle.tetri_simplex.specs.Outcomes.{end_of}
 use Rattle.tetri_cuts.specs.Tightening.{PlainRoot, Stops, own_root, root_by, root_run}

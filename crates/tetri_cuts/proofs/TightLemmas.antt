@@ -10,7 +10,7 @@ use mir.Syntax.{w128}
 use Rattle.tetri_algebra.specs.RationalRing.{zero_ℚ}
 use Rattle.tetri_num.specs.declared.fractions.Frac.{Frac}
 use Rattle.tetri_num.specs.Frac.{value}
-use Rattle.tetri_simplex.specs.Fractions.{values}
+use Rattle.tetri_dictionary.specs.Fractions.{values}
 use Rattle.tetri_simplex.specs.Relaxation.{IsWhole, coordinate}
 use Rattle.tetri_cuts.proofs.BreakLemmas.{coordinate_is}
 use Rattle.tetri_cuts.proofs.CutSteps.{within_fits}

@@ -7,7 +7,7 @@ ghost use Rattle.tetri_algebra.specs.RationalOrder.{◌<ℚ◌};
 ghost use Rattle.tetri_num.specs.Frac.{value};
 ghost use Rattle.tetri_ip.specs.Points.{column_at, term_at};
 ghost use Rattle.tetri_algebra.specs.Range.{IsWithin};
-ghost use Rattle.tetri_simplex.specs.Fractions.{values};
+ghost use Rattle.tetri_dictionary.specs.Fractions.{values};
 ghost use Rattle.tetri_simplex.specs.Relaxation.{left_value};
 ghost use Rattle.tetri_cuts.specs.Breaking.{IsBroken, add_term, form_left, refusal_of};
 

@@ -7,7 +7,7 @@ ghost use Rattle.tetri_algebra.specs.Range.{IsWithin};
 ghost use Rattle.tetri_ip.specs.Weighed.{AreOfRows};
 ghost use Rattle.tetri_simplex.specs.Certificates.{AreWeights};
 ghost use Rattle.tetri_simplex.specs.Ends.{best};
-ghost use Rattle.tetri_simplex.specs.Fractions.{values};
+ghost use Rattle.tetri_dictionary.specs.Fractions.{values};
 ghost use Rattle.tetri_simplex.specs.Relaxation.{IsWhole};
 ghost use Rattle.tetri_cuts.specs.Breaking.{IsBroken};
 ghost use Rattle.tetri_cuts.specs.Cuts.{HasNoNegativeBound, IsMetByPoints};

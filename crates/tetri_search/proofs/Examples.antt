@@ -10,8 +10,8 @@ use Rattle.tetri_algebra.specs.RationalRing.{neg_ℚ}
 use Rattle.tetri_ip.specs.declared.programs.Program.{Program}
 use Rattle.tetri_ip.specs.declared.programs.Row.{Row}
 use Rattle.tetri_ip.specs.declared.programs.Term.{Term}
-use Rattle.tetri_simplex.specs.Start.{first_table}
-use Rattle.tetri_simplex.specs.Choices.{leaving}
+use Rattle.tetri_dictionary.specs.Start.{first_table}
+use Rattle.tetri_dictionary.specs.Choices.{leaving}
 use Rattle.tetri_simplex.specs.Ends.{best, long}
 use Rattle.tetri_simplex.specs.Machine.{machine, run, turn}
 use Rattle.tetri_cert.specs.Numbers.{frac_of}

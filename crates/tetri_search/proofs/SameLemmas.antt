@@ -15,12 +15,12 @@ use Rattle.tetri_ip.specs.declared.programs.WeighFault.{WeighFault}
 use Rattle.tetri_ip.specs.declared.programs.Weight.{Weight}
 use Rattle.tetri_ip.specs.Points.{Bounds, first_unmet_from, left_side, objective}
 use Rattle.tetri_ip.specs.SamePrograms.{SameRows, SaysSame}
-use Rattle.tetri_simplex.specs.Choices.{has_positive, leaving}
+use Rattle.tetri_dictionary.specs.Choices.{has_positive, leaving}
 use Rattle.tetri_simplex.specs.Ends.{End, best, best_end, common_denominator, cut, cut_end, empty, empty_end, is_cut, long, objective_weights, past, point_from, row_weights, then_end, weighted_end, weights_of, when_weighed, whole_weights}
 use Rattle.tetri_simplex.specs.Machine.{Turn, at_step, by_leaving, ends, leaves, machine, next, run, turn}
 use Rattle.tetri_simplex.specs.Relaxation.{numerators}
-use Rattle.tetri_simplex.specs.Start.{bound_rows, corner, first_table, objective_row, slack_from, slack_row}
-use Rattle.tetri_simplex.specs.Tables.{Table, coefficients_of, objective_of, row_at}
+use Rattle.tetri_dictionary.specs.Start.{bound_rows, corner, first_table, objective_row, slack_from, slack_row}
+use Rattle.tetri_dictionary.specs.Tables.{Table, coefficients_of, objective_of, row_at}
 use Rattle.tetri_cert.specs.declared.marks.Mark.{Mark}
 use Rattle.tetri_cert.specs.declared.marks.Mark.TheVariants.{Close, Whole}
 use Rattle.tetri_cert.specs.Cells.{cells_of}

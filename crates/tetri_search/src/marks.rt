@@ -5,7 +5,7 @@ ghost use Rattle.tetri_num.specs.Frac.{value};
 ghost use Rattle.tetri_ip.specs.Points.{IsBetween, IsFit, IsInBox, bounds_of};
 ghost use Rattle.tetri_ip.specs.Weighed.{once};
 ghost use Rattle.tetri_simplex.specs.Certificates.{Certifies};
-ghost use Rattle.tetri_simplex.specs.Fractions.{values};
+ghost use Rattle.tetri_dictionary.specs.Fractions.{values};
 ghost use Rattle.tetri_simplex.specs.Outcomes.{end_of};
 ghost use Rattle.tetri_simplex.specs.Relaxation.{numerators};
 ghost use Rattle.tetri_search.specs.Follow.{dual_of, dual_or, own_dual};

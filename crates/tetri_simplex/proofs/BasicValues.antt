@@ -7,9 +7,9 @@ use Rattle.tetri_algebra.specs.RationalRing.{ℚ_ring, zero_ℚ, ◌+ℚ◌, ◌
 use Rattle.tetri_algebra.specs.RingSolver.{var, num, nil, ring, ◌⊕◌, ◌⊗◌}
 use Rattle.tetri_algebra.specs.Sums.{dot}
 use Rattle.tetri_simplex.proofs.Kept.{one, times}
-use Rattle.tetri_simplex.proofs.PivotKeeps.{Solves, other}
+use Rattle.tetri_dictionary.proofs.DictionaryLaws.{Solves, other}
 use Rattle.tetri_simplex.specs.Ends.{value_at}
-use Rattle.tetri_simplex.specs.Tables.{Table}
+use Rattle.tetri_dictionary.specs.Tables.{Table}
 
 abbrev AllZero : List ℚ → Type 0
 AllZero [] = Unit {0}

@@ -19,18 +19,17 @@ use Rattle.tetri_ip.specs.declared.programs.Program.{Program}
 use Rattle.tetri_ip.specs.declared.programs.Row.{Row}
 use Rattle.tetri_simplex.proofs.BasicValues.{basic_solves}
 use Rattle.tetri_simplex.proofs.Kept.{IsKept}
-use Rattle.tetri_simplex.proofs.PivotKeeps.{Solves, then_ok_pair, or_place_is, checked_sum_is}
+use Rattle.tetri_dictionary.proofs.DictionaryLaws.{Solves, then_ok_pair, or_place_is, checked_sum_is, NotBelow, AtMost, zero_not_below}
 use Rattle.tetri_simplex.proofs.Placed.{IsBox}
 use Rattle.tetri_simplex.proofs.RelaxedRows.{point_at, widths_less, slack_at_point, bounds_at_point, objective_at_point}
-use Rattle.tetri_simplex.proofs.Signs.{NotBelow, AtMost, zero_not_below}
 use Rattle.tetri_simplex.proofs.WholeWeights.{AreNotBelow}
-use Rattle.tetri_simplex.specs.Choices.{leaving, leaving_from}
+use Rattle.tetri_dictionary.specs.Choices.{leaving, leaving_from}
 use Rattle.tetri_simplex.specs.Ends.{value_at, point_from}
 use Rattle.tetri_simplex.specs.Relaxation.{IsRelaxedPoint, left_value, objective_value}
-use Rattle.tetri_simplex.specs.Start.{corner, slack_row, bound_rows, objective_row, first_rows, first_table}
-use Rattle.tetri_simplex.specs.Steps.{or_place}
+use Rattle.tetri_dictionary.specs.Start.{corner, slack_row, bound_rows, objective_row, first_rows, first_table}
+use Rattle.tetri_dictionary.specs.Steps.{or_place}
 use Rattle.tetri_base.specs.ResultSteps.{then_ok}
-use Rattle.tetri_simplex.specs.Tables.{Table, constant_of, objective_of, is_negative}
+use Rattle.tetri_dictionary.specs.Tables.{Table, constant_of, objective_of, is_negative}
 use Rattle.std.proofs.lemmas.List.{length-map, map-append}
 use Rattle.std.proofs.lemmas.List.FromFn.{length-range_with_len}
 

@@ -19,12 +19,11 @@ use Rattle.tetri_ip.specs.declared.programs.Weight.{Weight}
 use Rattle.tetri_ip.specs.Points.{Bounds, number_at}
 use Rattle.tetri_ip.specs.Forming.{weigh_answer}
 use Rattle.tetri_simplex.specs.Ends.{End, past, then_end, common_denominator, whole_weights, when_weighed, weighted_end, weights_of, objective_weights, row_weights, value_at, point_from}
-use Rattle.tetri_simplex.specs.Fractions.{values}
-use Rattle.tetri_simplex.specs.Steps.{place_at, or_place}
+use Rattle.tetri_dictionary.specs.Fractions.{values}
+use Rattle.tetri_dictionary.specs.Steps.{place_at, or_place}
 use Rattle.tetri_base.specs.ResultSteps.{then_ok}
-use Rattle.tetri_simplex.specs.Tables.{Table, coefficients_of, constant_of, objective_of, row_at}
-use Rattle.tetri_simplex.proofs.Forming.{onto, onto_nil, onto_more, drop_past}
-use Rattle.tetri_simplex.proofs.Entries.{map_push}
+use Rattle.tetri_dictionary.specs.Tables.{Table, coefficients_of, constant_of, objective_of, row_at}
+use Rattle.tetri_dictionary.proofs.DictionaryLaws.{onto, onto_nil, onto_more, drop_past, map_push}
 
 more_is : (k : ℕ) → suc k ≡ k + 1
 more_is k = omega arith

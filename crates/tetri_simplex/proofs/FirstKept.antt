@@ -20,13 +20,12 @@ use Rattle.tetri_ip.specs.declared.programs.Row.{Row}
 use Rattle.tetri_ip.specs.declared.programs.Term.{Term}
 use Rattle.tetri_simplex.proofs.FirstValues.{ys_of, bounds_from, slack_value, objective_value, bound_values, whole_dot}
 use Rattle.tetri_simplex.proofs.Kept.{IsKept, times}
-use Rattle.tetri_simplex.proofs.PivotKeeps.{Solves, other}
+use Rattle.tetri_dictionary.proofs.DictionaryLaws.{Solves, other, NotBelow, whole_not_below}
 use Rattle.tetri_simplex.proofs.Placed.{IsPlaced, IsBox}
 use Rattle.tetri_simplex.proofs.RowWeights.{AreNotAbove}
-use Rattle.tetri_simplex.proofs.Signs.{NotBelow, whole_not_below}
 use Rattle.tetri_simplex.proofs.Sound.{val_at, slacks_of, neg_whole, ys_length}
-use Rattle.tetri_simplex.specs.Start.{corner, direction, slack_row, slack_from, minus_one_at, bound_rows, objective_row, first_rows, first_table}
-use Rattle.tetri_simplex.specs.Tables.{coefficients_of}
+use Rattle.tetri_dictionary.specs.Start.{corner, direction, slack_row, slack_from, minus_one_at, bound_rows, objective_row, first_rows, first_table}
+use Rattle.tetri_dictionary.specs.Tables.{coefficients_of}
 use Rattle.std.proofs.lemmas.List.{length-map, map-append, append-nil}
 use Rattle.std.proofs.lemmas.List.FromFn.{length-range_with_len}
 

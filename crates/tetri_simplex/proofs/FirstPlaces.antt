@@ -7,7 +7,7 @@ use Rattle.tetri_algebra.specs.Rational.{ℚ}
 use Rattle.tetri_algebra.specs.RationalRing.{zero_ℚ}
 use Rattle.tetri_simplex.specs.Ends.{coefficient_of, value_at}
 use Rattle.tetri_simplex.specs.FirstPlaces.{IsFirstFrom, IsFirstPlace}
-use Rattle.tetri_simplex.specs.Tables.{constant_of}
+use Rattle.tetri_dictionary.specs.Tables.{constant_of}
 use Rattle.tetri_simplex.proofs.EndForms.{value_done, value_found, value_other}
 use Rattle.tetri_simplex.proofs.Weighting.{coefficient_done, coefficient_found, coefficient_other}
 

@@ -15,9 +15,9 @@ use Rattle.tetri_algebra.specs.RingSolver.{var, num, minus, ring, ◌⊕◌, ◌
 use Rattle.tetri_ip.specs.Points.{number_at, coefficient, left_side}
 use Rattle.tetri_ip.specs.declared.programs.Row.{Row}
 use Rattle.tetri_ip.specs.declared.programs.Term.{Term}
-use Rattle.tetri_simplex.proofs.PivotKeeps.{other}
+use Rattle.tetri_dictionary.proofs.DictionaryLaws.{other}
 use Rattle.tetri_simplex.proofs.Placed.{IsPlaced}
-use Rattle.tetri_simplex.specs.Start.{corner, direction, slack_from, slack_row, minus_one_at, bound_rows, objective_row}
+use Rattle.tetri_dictionary.specs.Start.{corner, direction, slack_from, slack_row, minus_one_at, bound_rows, objective_row}
 
 -- the values of the y_j at a point
 abbrev pub ys_of : List ℤ → List ℤ → List ℤ → List ℤ → List ℤ

@@ -9,21 +9,16 @@ use Rattle.tetri_algebra.specs.RationalReciprocal.{recip_ℚ}
 use Rattle.tetri_algebra.specs.RationalRing.{ℚ_ring, zero_ℚ, neg_ℚ, ◌*ℚ◌}
 use Rattle.tetri_ip.specs.Points.{Bounds, objective}
 use Rattle.tetri_ip.specs.declared.programs.Program.{Program}
-use Rattle.tetri_simplex.proofs.Dots.{plus_scaled, negated}
-use Rattle.tetri_simplex.proofs.PivotKeeps.{then_ok_pair}
-use Rattle.tetri_simplex.proofs.EachPlace.{each_get, each_length}
+use Rattle.tetri_dictionary.proofs.DictionaryLaws.{plus_scaled, negated, then_ok_pair, each_get, each_length, IsLeast, entering_is, ratio_at, signs_kept, Solves, pivot_keeps, solved_is, replaced_is, other, above_within, NotBelow, AtMost, zero_not_below}
 use Rattle.tetri_simplex.proofs.PivotBack.{pivot_back}
-use Rattle.tetri_simplex.proofs.LeastRatio.{IsLeast, entering_is, ratio_at, signs_kept}
-use Rattle.tetri_simplex.proofs.PivotKeeps.{Solves, pivot_keeps, solved_is, replaced_is, other, above_within}
 use Rattle.tetri_simplex.proofs.Placed.{IsPlaced}
 use Rattle.tetri_simplex.proofs.RowWeights.{IsAbsent, AreApart, AreNotAbove}
-use Rattle.tetri_simplex.proofs.Signs.{NotBelow, AtMost, zero_not_below}
 use Rattle.tetri_algebra.specs.RingSolver.{ring, nil, minus}
 use Rattle.tetri_simplex.proofs.Sound.{IsSound, val_at}
-use Rattle.tetri_simplex.specs.Choices.{entering}
-use Rattle.tetri_simplex.specs.Start.{first_table}
-use Rattle.tetri_simplex.specs.Pivots.{solved_row, replaced_row, pivoted, pivoted_rows}
-use Rattle.tetri_simplex.specs.Tables.{Table, coefficients_of, objective_of, is_positive}
+use Rattle.tetri_dictionary.specs.Choices.{entering}
+use Rattle.tetri_dictionary.specs.Start.{first_table}
+use Rattle.tetri_dictionary.specs.Pivots.{solved_row, replaced_row, pivoted, pivoted_rows}
+use Rattle.tetri_dictionary.specs.Tables.{Table, coefficients_of, objective_of, is_positive}
 use Rattle.std.proofs.lemmas.List.{length-map}
 
 -- ---- how often a variable stands in a list

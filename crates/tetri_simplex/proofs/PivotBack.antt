@@ -11,12 +11,9 @@ use Rattle.tetri_algebra.specs.RationalReciprocal.{recip_ℚ}
 use Rattle.tetri_algebra.specs.RationalRing.{ℚ_ring, zero_ℚ}
 use Rattle.tetri_algebra.specs.RingSolver.{var, num, nil, minus, ring, ◌⊕◌, ◌⊗◌}
 use Rattle.tetri_algebra.specs.Sums.{dot}
-use Rattle.tetri_simplex.proofs.Dots.{negated, dot-negated, dot-set_both}
-use Rattle.tetri_simplex.proofs.PivotKeeps.{then_ok_pair}
-use Rattle.tetri_simplex.proofs.EachPlace.{each_get}
-use Rattle.tetri_simplex.proofs.PivotKeeps.{solved_is, recip_mul, above_within, rows_values, put_set, values_at, Solves}
-use Rattle.tetri_simplex.specs.Pivots.{solved_row, replaced_row, pivoted, pivoted_rows}
-use Rattle.tetri_simplex.specs.Tables.{Table, is_positive}
+use Rattle.tetri_dictionary.proofs.DictionaryLaws.{negated, dot-negated, dot-set_both, then_ok_pair, each_get, solved_is, recip_mul, above_within, rows_values, put_set, values_at, Solves}
+use Rattle.tetri_dictionary.specs.Pivots.{solved_row, replaced_row, pivoted, pivoted_rows}
+use Rattle.tetri_dictionary.specs.Tables.{Table, is_positive}
 use Rattle.std.proofs.lemmas.List.{length-map}
 
 -- the solved_row row read back: where it gives the entering variable, the row gives the leaving one

@@ -13,11 +13,11 @@ use Rattle.tetri_algebra.specs.Sums.{dot, dot_from, sum_over, same_sum_over, dot
 use Rattle.tetri_ip.specs.Points.{number_at, coefficient, left_side}
 use Rattle.tetri_ip.specs.declared.programs.Row.{Row}
 use Rattle.tetri_ip.specs.declared.programs.Term.{Term}
-use Rattle.tetri_simplex.proofs.PivotKeeps.{other}
+use Rattle.tetri_dictionary.proofs.DictionaryLaws.{other}
 use Rattle.tetri_simplex.proofs.Placed.{IsBox}
 use Rattle.tetri_simplex.proofs.Sound.{neg_whole}
 use Rattle.tetri_simplex.specs.Relaxation.{left_value}
-use Rattle.tetri_simplex.specs.Start.{corner, direction, slack_from, slack_row, minus_one_at, bound_rows, objective_row}
+use Rattle.tetri_dictionary.specs.Start.{corner, direction, slack_from, slack_row, minus_one_at, bound_rows, objective_row}
 
 -- the point at values of the columns' variables
 abbrev pub point_at : List ℤ → List ℤ → List ℤ → List ℚ → List ℚ

@@ -6,7 +6,7 @@ use Rattle.tetri_algebra.specs.Rational.{ℚ, whole_ℚ}
 use Rattle.tetri_algebra.specs.RationalRing.{ℚ_ring, ◌+ℚ◌, ◌*ℚ◌, neg_ℚ, zero_ℚ}
 use Rattle.tetri_algebra.specs.RingSolver.{var, num, nil, minus, ring, ◌⊕◌, ◌⊗◌}
 use Rattle.tetri_algebra.specs.Sums.{dot}
-use Rattle.tetri_simplex.proofs.Signs.{NotBelow, add_not_below, mul_not_below, zero_not_below}
+use Rattle.tetri_dictionary.proofs.DictionaryLaws.{NotBelow, add_not_below, mul_not_below, zero_not_below}
 use Rattle.tetri_simplex.specs.Ends.{coefficient_of, weights_of}
 
 -- the slack whose variable is b, where the slacks' variables are counted from v; 0 for any other variable

@@ -34,13 +34,13 @@ use Rattle.tetri_simplex.proofs.BestPoint.{at_most, point_is, basic_point_is}
 use Rattle.tetri_simplex.proofs.RelaxedDuality.{relaxed_duality}
 use Rattle.tetri_simplex.specs.Relaxation.{IsRelaxedPoint, objective_value}
 use Rattle.tetri_simplex.proofs.Sound.{cut_bounds, weights_not_below, none_above, cut_is_cut, empty_is_below}
-use Rattle.tetri_simplex.specs.Choices.{entering, has_positive, leaving, leaving_from, lesser_place}
+use Rattle.tetri_dictionary.specs.Choices.{entering, has_positive, leaving, leaving_from, lesser_place}
 use Rattle.tetri_simplex.specs.Ends.{End, best, cut, empty, past, long, cut_end, best_end, empty_end, then_end, point_from, common_denominator, whole_weights, objective_weights, row_weights, when_weighed, weighted_end, is_cut}
 use Rattle.tetri_simplex.proofs.WholeWeights.{AreNotBelow, common_denominator_is}
 use Rattle.tetri_simplex.specs.Machine.{Turn, ends, leaves, run, turn, by_leaving, next, by_entering, at_step, machine}
-use Rattle.tetri_simplex.specs.Start.{first_table}
+use Rattle.tetri_dictionary.specs.Start.{first_table}
 use Rattle.tetri_base.specs.ResultSteps.{then_ok}
-use Rattle.tetri_simplex.specs.Tables.{Table, coefficients_of, is_negative, objective_of, constant_of}
+use Rattle.tetri_dictionary.specs.Tables.{Table, coefficients_of, is_negative, objective_of, constant_of}
 
 -- ---- the leaving place
 pub record IsFound (k : ℕ) (bs : List ℕ) (rows : List (List ℚ)) (i : ℕ) : Type 0 where

@@ -7,14 +7,16 @@ use Rattle.tetri_algebra.specs.Rational.{ℚ}
 use Rattle.tetri_num.specs.declared.places.Place.{Place}
 use Rattle.tetri_ip.specs.declared.programs.Program.{Program}
 use Rattle.tetri_ip.specs.Points.{Bounds}
-use Rattle.tetri_simplex.specs.Tables.{Table, row_at, coefficients_of}
-use Rattle.tetri_simplex.specs.Choices.{leaving, entering, has_positive}
+use Rattle.tetri_dictionary.specs.Tables.{Table, row_at, coefficients_of}
+use Rattle.tetri_dictionary.specs.declared.choices.Candidate.{Candidate}
+use Rattle.tetri_dictionary.specs.Candidates.{candidate_of}
+use Rattle.tetri_dictionary.specs.Choices.{leaving, entering, has_positive}
 use Rattle.tetri_simplex.specs.Ends.{End, past, long, is_cut, cut_end, best_end, empty_end}
 use Rattle.tetri_simplex.specs.Machine.{Turn, ends, leaves, turn, by_leaving, next, by_entering, at_step, run, machine}
-use Rattle.tetri_simplex.specs.Pivots.{pivoted, pivoted_rows}
-use Rattle.tetri_simplex.specs.Start.{first_table}
+use Rattle.tetri_dictionary.specs.Pivots.{pivoted, pivoted_rows}
+use Rattle.tetri_dictionary.specs.Start.{first_table}
 use Rattle.tetri_base.specs.ResultSteps.{then_ok}
-use Rattle.tetri_simplex.proofs.Forming.{then_ok_is}
+use Rattle.tetri_dictionary.proofs.DictionaryLaws.{then_ok_is}
 use Rattle.tetri_simplex.specs.Turns.{GoesOn, HasPlaces}
 
 -- ---- what a table comes to
@@ -34,6 +36,19 @@ turn_leaves p b known t i e f h = sym (ap (λ u. cond u (leaves i) (ends (empty_
 
 pub turn_empty : (p : Program) (b : Bounds) (known : ℕ) (t : Table) (i : ℕ) → is_cut t known ≡ false → Some i ≡ leaving t → has_positive (coefficients_of (row_at t i)) ≡ false → ends (empty_end p b t i) ≡ turn p b known t
 turn_empty p b known t i e f h = sym (ap (λ u. cond u (leaves i) (ends (empty_end p b t i))) h) ∙ turn_else p b known t (Some i) e f
+
+-- ---- the next table
+pub next_found : (t : Table) (i : ℕ) (o : Option Candidate) (found : Candidate) → entering t i ≡ Ok (candidate_of o) → o ≡ Some found → pivoted t i found.place ≡ next t i
+unfolding next
+next_found t i o found e oe = sym (ap (λ r. then_ok r (λ b. by_entering t i b)) (e ∙ ap (λ q. Ok (candidate_of q)) oe))
+
+pub next_none : (t : Table) (i : ℕ) (o : Option Candidate) → entering t i ≡ Ok (candidate_of o) → o ≡ None → next t i ≡ Ok t
+unfolding next
+next_none t i o e oe = ap (λ r. then_ok r (λ b. by_entering t i b)) (e ∙ ap (λ q. Ok (candidate_of q)) oe)
+
+pub next_past : (t : Table) (i : ℕ) (p : Place) → entering t i ≡ Err p → next t i ≡ Err p
+unfolding next
+next_past t i p e = ap (λ r. then_ok r (λ b. by_entering t i b)) e
 
 -- ---- the run
 abbrev last : ℕ → Turn → End

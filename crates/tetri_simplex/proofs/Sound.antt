@@ -25,14 +25,13 @@ use Rattle.tetri_ip.specs.declared.programs.Row.{Row}
 use Rattle.tetri_ip.specs.declared.programs.Weight.{Weight}
 use Rattle.tetri_simplex.proofs.Corners.{slack_sum, weighed_at_corner}
 use Rattle.tetri_simplex.proofs.FirstValues.{ys_of, bounds_from, AreAbove, ys_above, bounds_above}
-use Rattle.tetri_simplex.proofs.PivotKeeps.{Solves, values_at, other}
+use Rattle.tetri_dictionary.proofs.DictionaryLaws.{Solves, values_at, other, le_cancel, whole_not_below, NotBelow, AtMost, add_not_below, mul_not_below, zero_not_below, not_above}
 use Rattle.tetri_simplex.proofs.Placed.{IsPlaced, IsBox}
 use Rattle.tetri_simplex.proofs.RowWeights.{slack_at, IsAbsent, AreApart, AreNotAbove, weights_at_most}
-use Rattle.tetri_simplex.proofs.Signs.{le_cancel, whole_not_below, NotBelow, AtMost, add_not_below, mul_not_below, zero_not_below, not_above}
 use Rattle.tetri_simplex.proofs.WholeWeights.{AreNotBelow, slack_of, sum_at, common_denominator_is, whole_weights_sum}
-use Rattle.tetri_simplex.specs.Choices.{has_positive}
+use Rattle.tetri_dictionary.specs.Choices.{has_positive}
 use Rattle.tetri_simplex.specs.Ends.{is_cut, coefficient_of, weights_of, common_denominator, whole_weights}
-use Rattle.tetri_simplex.specs.Tables.{Table, is_positive, is_negative, coefficients_of, objective_of}
+use Rattle.tetri_dictionary.specs.Tables.{Table, is_positive, is_negative, coefficients_of, objective_of}
 use Rattle.std.proofs.lemmas.List.{length-map}
 
 -- ---- the values at a point

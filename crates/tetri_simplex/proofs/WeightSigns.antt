@@ -13,11 +13,10 @@ use Rattle.tetri_num.specs.declared.places.Place.{Place}
 use Rattle.tetri_ip.specs.Weighed.{AreNotNegative, AreOfRows, WeightsAscend}
 use Rattle.tetri_ip.specs.declared.programs.Program.{Program}
 use Rattle.tetri_ip.specs.declared.programs.Weight.{Weight}
-use Rattle.tetri_simplex.proofs.PivotKeeps.{then_ok_pair}
-use Rattle.tetri_simplex.proofs.Signs.{times_not_below}
+use Rattle.tetri_dictionary.proofs.DictionaryLaws.{then_ok_pair, times_not_below}
 use Rattle.tetri_simplex.proofs.WholeWeights.{AreNotBelow}
 use Rattle.tetri_simplex.specs.Ends.{common_denominator, weights_of, whole_weights, with_weight}
-use Rattle.tetri_simplex.specs.Steps.{place_at}
+use Rattle.tetri_dictionary.specs.Steps.{place_at}
 use Rattle.tetri_base.specs.ResultSteps.{then_ok}
 
 -- not below 0, and of one of n rows

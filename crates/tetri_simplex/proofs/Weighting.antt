@@ -22,15 +22,13 @@ use Rattle.tetri_num.proofs.FractionLaws.{den-value, num-value, quotient_within}
 use borrow.Author.Tests.{ltb-true}
 use mir.Val.{to_z, of_z}
 use mir.Syntax.{w128}
-use Rattle.tetri_simplex.proofs.Numbers.{number_read}
+use Rattle.tetri_dictionary.proofs.DictionaryLaws.{number_read, onto, drop_past, value_at_place, map_push}
 use Rattle.tetri_ip.specs.declared.programs.Weight.{Weight}
 use Rattle.tetri_ip.specs.Forming.{within}
-use Rattle.tetri_simplex.specs.Fractions.{values}
-use Rattle.tetri_simplex.specs.Steps.{place_at}
+use Rattle.tetri_dictionary.specs.Fractions.{values}
+use Rattle.tetri_dictionary.specs.Steps.{place_at}
 use Rattle.tetri_base.specs.ResultSteps.{then_ok}
 use Rattle.tetri_simplex.specs.Ends.{coefficient_of, weights_of, common_denominator, with_weight, whole_weights}
-use Rattle.tetri_simplex.proofs.Forming.{onto, drop_past}
-use Rattle.tetri_simplex.proofs.Entries.{value_at_place, map_push}
 
 more_is : (k : ℕ) → suc k ≡ k + 1
 more_is k = omega arith

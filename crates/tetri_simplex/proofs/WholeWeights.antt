@@ -20,8 +20,7 @@ use Rattle.tetri_ip.specs.declared.programs.Row.{Row}
 use Rattle.tetri_ip.specs.declared.programs.Weight.{Weight}
 use Rattle.tetri_num.specs.declared.places.Place.{Place}
 use Rattle.tetri_simplex.proofs.Corners.{slack_sum}
-use Rattle.tetri_simplex.proofs.PivotKeeps.{then_ok_pair}
-use Rattle.tetri_simplex.proofs.Signs.{NotBelow}
+use Rattle.tetri_dictionary.proofs.DictionaryLaws.{then_ok_pair, NotBelow}
 use Rattle.tetri_simplex.specs.Ends.{common_denominator, whole_weights, with_weight}
 use Rattle.tetri_base.specs.ResultSteps.{then_ok}
 

@@ -16,8 +16,8 @@ use Rattle.tetri_ip.specs.declared.programs.WeighFault.{WeighFault}
 use Rattle.tetri_ip.specs.declared.programs.WeighFault.TheVariants.{Negative, Past}
 use Rattle.tetri_ip.specs.Points.{Bounds}
 use Rattle.tetri_ip.specs.Forming.{weigh_answer}
-use Rattle.tetri_simplex.specs.Tables.{Table, row_at, objective_of, constant_of, coefficients_of}
-use Rattle.tetri_simplex.specs.Steps.{place_at, or_place}
+use Rattle.tetri_dictionary.specs.Tables.{Table, row_at, objective_of, constant_of, coefficients_of}
+use Rattle.tetri_dictionary.specs.Steps.{place_at, or_place}
 use Rattle.tetri_base.specs.ResultSteps.{then_ok}
 
 pub data End : Type 0 where

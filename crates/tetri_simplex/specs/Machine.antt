@@ -5,11 +5,11 @@ use Rattle.tetri_algebra.specs.Rational.{ℚ}
 use Rattle.tetri_num.specs.declared.places.Place.{Place}
 use Rattle.tetri_ip.specs.declared.programs.Program.{Program}
 use Rattle.tetri_ip.specs.Points.{Bounds}
-use Rattle.tetri_simplex.specs.Tables.{Table, row_at, coefficients_of}
+use Rattle.tetri_dictionary.specs.Tables.{Table, row_at, coefficients_of}
 use Rattle.tetri_base.specs.ResultSteps.{then_ok}
-use Rattle.tetri_simplex.specs.Start.{first_table}
-use Rattle.tetri_simplex.specs.Pivots.{pivoted}
-use Rattle.tetri_simplex.specs.Choices.{leaving, entering, has_positive}
+use Rattle.tetri_dictionary.specs.Start.{first_table}
+use Rattle.tetri_dictionary.specs.Pivots.{pivoted}
+use Rattle.tetri_dictionary.specs.Choices.{leaving, entering, has_positive}
 use Rattle.tetri_simplex.specs.Ends.{End, best, cut, empty, past, long, is_cut, cut_end, best_end, empty_end}
 
 -- what a table comes to: an end, or the basic place that leaves

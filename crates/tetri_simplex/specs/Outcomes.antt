@@ -1,7 +1,7 @@
 -- What an answer says as an end of the run.
 use Rattle.tetri_simplex.specs.declared.outcome.Outcome.{Outcome}
 use Rattle.tetri_simplex.specs.Ends.{End, best, cut, empty, past, long}
-use Rattle.tetri_simplex.specs.Fractions.{values}
+use Rattle.tetri_dictionary.specs.Fractions.{values}
 
 abbrev pub end_of : Outcome → End
 end_of (Outcome.Best point q ws) = best (values point.items) q ws.items

@@ -4,7 +4,7 @@ use Rattle.tetri_ip.specs.declared.programs.Program.{Program}
 use Rattle.tetri_ip.specs.Points.{Bounds}
 use Rattle.tetri_simplex.specs.declared.run.Decision as Code
 use Rattle.tetri_simplex.specs.declared.run.Decision.TheVariants.{Ends, Leaves}
-use Rattle.tetri_simplex.specs.Tables.{Table}
+use Rattle.tetri_dictionary.specs.Tables.{Table}
 use Rattle.tetri_simplex.specs.Machine.{Turn, ends, leaves, run}
 use Rattle.tetri_simplex.specs.Outcomes.{end_of}
 

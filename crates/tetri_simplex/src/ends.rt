@@ -9,17 +9,16 @@ ghost use Rattle.tetri_ip.specs.Weighed.{AreOfRows};
 ghost use Rattle.tetri_ip.specs.Forming.{weigh_answer};
 ghost use Rattle.tetri_simplex.specs.Ends.{End, past, when_weighed, weighted_end, objective_weights, row_weights, cut_end, best_end, empty_end};
 ghost use Rattle.tetri_simplex.specs.Faults.{EndsPast};
-ghost use Rattle.tetri_simplex.specs.Fractions.{values};
+ghost use Rattle.tetri_dictionary.specs.Fractions.{values};
 ghost use Rattle.tetri_simplex.specs.Outcomes.{end_of};
-ghost use Rattle.tetri_simplex.specs.Steps.{place_at};
+ghost use Rattle.tetri_dictionary.specs.Steps.{place_at};
 ghost use Rattle.tetri_simplex.specs.Turns.{HasPlaces};
 
-use crate::dictionary::Dictionary;
-use crate::fault::PivotFault;
 use crate::outcome::Outcome;
 use crate::point::point_of;
 use crate::weights::{common_denominator, row_weights, whole_weights};
 use std::alloc::Global;
+use tetri_dictionary::{Dictionary, PivotFault};
 use tetri_ip::{Program, Region, WeighFault, Weight, weigh_over};
 use tetri_num::{Frac, Kind, Place};
 

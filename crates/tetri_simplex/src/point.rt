@@ -8,15 +8,14 @@ ghost use Rattle.tetri_num.specs.Frac.{value};
 ghost use Rattle.tetri_algebra.specs.Range.{IsWithin};
 ghost use Rattle.tetri_ip.specs.Points.{IsFit, IsInBox, bounds_of};
 ghost use Rattle.tetri_simplex.specs.Ends.{value_at, point_from};
-ghost use Rattle.tetri_simplex.specs.Faults.{IsFault};
+ghost use Rattle.tetri_dictionary.specs.Faults.{IsFault};
 ghost use Rattle.tetri_simplex.specs.FirstPlaces.{IsFirstPlace};
-ghost use Rattle.tetri_simplex.specs.Fractions.{values};
+ghost use Rattle.tetri_dictionary.specs.Fractions.{values};
 ghost use Rattle.tetri_simplex.specs.Turns.{HasPlaces};
 
-use crate::dictionary::Dictionary;
-use crate::fault::PivotFault;
 use crate::first_places::first_places;
 use std::alloc::Global;
+use tetri_dictionary::{Dictionary, PivotFault};
 use tetri_ip::{Program, Region};
 use tetri_num::{Frac, Kind, Place};
 

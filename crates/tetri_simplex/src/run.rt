@@ -5,17 +5,16 @@ ghost use Rattle.std.specs.Prelude.{◌≡◌, ◌+◌, ◌-◌, ◌<◌, length
 ghost use Rattle.tetri_ip.specs.Points.{IsFit, IsInBox, bounds_of};
 ghost use Rattle.tetri_simplex.specs.Certificates.{Certifies};
 ghost use Rattle.tetri_simplex.specs.Ends.{End, is_cut};
-ghost use Rattle.tetri_simplex.specs.Faults.{EndsPast, IsFault};
+ghost use Rattle.tetri_dictionary.specs.Faults.{IsFault};
+ghost use Rattle.tetri_simplex.specs.Faults.{EndsPast};
 ghost use Rattle.tetri_simplex.specs.Machine.{ends, turn, next, at_step, run, machine};
 ghost use Rattle.tetri_simplex.specs.Outcomes.{end_of};
 ghost use Rattle.tetri_simplex.specs.Turns.{turn_of, HasPlaces, LeavesWithin, GoesOn};
 
-use crate::dictionary::Dictionary;
 use crate::ends::{best_end, cut_end, empty_end};
-use crate::fault::PivotFault;
-use crate::mirrored::Mirrored;
 use crate::outcome::Outcome;
 use std::alloc::{AllocError, Global};
+use tetri_dictionary::{Dictionary, Mirrored, PivotFault};
 use tetri_ip::{Program, Region};
 use tetri_num::Place;
 

@@ -6,16 +6,14 @@ ghost use Rattle.tetri_algebra.specs.RationalRing.{neg_ℚ};
 ghost use Rattle.tetri_num.specs.Frac.{value};
 ghost use Rattle.tetri_algebra.specs.Range.{IsWithin};
 ghost use Rattle.tetri_simplex.specs.FirstPlaces.{IsFirstPlace};
-ghost use Rattle.tetri_simplex.specs.Fractions.{values};
-ghost use Rattle.tetri_simplex.specs.Faults.{IsFault};
-ghost use Rattle.tetri_simplex.specs.Tables.{coefficients_of, row_at};
+ghost use Rattle.tetri_dictionary.specs.Fractions.{values};
+ghost use Rattle.tetri_dictionary.specs.Faults.{IsFault};
+ghost use Rattle.tetri_dictionary.specs.Tables.{coefficients_of, row_at};
 ghost use Rattle.tetri_simplex.specs.Ends.{coefficient_of, weights_of, common_denominator, whole_weights};
 
-use crate::dictionary::Dictionary;
-use crate::fault::PivotFault;
 use crate::first_places::first_places;
-use crate::fractions::negated;
 use std::alloc::{AllocError, Global};
+use tetri_dictionary::{Dictionary, PivotFault, negated};
 use tetri_ip::{Row, Weight, product};
 use tetri_num::{Frac, Kind, Place, lcm};
 

@@ -1,4 +1,4 @@
-//! Rows of whole numbers, one for each basic variable, as `Whole` of tetri_simplex.
+//! Rows of whole numbers, one for each basic variable, as `Whole` of tetri_dictionary.
 
 use crate::frac::Frac;
 use crate::rows::{Held, Row, entering, leaving, objective_row, slack_rows};

@@ -7,7 +7,7 @@ use mir.Syntax.{w128}
 use Rattle.tetri_algebra.specs.Rational.{ℚ, whole_ℚ}
 use Rattle.tetri_algebra.specs.RationalOrder.{◌<ℚ◌}
 use Rattle.tetri_num.specs.Frac.{value}
-use Rattle.tetri_simplex.specs.Fractions.{values}
+use Rattle.tetri_dictionary.specs.Fractions.{values}
 use Rattle.tetri_cuts.proofs.BreakLemmas.{left_value_is}
 use Rattle.tetri_cuts.proofs.breaking.breaks.Goals as goal
 

@@ -5,7 +5,7 @@ use mir.Syntax.{w128}
 use lib.IntN.{pos}
 use Rattle.tetri_num.specs.Frac.{value}
 use Rattle.tetri_ip.specs.declared.programs.Term.{Term}
-use Rattle.tetri_simplex.specs.Fractions.{values}
+use Rattle.tetri_dictionary.specs.Fractions.{values}
 use Rattle.tetri_simplex.specs.Relaxation.{coordinate}
 use Rattle.tetri_cuts.specs.Breaking.{refusal_of}
 use Rattle.tetri_cuts.proofs.BreakLemmas.{coordinate_is, left_next, left_refused}

@@ -1,7 +1,7 @@
 use Rattle.std.proofs.Common.{◌≡◌, drop}
 use Rattle.tetri_algebra.specs.RationalRing.{zero_ℚ}
 use Rattle.tetri_num.specs.Frac.{value}
-use Rattle.tetri_simplex.specs.Fractions.{values}
+use Rattle.tetri_dictionary.specs.Fractions.{values}
 use Rattle.tetri_cuts.specs.Breaking.{form_left}
 use Rattle.tetri_cuts.proofs.breaking.left_side.Given as goal
 

@@ -4,7 +4,7 @@ use Rattle.std.proofs.lemmas.Int.{to_z-of_z}
 use lib.IntN.{ℤ, pos}
 use mir.Val.{SFits, of_z, to_z}
 use mir.Syntax.{w128}
-use Rattle.tetri_simplex.specs.Fractions.{values}
+use Rattle.tetri_dictionary.specs.Fractions.{values}
 use Rattle.tetri_cuts.proofs.CutSteps.{length-sums_from}
 use Rattle.tetri_cuts.proofs.PassLemmas.{cut_of_sums, divisor_is, not_within, passes_from, passes_to, product_is, right_of_sums, terms_of_sums}
 use Rattle.tetri_cuts.proofs.tightening.cut_by.Goals as goal

@@ -3,7 +3,7 @@ use Rattle.std.proofs.lemmas.Int.{to_z-of_z}
 use lib.IntN.{ℤ}
 use mir.Val.{of_z, to_z}
 use mir.Syntax.{w128}
-use Rattle.tetri_simplex.specs.Fractions.{values}
+use Rattle.tetri_dictionary.specs.Fractions.{values}
 use Rattle.tetri_cuts.specs.Tightening.{Passes}
 use Rattle.tetri_cuts.proofs.PassLemmas.{below_next, none_past, refused, taken_first}
 use Rattle.tetri_cuts.proofs.tightening.first_cut.Goals as goal

@@ -1,5 +1,5 @@
 use Rattle.std.proofs.Common.{ℕ, ◌<◌, ◌≤◌}
-use Rattle.tetri_simplex.specs.Fractions.{values}
+use Rattle.tetri_dictionary.specs.Fractions.{values}
 use Rattle.tetri_cuts.specs.Tightening.{Passes}
 use Rattle.tetri_cuts.proofs.tightening.first_cut.Given as goal
 

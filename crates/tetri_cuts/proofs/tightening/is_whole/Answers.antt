@@ -1,5 +1,5 @@
 use Rattle.std.proofs.Common.{All}
-use Rattle.tetri_simplex.specs.Fractions.{values}
+use Rattle.tetri_dictionary.specs.Fractions.{values}
 use Rattle.tetri_simplex.specs.Relaxation.{IsWhole}
 use Rattle.tetri_cuts.proofs.TightLemmas.{is_not_whole, so, whole_all, whole_more}
 use Rattle.tetri_cuts.proofs.tightening.is_whole.Goals as goal

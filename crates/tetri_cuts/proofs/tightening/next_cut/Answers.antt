@@ -1,6 +1,6 @@
 use Rattle.std.proofs.Common.{◌≤◌, ◌<◌, arith, length}
 use Rattle.std.proofs.lemmas.Int.{to_z-of_z}
-use Rattle.tetri_simplex.specs.Fractions.{values}
+use Rattle.tetri_dictionary.specs.Fractions.{values}
 use Rattle.tetri_cuts.proofs.PassLemmas.{next_of_first, stops_full, stops_long, stops_whole}
 use Rattle.tetri_cuts.proofs.TightLemmas.{not_by}
 use Rattle.tetri_cuts.proofs.tightening.next_cut.Goals as goal

@@ -4,7 +4,7 @@ use Rattle.tetri_algebra.specs.Rational.{ℚ}
 use Rattle.tetri_ip.specs.Points.{bounds_of}
 use Rattle.tetri_simplex.specs.Ends.{weighted_end}
 use Rattle.tetri_simplex.specs.Faults.{EndsPast}
-use Rattle.tetri_simplex.specs.Tables.{Table}
+use Rattle.tetri_dictionary.specs.Tables.{Table}
 use Rattle.tetri_simplex.proofs.EndForms.{objective_weights_are}
 use Rattle.tetri_simplex.proofs.ends.objective_weighted.Goals as goal
 

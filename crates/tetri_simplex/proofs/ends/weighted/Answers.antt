@@ -3,8 +3,8 @@ use lib.IntN.{pos}
 use mir.Val.{to_z}
 use mir.Syntax.{w128}
 use Rattle.tetri_ip.specs.Points.{bounds_of}
-use Rattle.tetri_simplex.specs.Fractions.{values}
-use Rattle.tetri_simplex.proofs.Numbers.{number_read}
+use Rattle.tetri_dictionary.specs.Fractions.{values}
+use Rattle.tetri_dictionary.proofs.DictionaryLaws.{number_read}
 use Rattle.tetri_simplex.proofs.EndForms.{weighted_known, with_objective, without_objective}
 use Rattle.tetri_simplex.proofs.ends.weighted.Goals as goal
 use Rattle.tetri_simplex.proofs.ends.weighted.Goals.{then-has_objective, else-has_objective}

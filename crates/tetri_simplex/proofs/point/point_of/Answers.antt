@@ -5,7 +5,7 @@ use mir.Val.{SFits}
 use mir.Syntax.{w128}
 use Rattle.tetri_num.specs.Frac.{value}
 use Rattle.tetri_ip.proofs.IntegerProgramLaws.{item_is}
-use Rattle.tetri_simplex.specs.Tables.{Table}
+use Rattle.tetri_dictionary.specs.Tables.{Table}
 use Rattle.tetri_simplex.proofs.EndForms.{point_next, point_stop, point_done, point_init}
 use Rattle.tetri_simplex.proofs.point.point_of.Goals as goal
 

@@ -1,7 +1,7 @@
 use Rattle.std.proofs.Common.{◌≡◌}
 use Rattle.tetri_simplex.specs.Ends.{point_from}
-use Rattle.tetri_simplex.specs.Fractions.{values}
-use Rattle.tetri_simplex.proofs.Forming.{onto}
+use Rattle.tetri_dictionary.specs.Fractions.{values}
+use Rattle.tetri_dictionary.proofs.DictionaryLaws.{onto}
 use Rattle.tetri_simplex.proofs.EndForms.{point_rest}
 use Rattle.tetri_simplex.proofs.point.point_of.Given as goal
 

@@ -1,5 +1,5 @@
 use Rattle.std.proofs.Common.{◌<◌, ◌≤◌, ℕ, List, length, get_or, sym, subst, ◌∙◌}
-use Rattle.tetri_simplex.specs.Tables.{Table}
+use Rattle.tetri_dictionary.specs.Tables.{Table}
 use Rattle.tetri_simplex.proofs.FirstPlaces.{value_first, value_nowhere}
 use Rattle.tetri_simplex.proofs.point.value_at.Goals as goal
 

@@ -1,10 +1,10 @@
 use Rattle.std.proofs.Common.{◌-◌, refl, sym, ap, subst, ◌∙◌}
 use Rattle.tetri_ip.specs.Points.{bounds_of}
-use Rattle.tetri_simplex.specs.declared.fault.PivotFault.{PivotFault}
-use Rattle.tetri_simplex.specs.Faults.{IsFault}
+use Rattle.tetri_dictionary.specs.declared.fault.PivotFault.{PivotFault}
+use Rattle.tetri_dictionary.specs.Faults.{IsFault}
 use Rattle.tetri_simplex.specs.Machine.{next}
 use Rattle.tetri_simplex.specs.Outcomes.{end_of}
-use Rattle.tetri_simplex.specs.Tables.{Table}
+use Rattle.tetri_dictionary.specs.Tables.{Table}
 use Rattle.tetri_simplex.specs.Turns.{turn_of}
 use Rattle.tetri_simplex.proofs.Running.{run_ends, run_long, run_past, run_goes_on}
 use Rattle.tetri_simplex.proofs.run.advance.Goals as goal

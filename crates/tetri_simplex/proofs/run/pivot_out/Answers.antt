@@ -1,8 +1,8 @@
 use Rattle.std.proofs.Common.{◌≡◌, Result, Ok, MatchResult, subst}
 use Rattle.tetri_num.specs.declared.places.Place.{Place}
-use Rattle.tetri_simplex.specs.Faults.{IsFault}
-use Rattle.tetri_simplex.specs.Tables.{Table}
-use Rattle.tetri_simplex.proofs.FullTables.{next_found, next_none, next_past}
+use Rattle.tetri_dictionary.specs.Faults.{IsFault}
+use Rattle.tetri_dictionary.specs.Tables.{Table}
+use Rattle.tetri_simplex.proofs.Running.{next_found, next_none, next_past}
 use Rattle.tetri_simplex.proofs.run.pivot_out.Goals as goal
 
 pub returns-in-Ok-Some-clause-formed : goal.returns-in-Ok-Some-clause-formed

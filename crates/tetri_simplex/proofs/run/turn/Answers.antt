@@ -2,7 +2,7 @@ use Rattle.std.proofs.Common.{sym, subst, ◌≡◌, ◌∙◌, IfOk}
 use Rattle.tetri_ip.specs.Points.{bounds_of}
 use Rattle.tetri_simplex.specs.Ends.{cut_end, best_end, empty_end}
 use Rattle.tetri_simplex.specs.Machine.{Turn}
-use Rattle.tetri_simplex.specs.Tables.{Table}
+use Rattle.tetri_dictionary.specs.Tables.{Table}
 use Rattle.tetri_simplex.specs.Turns.{turn_of}
 use Rattle.tetri_simplex.proofs.Running.{turn_cut, turn_best, turn_leaves, turn_empty}
 use Rattle.tetri_simplex.proofs.run.turn.Goals as goal

@@ -1,5 +1,5 @@
 use Rattle.std.proofs.Common.{◌<◌, ◌≤◌, ℕ, List, length, get_or, sym, subst, ◌∙◌}
-use Rattle.tetri_simplex.specs.Tables.{Table, coefficients_of, row_at}
+use Rattle.tetri_dictionary.specs.Tables.{Table, coefficients_of, row_at}
 use Rattle.tetri_simplex.proofs.FirstPlaces.{coefficient_first, coefficient_nowhere}
 use Rattle.tetri_simplex.proofs.weights.coefficient_of.Goals as goal
 

@@ -2,7 +2,7 @@ use Rattle.std.proofs.Common.{sym, refl, ◌∙◌}
 use Rattle.std.proofs.lemmas.Bool.{false≢true}
 use mir.Val.{to_z}
 use mir.Syntax.{w128}
-use Rattle.tetri_simplex.proofs.Numbers.{number_read}
+use Rattle.tetri_dictionary.proofs.DictionaryLaws.{number_read}
 use Rattle.tetri_simplex.proofs.Weighting.{lcm_step, lcm_stop}
 use Rattle.tetri_simplex.proofs.weights.common_denominator.Goals as goal
 

@@ -3,7 +3,7 @@ use Rattle.std.specs.Prelude.{unsigned_abs, ◌<ℤ◌}
 use lib.IntN.{pos}
 use Rattle.tetri_algebra.specs.Range.{IsWithin}
 use Rattle.tetri_simplex.specs.Ends.{common_denominator}
-use Rattle.tetri_simplex.specs.Fractions.{values}
+use Rattle.tetri_dictionary.specs.Fractions.{values}
 use Rattle.tetri_simplex.proofs.weights.common_denominator.Given as goal
 
 abbrev pub invariant-loop-i : goal.invariant-loop-i

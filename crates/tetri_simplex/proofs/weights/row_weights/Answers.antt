@@ -1,5 +1,5 @@
 use Rattle.std.proofs.Common.{ap, length, sym, ◌∙◌, arith}
-use Rattle.tetri_simplex.specs.Tables.{Table, coefficients_of, row_at}
+use Rattle.tetri_dictionary.specs.Tables.{Table, coefficients_of, row_at}
 use Rattle.tetri_simplex.proofs.Weighting.{weights_next, weights_done, weights_init}
 use Rattle.tetri_simplex.proofs.weights.row_weights.Goals as goal
 

@@ -1,7 +1,7 @@
 use Rattle.std.proofs.Common.{◌≡◌, ◌+◌, ◌++◌, drop, length}
 use Rattle.tetri_simplex.specs.Ends.{weights_of}
-use Rattle.tetri_simplex.specs.Tables.{coefficients_of, row_at}
-use Rattle.tetri_simplex.specs.Fractions.{values}
+use Rattle.tetri_dictionary.specs.Tables.{coefficients_of, row_at}
+use Rattle.tetri_dictionary.specs.Fractions.{values}
 use Rattle.tetri_simplex.proofs.weights.row_weights.Given as goal
 
 abbrev pub invariant-loop-i : goal.invariant-loop-i

@@ -8,8 +8,8 @@ use mir.Syntax.{w128}
 use Rattle.tetri_ip.specs.Forming.{within}
 use Rattle.tetri_ip.specs.declared.programs.Weight.{Weight}
 use Rattle.tetri_simplex.specs.Ends.{whole_weights}
-use Rattle.tetri_simplex.specs.Fractions.{values}
-use Rattle.tetri_simplex.proofs.Forming.{onto}
+use Rattle.tetri_dictionary.specs.Fractions.{values}
+use Rattle.tetri_dictionary.proofs.DictionaryLaws.{onto}
 use Rattle.tetri_simplex.proofs.Weighting.{code_product, product_read, whole_stop, whole_zero, whole_next, whole_done, zero_read, not_zero_read, read_some}
 use Rattle.tetri_simplex.proofs.weights.whole_weights.Goals as goal
 use Rattle.tetri_simplex.proofs.weights.whole_weights.Goals.{then-by-ne0+in_ok-push, else-by-ne0}

@@ -1,8 +1,8 @@
 use Rattle.std.proofs.Common.{◌≡◌, ◌<◌, drop, length, All}
 use Rattle.std.specs.Prelude.{unsigned_abs}
 use Rattle.tetri_simplex.specs.Ends.{whole_weights}
-use Rattle.tetri_simplex.specs.Fractions.{values}
-use Rattle.tetri_simplex.proofs.Forming.{onto}
+use Rattle.tetri_dictionary.specs.Fractions.{values}
+use Rattle.tetri_dictionary.proofs.DictionaryLaws.{onto}
 use Rattle.tetri_simplex.proofs.weights.whole_weights.Given as goal
 
 abbrev pub invariant-loop-i : goal.invariant-loop-i

@@ -1,0 +1,13 @@
+use Rattle.std.proofs.Common.{◌≡◌, ◌++◌, drop, map, length}
+use Rattle.tetri_algebra.specs.Rational.{whole_ℚ}
+use Rattle.tetri_dictionary.specs.Mixed.{mixed_rows, AreMixedRows}
+use Rattle.tetri_dictionary.specs.Start.{slack_row}
+use Rattle.tetri_dictionary.proofs.whole_start.slacks.Given as goal
+
+abbrev pub invariant-loop-i : goal.invariant-loop-i
+invariant-loop-i l = record {
+  formed :
+      mixed_rows l.rows.items ++ map (map whole_ℚ) (map (slack_row l.p.costs.items l.start) (drop l.i l.p.rows.items))
+      ≡ map (map whole_ℚ) (map (slack_row l.p.costs.items l.start) l.p.rows.items);
+  sound : AreMixedRows (length l.p.costs.items) l.rows.items;
+}

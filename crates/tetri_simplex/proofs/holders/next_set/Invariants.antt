@@ -1,7 +1,0 @@
-use Rattle.std.proofs.Common.{◌≡◌, ◌≤◌, ◌<◌, ℕ}
-use Prim.Native.Nat.{◌/◌}
-use Rattle.tetri_simplex.specs.Holders.{bit}
-use Rattle.tetri_simplex.proofs.holders.next_set.Given as goal
-
-abbrev pub invariant-loop-place : goal.invariant-loop-place
-invariant-loop-place l = (q : ℕ) → l.from ≤ q → q / 64 < l.place → bit l.words q ≡ 0

@@ -1,8 +1,0 @@
-use Rattle.tetri_simplex.proofs.PairForms.{form_bounded}
-use Rattle.tetri_simplex.proofs.mirrored.MirroredDictionary.at.Goals as goal
-
-pub number-requires-clause-bounded : goal.number-requires-clause-bounded
-number-requires-clause-bounded c = form_bounded c.args.self.now.form c.in-Pairs.t c.requires.sound c.in-Pairs.is
-
-pub number-requires-else-column-len-clause-bounded : goal.number-requires-else-column-len-clause-bounded
-number-requires-else-column-len-clause-bounded c = form_bounded c.args.self.now.form c.in-Pairs.t c.requires.sound c.in-Pairs.is
