@@ -1,7 +1,7 @@
-mod ReadingLemmas
+pub mod ReadingLemmas
 mod CommentLemmas
 mod EarlyLemmas
 mod WordLemmas
 mod LineLemmas
-mod GapLemmas
+pub mod GapLemmas
 mod SeparatorLemmas

@@ -1,15 +1,16 @@
 -- What the entries of one line more add to what a log says.
-use Rattle.std.proofs.Common.{◌≡◌, ◌+◌, ◌∙◌, ℕ, List, Bool, [], ◌∷◌, ◌++◌, length, refl, ap, sym, arith, append_assoc}
+use Rattle.std.proofs.Common.{◌≡◌, ◌+◌, ◌∙◌, ℕ, List, Bool, false, [], ◌∷◌, ◌++◌, length, refl, ap, sym, arith, append_assoc}
 use Rattle.std.specs.Prelude.{Result, Ok, Err, IfOk}
 use Rattle.tetri_base.specs.Lists.{count}
 use Rattle.tetri_base.proofs.ListLaws.{sum_of-append}
-use Rattle.tetri_logs.specs.Entry.{layout_at, line_entries}
+use Rattle.tetri_logs.specs.Entry.{layout_at, line_entries, swf_entry}
 use Rattle.tetri_logs.specs.Lines.{log_lines}
 use Rattle.tetri_logs.specs.declared.entry.Entry.{Entry}
 use Rattle.tetri_logs.specs.declared.entry.Entry.TheVariants.{Job, Comment, Left}
 use Rattle.tetri_logs.specs.declared.entry.LoggedJob.{LoggedJob}
 use Rattle.tetri_logs.specs.declared.entry.Reject.{Reject}
 use Rattle.tetri_logs.specs.declared.layout.Layout.{Layout}
+use Rattle.tetri_logs.specs.declared.layout.Layout.TheVariants.{Words}
 use Rattle.tetri_logs.specs.declared.reading.Facts.{Facts}
 use Rattle.tetri_logs.specs.declared.reading.Log.{Log}
 use Rattle.tetri_logs.specs.Reading.{entries_from, facts_in, is_comment, jobs_in, left_in}
@@ -67,3 +68,9 @@ entries_from-next mixed layout next n log line behind es lines is after =
 -- behind the last line nothing is left
 pub entries_from-none : (mixed : Bool) (layout : Layout) (n : ℕ) (log : List ℕ) → log_lines log ≡ [] → entries_from mixed layout n (log_lines log) ≡ []
 entries_from-none mixed layout n log lines = ap (entries_from mixed layout n) lines
+
+-- the same in the Standard Workload Format where all nodes are alike: one entry a line
+pub alike-next : (n : ℕ) (log line behind : List ℕ) (e : Entry) → log_lines log ≡ line ∷ log_lines behind → e ≡ swf_entry false n line
+    → entries_from false Words n (log_lines log) ≡ e ∷ entries_from false Words (n + 1) (log_lines behind)
+alike-next n log line behind e lines is =
+    ap (entries_from false Words n) lines ∙ ap (λ x. x ∷ entries_from false Words (n + 1) (log_lines behind)) (sym is)

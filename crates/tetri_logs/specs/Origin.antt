@@ -24,6 +24,14 @@ first_second s (job ∷ jobs) = if may_begin s job.account then moment_of s job.
 abbrev pub begun : Settings → List LoggedJob → Settings
 begun s jobs = begun_at s (first_second s jobs)
 
+-- with slot 0 at the submission of a job, if it may begin
+abbrev pub begun_with : Settings → Account → Option Settings
+begun_with s a = if may_begin s a then Some (begun_at s (moment_of s a)) else None
+
+-- whether a job comes early enough for the trace
+abbrev pub is_in_run : Settings → Account → Bool
+is_in_run s a = nat_lt (moment_of s a) (s.origin + 10000 * s.slot)
+
 -- when the last of these jobs was submitted that may begin, this second where there is none
 abbrev pub last_second : Settings → ℕ → List LoggedJob → ℕ
 last_second s second [] = second

@@ -26,14 +26,14 @@ mod words;
 
 pub use account::Account;
 pub use comments::Fact;
-pub use entry::{Cause, Entry, Format, LoggedJob, Reject, read_entries};
+pub use entry::{Cause, Entry, Format, LoggedJob, Reject, alike_entry, read_entries};
 pub use header::Header;
 pub use job_name::JobName;
 pub use layout::{Layout, first_layout};
-pub use lines::log_lines;
+pub use lines::{log_lines, next_line};
 pub use options::{OptionFault, Options, Settings, Worth, early_fault, settings_of};
-pub use origin::{begun, gap_of};
+pub use origin::{begun, begun_with, gap_of, is_in_run};
 pub use placing::{Placing, place};
-pub use reading::{Facts, Log, read_log};
+pub use reading::{Facts, FirstJob, Log, first_job, read_log, with_fact};
 pub use set_text::SetText;
 pub use times::seconds_in;

@@ -18,7 +18,7 @@ pub fn log_lines(alloc: Global, log: &[u8]) -> Result<Vec<&[u8]>, AllocError>
 }
 
 /// The first line of a log without its line feed, and what stands behind it. `None` exactly where there is no line.
-pub(crate) fn next_line(log: &[u8]) -> Option<(&[u8], &[u8])>
+pub fn next_line(log: &[u8]) -> Option<(&[u8], &[u8])>
     ensures lines { MatchOption result (log_lines log.now ≡ []) (λ parts. log_lines log.now ≡ parts.0.now ∷ log_lines parts.1.now) }
     ensures shorter { IfSome result (λ parts. length parts.1.now < length log.now) }
 {

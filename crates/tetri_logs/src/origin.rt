@@ -1,7 +1,7 @@
 // The second with which slot 0 begins.
-ghost use Rattle.std.specs.Prelude.{◌≡◌, ◌<◌, ◌^◌, take};
+ghost use Rattle.std.specs.Prelude.{◌≡◌, ◌<◌, ◌^◌, IfSome, take};
 ghost use Rattle.tetri_logs.specs.Options.{AreGood};
-ghost use Rattle.tetri_logs.specs.Origin.{begun, begun_at, first_second, gap_after, gap_at, gap_of, last_second, may_begin};
+ghost use Rattle.tetri_logs.specs.Origin.{begun, begun_at, begun_with, first_second, gap_after, gap_at, gap_of, is_in_run, last_second, may_begin};
 
 use crate::account::Account;
 use crate::entry::LoggedJob;
@@ -28,6 +28,28 @@ fn may_begin(settings: &Settings, account: Account) -> bool
 {
     let begun = begun_at(settings, moment_of(settings, account));
     place(&begun, account).is_ok()
+}
+
+/// With slot 0 at the submission of a job, if it may begin.
+pub fn begun_with(settings: &Settings, account: Account) -> Option<Settings>
+    requires { AreGood settings.now }
+    ensures value { result ≡ begun_with settings.now account }
+    ensures good { IfSome result AreGood }
+    ensures small { IfSome result (λ s. s.origin < 2 ^ 33) }
+{
+    if !may_begin(settings, account) {
+        return None;
+    }
+    Some(begun_at(settings, moment_of(settings, account)))
+}
+
+/// Whether a job comes early enough for the trace.
+pub fn is_in_run(settings: &Settings, account: Account) -> bool
+    requires good { AreGood settings.now }
+    requires small { settings.now.origin < 2 ^ 33 }
+    ensures { result ≡ is_in_run settings.now account }
+{
+    moment_of(settings, account) < settings.origin + 10_000 * u64::from(settings.slot)
 }
 
 // When the first of these jobs was submitted that may begin.

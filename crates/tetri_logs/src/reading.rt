@@ -1,11 +1,13 @@
 // What a log says.
-ghost use Rattle.std.specs.Prelude.{◌≡◌, ◌+◌, ◌++◌, ◌∷◌, [], IfOk, OnOk, length, map};
+ghost use Rattle.std.specs.Prelude.{◌≡◌, ◌+◌, ◌++◌, ◌∷◌, [], IfOk, OnOk, false, length, map, option_map};
 ghost use Rattle.tetri_base.specs.Lists.{count};
 ghost use Rattle.tetri_logs.specs.Entry.{entries_in};
-ghost use Rattle.tetri_logs.specs.Reading.{entries, facts_in, is_comment, jobs_in, left_in, no_facts, with_fact};
+ghost use Rattle.tetri_logs.specs.Reading.{entries, facts_in, first_account, is_comment, jobs_in, left_in, no_facts, with_fact};
+ghost use Rattle.tetri_logs.specs.declared.entry.Format.TheVariants.{Swf};
 
+use crate::account::Account;
 use crate::comments::Fact;
-use crate::entry::{Entries, Entry, Format, LoggedJob, Reject, line_entries};
+use crate::entry::{Entries, Entry, Format, LoggedJob, Reject, alike_entry, line_entries};
 use crate::layout::first_layout;
 use crate::lines::next_line;
 use crate::seats::Seats;
@@ -37,8 +39,8 @@ pub(crate) const NO_FACTS: Facts = Facts {
     start: 0,
 };
 
-// The facts with one more, in the place of an earlier one of its kind.
-fn with_fact(facts: Facts, fact: Option<Fact>) -> Facts
+/// The facts with one more, in the place of an earlier one of its kind.
+pub fn with_fact(facts: Facts, fact: Option<Fact>) -> Facts
     ensures { result ≡ with_fact facts fact }
 {
     match fact {
@@ -158,6 +160,36 @@ fn read_lines<'a>(
         rest = behind;
     }
     Ok(read)
+}
+
+/// The first job of a log, and what the comments before it say.
+#[derive(Clone, Copy, Debug, PartialEq, Eq)]
+pub struct FirstJob {
+    pub account: Account,
+    pub facts: Facts,
+}
+
+/// The first job of a log in the Standard Workload Format where all nodes are alike, if there is one. Its only error is want of memory.
+pub fn first_job(alloc: Global, log: &[u8]) -> Result<Option<FirstJob>, AllocError>
+    ensures { IfOk result (λ first. option_map (λ f. f.account) first ≡ first_account (jobs_in (entries false Swf log.now))) }
+{
+    let mut words = Vec::new(alloc);
+    let mut facts = NO_FACTS;
+    let mut rest = log;
+    let mut number = 0usize;
+    while let Some((line, behind)) = next_line(rest) {
+        number += 1;
+        match alike_entry(number, &mut words, line)? {
+            Entry::Job(job) => {
+                let account = job.account;
+                return Ok(Some(FirstJob { account, facts }));
+            }
+            Entry::Comment(fact) => facts = with_fact(facts, fact),
+            Entry::Left(_) => {}
+        }
+        rest = behind;
+    }
+    Ok(None)
 }
 
 /// What a log says; the set of each job too, where nodes differ. Its only error is want of memory.

@@ -6,7 +6,7 @@ use Rattle.tetri_logs.specs.declared.entry.Format.{Format}
 use Rattle.tetri_logs.specs.declared.entry.LoggedJob.{LoggedJob}
 use Rattle.tetri_trace.specs.Lines.{scenario_in}
 use Rattle.tetri_trace.specs.Scenario.{Scenario}
-use Rattle.tetri_logs.specs.Options.{settings_of}
+use Rattle.tetri_logs.specs.Options.{AreGood, settings_of}
 use Rattle.tetri_cluster.specs.declared.cluster.NodeText.{NodeText}
 use Rattle.tetri_workload.specs.Kinds.{are_mixed, fitted, settled_all}
 use Rattle.tetri_workload.specs.Ordering.{IsOrderBy}
@@ -14,8 +14,9 @@ use Rattle.tetri_logs.specs.Origin.{begun, gap_of}
 use Rattle.tetri_logs.specs.Reading.{entries, facts_in, is_comment, jobs_in, left_in, no_facts}
 use Rattle.tetri_trace.specs.declared.trace.Event.{Event}
 use Rattle.tetri_workload.specs.Saying.{AreSeated, IsReadAs, bare, header_of}
-use Rattle.tetri_workload.specs.Taking.{Tally, taken_all}
+use Rattle.tetri_workload.specs.Taking.{Tally, so_far, taken_all}
 use Rattle.tetri_workload.specs.Text.{text_of}
+use Rattle.tetri_workload.specs.declared.importing.Drawn.{Drawn}
 use Rattle.tetri_workload.specs.declared.importing.Imported.{Imported}
 use Rattle.tetri_workload.specs.declared.importing.ImportFault.{ImportFault}
 use Rattle.tetri_workload.specs.declared.importing.ImportFault.TheVariants as faults
@@ -49,6 +50,20 @@ pub record IsWhole (es : List Entry) (differ : Bool) (s : Settings) (order : Lis
 pub record IsDraft (es : List Entry) (nodes : List NodeText) (o : Options) (draft : Settings) (order : List LoggedJob) : Type 0 where
   pub settings : settings_of o (facts_in no_facts es) ≡ Ok draft
   pub ordered : IsOrderBy (λ j. j.account.submit) (settled_all nodes (jobs_in es)) order
+
+-- What is taken of a log with these entries, in this order.
+pub record IsDrawnIn (es : List Entry) (nodes : List NodeText) (o : Options) (d : Drawn) (draft : Settings) (order : List LoggedJob) : Type 0 where
+  pub drafted : IsDraft es nodes o draft order
+  pub settings : d.settings ≡ begun draft order
+  pub good : AreGood d.settings
+  pub together : gap_of o d.settings order ≡ None
+  pub tally : so_far d.taken ≡ taken_all d.settings order
+  pub left : d.left.items ≡ left_in es
+  pub comments : d.comments ≡ count is_comment es
+  pub whole : length (jobs_in es) + length (left_in es) + d.comments ≡ length es
+
+abbrev pub IsDrawn : List Entry → List NodeText → Options → Drawn → Type 0
+IsDrawn es nodes o d = (draft : Settings) × (order : List LoggedJob) × IsDrawnIn es nodes o d draft order
 
 -- What follows of a log with these entries. Slot 0 begins with the first job that may begin it.
 pub record IsImportOf (es : List Entry) (nodes : List NodeText) (o : Options) (i : Imported) (draft : Settings) (order : List LoggedJob) (said : Scenario) : Type 0 where

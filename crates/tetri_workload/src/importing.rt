@@ -1,19 +1,23 @@
 // From a log to a trace.
-ghost use Rattle.std.specs.Prelude.{◌≡◌, ◌+◌, ◌++◌, IfErr, IfOk, length};
+ghost use Rattle.std.specs.Prelude.{◌≡◌, ◌+◌, ◌++◌, IfErr, IfOk, IfSome, OnOk, false, length};
 ghost use Rattle.tetri_base.specs.Lists.{count};
 ghost use Rattle.tetri_logs.specs.Reading.{entries, facts_in, is_comment, jobs_in, left_in, no_facts};
-ghost use Rattle.tetri_workload.specs.Import.{IsImport, IsImportOn, IsRefused};
+ghost use Rattle.tetri_logs.specs.declared.entry.Format.TheVariants.{Swf};
+ghost use Rattle.tetri_workload.specs.Import.{IsDrawn, IsImport, IsImportOn, IsRefused};
 ghost use Rattle.tetri_workload.specs.Kinds.{are_mixed, fitted};
+ghost use Rattle.tetri_workload.specs.Known.{AreKnown};
 
 use crate::confirming::is_read_as;
 use crate::kinds::{Kinds, are_mixed, fitted};
 use crate::ordering::{by_line, by_slot, by_submission};
-use crate::taking::take_all;
+use crate::reading::read_in_turn;
+use crate::taking::{Taken, take_all};
 use crate::text::trace_text;
 use std::alloc::{AllocError, Global};
 use tetri_cluster::NodeText;
 use tetri_logs::{
-    Format, Log, OptionFault, Options, Reject, begun, early_fault, gap_of, read_log, settings_of,
+    Format, Log, OptionFault, Options, Reject, Settings, begun, begun_with, early_fault, first_job,
+    gap_of, read_log, settings_of,
 };
 
 /// Why a log is not imported.
@@ -66,6 +70,15 @@ pub struct Imported {
     pub mixed: bool,
 }
 
+/// What is taken of a log, and what else it says.
+#[derive(Drop)]
+pub struct Drawn {
+    pub settings: Settings,
+    pub taken: Taken,
+    pub left: Vec<Reject>,
+    pub comments: usize,
+}
+
 // What a log says, with the set of each job where nodes differ.
 fn read_on<'a>(
     alloc: Global,
@@ -94,6 +107,95 @@ fn together(first: Vec<Reject>, second: Vec<Reject>) -> Result<Vec<Reject>, Allo
     Ok(all)
 }
 
+// What is taken of a log, with its jobs put in order of submission.
+fn draw_sorted(
+    alloc: Global,
+    kinds: &mut Kinds,
+    format: Format,
+    options: &Options,
+    nodes: &[NodeText],
+    log: &[u8],
+) -> Result<Drawn, ImportFault>
+    requires { AreKnown nodes.now kinds.old }
+    ensures known { OnOk result (AreKnown nodes.now kinds.new) }
+    ensures drawn { IfOk result (IsDrawn (entries (are_mixed nodes.now) format log.now) nodes.now options.now) }
+    ensures refused { IfErr result (IsRefused (entries (are_mixed nodes.now) format log.now) nodes.now options.now) }
+{
+    let log = read_on(alloc, format, nodes, log)?;
+    let draft = settings_of(options, log.facts)?;
+    let mut jobs = kinds.settle(alloc, nodes, log.jobs)?;
+    by_submission(&mut jobs)?;
+    let settings = begun(&draft, &jobs);
+    match gap_of(options, &settings, &jobs) {
+        None => {}
+        Some(second) => return Err(ImportFault::Apart(second)),
+    }
+    let taken = take_all(alloc, &settings, jobs)?;
+    Ok(Drawn {
+        settings,
+        taken,
+        left: log.left,
+        comments: log.comments,
+    })
+}
+
+// The same of a log in the Standard Workload Format where all nodes are alike, without a list of its jobs: nothing where they do not come
+// in their turn, the first of them does not begin the trace, or a comment behind it says something of the cluster.
+fn draw_in_turn(
+    alloc: Global,
+    options: &Options,
+    nodes: &[NodeText],
+    log: &[u8],
+) -> Result<Option<Drawn>, AllocError>
+    requires { are_mixed nodes.now ≡ false }
+    ensures { IfOk result (λ drawn. IfSome drawn (IsDrawn (entries false Swf log.now) nodes.now options.now)) }
+{
+    let Some(first) = first_job(alloc, log)? else {
+        return Ok(None);
+    };
+    let Ok(draft) = settings_of(options, first.facts) else {
+        return Ok(None);
+    };
+    let Some(settings) = begun_with(&draft, first.account) else {
+        return Ok(None);
+    };
+    let Some(read) = read_in_turn(alloc, &settings, log)? else {
+        return Ok(None);
+    };
+    if read.facts != first.facts {
+        return Ok(None);
+    }
+    Ok(Some(Drawn {
+        settings,
+        taken: read.taken,
+        left: read.left,
+        comments: read.comments,
+    }))
+}
+
+// What is taken of a log.
+fn draw(
+    alloc: Global,
+    kinds: &mut Kinds,
+    format: Format,
+    options: &Options,
+    nodes: &[NodeText],
+    log: &[u8],
+) -> Result<Drawn, ImportFault>
+    requires { AreKnown nodes.now kinds.old }
+    ensures known { OnOk result (AreKnown nodes.now kinds.new) }
+    ensures drawn { IfOk result (IsDrawn (entries (are_mixed nodes.now) format log.now) nodes.now options.now) }
+    ensures refused { IfErr result (IsRefused (entries (are_mixed nodes.now) format log.now) nodes.now options.now) }
+{
+    match format {
+        Format::Swf if !are_mixed(nodes) => match draw_in_turn(alloc, options, nodes, log)? {
+            Some(drawn) => Ok(drawn),
+            None => draw_sorted(alloc, kinds, format, options, nodes, log),
+        },
+        _ => draw_sorted(alloc, kinds, format, options, nodes, log),
+    }
+}
+
 // The same as `import`, where the options have as many nodes as are given.
 fn import_on(
     alloc: Global,
@@ -105,17 +207,10 @@ fn import_on(
     ensures trace { IfOk result (IsImportOn format options.now nodes.now log.now) }
     ensures refused { IfErr result (IsRefused (entries (are_mixed nodes.now) format log.now) nodes.now options.now) }
 {
-    let log = read_on(alloc, format, nodes, log)?;
-    let draft = settings_of(options, log.facts)?;
     let mut kinds = Kinds::new(alloc);
-    let mut jobs = kinds.settle(alloc, nodes, log.jobs)?;
-    by_submission(&mut jobs)?;
-    let settings = begun(&draft, &jobs);
-    match gap_of(options, &settings, &jobs) {
-        None => {}
-        Some(second) => return Err(ImportFault::Apart(second)),
-    }
-    let mut taken = take_all(alloc, &settings, jobs)?;
+    let drawn = draw(alloc, &mut kinds, format, options, nodes, log)?;
+    let settings = drawn.settings;
+    let mut taken = drawn.taken;
     by_slot(&mut taken.events)?;
     let trace = trace_text(alloc, &settings, nodes, &taken)?;
     let alike = is_read_as(alloc, &mut kinds, &settings, nodes, &taken, &trace)?;
@@ -124,14 +219,14 @@ fn import_on(
     }
     let jobs = taken.jobs.len();
     let rounded = taken.rounded.as_slice().len();
-    let mut left = together(log.left, taken.left)?;
+    let mut left = together(drawn.left, taken.left)?;
     by_line(&mut left)?;
     Ok(Imported {
         trace,
         jobs,
         rounded,
         left,
-        comments: log.comments,
+        comments: drawn.comments,
         mixed: are_mixed(nodes),
     })
 }

@@ -7,6 +7,7 @@ mod kinds;
 mod marks;
 mod ordering;
 mod partitions;
+mod reading;
 mod shelf;
 mod taking;
 mod telling;

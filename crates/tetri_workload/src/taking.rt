@@ -223,8 +223,8 @@ impl Taken {
         }
     }
 
-    // A job of the log, after those that were submitted before it.
-    fn add(
+    /// A job of the log, after those that were submitted before it.
+    pub(crate) fn add(
         &mut self,
         alloc: Global,
         settings: &Settings,
