@@ -1,5 +1,5 @@
 -- What is taken of a log line by line.
-use Rattle.std.specs.Prelude.{◌≡◌, ◌≤◌, ℕ, List, [], ◌∷◌, Bool, true, false}
+use Rattle.std.specs.Prelude.{◌≡◌, ◌≤◌, ℕ, List, [], ◌∷◌, true, false}
 use Rattle.tetri_base.specs.Lists.{count}
 use Rattle.tetri_logs.specs.Origin.{is_in_run}
 use Rattle.tetri_logs.specs.Reading.{entries, facts_in, is_comment, jobs_in, left_in, no_facts}

@@ -1,12 +1,10 @@
-use Rattle.std.proofs.Common.{◌≡◌, ◌+◌, ◌∙◌, false, length, ap, sym, subst, arith, rules}
-use Rattle.std.specs.Prelude.{IfSome, Some, Ok, option_map}
+use Rattle.std.proofs.Common.{◌≡◌, ◌∙◌, false, ap, sym, subst, arith, rules}
+use Rattle.std.specs.Prelude.{Some, Ok}
 use Rattle.tetri_logs.specs.Options.{settings_of}
 use Rattle.tetri_logs.specs.Origin.{begun, begun_with}
 use Rattle.tetri_logs.specs.Reading.{entries, facts_in, first_account, jobs_in, no_facts}
 use Rattle.tetri_logs.specs.declared.entry.Format.TheVariants.{Swf}
-use Rattle.tetri_logs.specs.declared.reading.FirstJob.{FirstJob}
 use Rattle.tetri_logs.proofs.ReadingLemmas.{all_entries}
-use Rattle.tetri_workload.specs.Kinds.{settled_all}
 use Rattle.tetri_workload.specs.Ordering.{IsOrderBy}
 use Rattle.tetri_workload.specs.Reading.{IsReadOf}
 use Rattle.tetri_workload.proofs.TurnLemmas.{begun-of, in_order, no_gap-in_turn, settled-alike}

@@ -1,8 +1,8 @@
-use Rattle.std.proofs.Common.{◌≡◌, ◌+◌, ◌∙◌, length, ap, sym, subst, arith}
-use Rattle.std.specs.Prelude.{Ok, None}
+use Rattle.std.proofs.Common.{◌≡◌, ◌∙◌, length, ap, sym, subst, arith}
+use Rattle.std.specs.Prelude.{Ok}
 use Rattle.tetri_logs.specs.Options.{settings_of}
 use Rattle.tetri_logs.specs.Origin.{begun, gap_of}
-use Rattle.tetri_logs.specs.Reading.{entries, facts_in, jobs_in, left_in, no_facts}
+use Rattle.tetri_logs.specs.Reading.{entries, facts_in, jobs_in, no_facts}
 use Rattle.tetri_workload.specs.Kinds.{are_mixed, settled_all}
 use Rattle.tetri_workload.specs.Ordering.{IsOrderBy}
 use Rattle.tetri_workload.proofs.importing.draw_sorted.Goals as goal

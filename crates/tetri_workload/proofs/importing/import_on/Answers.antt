@@ -1,10 +1,8 @@
-use Rattle.std.proofs.Common.{◌≡◌, ◌+◌, ◌∙◌, ◌++◌, List, length, ap, sym, subst, arith, rules}
-use Rattle.std.specs.Prelude.{All, IsTrue, Ok, None, string_bytes}
-use Rattle.tetri_logs.specs.Options.{settings_of}
-use Rattle.tetri_logs.specs.Origin.{begun, gap_of}
-use Rattle.tetri_logs.specs.Reading.{entries, facts_in, jobs_in, left_in, no_facts}
-use Rattle.tetri_workload.specs.Import.{IsDraft}
-use Rattle.tetri_workload.specs.Kinds.{are_mixed, settled_all}
+use Rattle.std.proofs.Common.{◌≡◌, ◌∙◌, ◌++◌, List, length, ap, sym, subst, rules}
+use Rattle.std.specs.Prelude.{All, IsTrue, string_bytes}
+use Rattle.tetri_logs.specs.Origin.{begun}
+use Rattle.tetri_logs.specs.Reading.{entries, left_in}
+use Rattle.tetri_workload.specs.Kinds.{are_mixed}
 use Rattle.tetri_workload.specs.Ordering.{IsOrderBy}
 use Rattle.tetri_workload.specs.Saying.{IsAsked, IsReadAs}
 use Rattle.tetri_trace.specs.declared.trace.Event.{Event}

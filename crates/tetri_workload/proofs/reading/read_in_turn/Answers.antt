@@ -1,4 +1,4 @@
-use Rattle.std.proofs.Common.{◌≡◌, ◌+◌, ◌∙◌, ◌++◌, ◌∷◌, [], false, true, ap, sym, subst, arith}
+use Rattle.std.proofs.Common.{◌+◌, ◌∙◌, ◌++◌, ◌∷◌, [], false, ap, sym, subst, arith}
 use Rattle.std.specs.Prelude.{fold}
 use Rattle.tetri_base.specs.Lists.{count}
 use Rattle.tetri_logs.specs.Lines.{log_lines}
