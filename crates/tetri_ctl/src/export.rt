@@ -1,12 +1,14 @@
 // `tetri_ctl export TRACE [REPORT] --cycle N`
-use crate::advisors::shipped_panel;
+use crate::advisors::seat;
 use crate::builders::{Built, choice, number, on_trace, report_word, with_word};
 use crate::named::{Shelf, open_both, open_trace};
 use crate::refusals::end_of;
 use crate::said::{REFUSED, USAGE, complain, end, shown, too_large};
 use clap::{Arg, ArgMatches};
 use std::alloc::{AllocError, Global};
+use tetri_advice::{Advisor, Panel};
 use tetri_export::Format;
+use tetri_greedy::{ByDeadline, ByWorth};
 use tetri_io::{StdSink, send_all};
 use tetri_notice::TraceFault;
 use tetri_programs::{Exported, export_cycle, export_report};
@@ -66,7 +68,11 @@ fn seat_and_export(
         Ok(trace) => trace,
         Err(fault) => return Ok(Err(fault)),
     };
-    let mut panel = shipped_panel(rt.alloc())?;
+    let mut panel = Panel::new(rt.alloc());
+    let by_deadline: Box<dyn Advisor> = Box::new(rt.alloc(), ByDeadline::new())?;
+    seat(&mut panel, by_deadline)?;
+    let by_worth: Box<dyn Advisor> = Box::new(rt.alloc(), ByWorth::new())?;
+    seat(&mut panel, by_worth)?;
     Ok(Ok(export_cycle(rt.alloc(), &trace, cycle, format, &mut panel)?))
 }
 

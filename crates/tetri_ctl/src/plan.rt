@@ -1,13 +1,14 @@
 // `tetri_ctl plan TRACE`
-use crate::advisors::shipped_panel;
+use crate::advisors::seat;
 use crate::builders::{Built, choice, on_trace, with_word};
 use crate::named::{Shelf, open_trace};
 use crate::refusals::end_of;
 use clap::{Arg, ArgMatches};
 use std::alloc::{AllocError, Global};
-use tetri_advice::Panel;
+use tetri_advice::{Advisor, Panel};
 use tetri_by_price::ByPrice;
 use tetri_by_swift::BySwift;
+use tetri_greedy::{ByDeadline, ByWorth};
 use tetri_io::StdSink;
 use tetri_run::{ByChooser, Status, run_chosen, run_plan};
 use tetri_sooner::Sooner;
@@ -84,7 +85,11 @@ fn seat_and_plan(
     trace: &str,
     search: Search,
 ) -> Result<Status, AllocError> {
-    let panel = shipped_panel(rt.alloc())?;
+    let mut panel = Panel::new(rt.alloc());
+    let by_deadline: Box<dyn Advisor> = Box::new(rt.alloc(), ByDeadline::new())?;
+    seat(&mut panel, by_deadline)?;
+    let by_worth: Box<dyn Advisor> = Box::new(rt.alloc(), ByWorth::new())?;
+    seat(&mut panel, by_worth)?;
     Ok(planned(rt, shelf, trace, search, panel))
 }
 
