@@ -1,7 +1,6 @@
 // Runs over memory: what they write, and what is said of them.
 ghost use Rattle.std.specs.Prelude.{◌<◌};
 
-use crate::panels::is_seated;
 use std::alloc::{AllocError, Global};
 use tetri_advice::{Advisor, Panel};
 use tetri_greedy::{ByDeadline, ByWorth};
@@ -102,21 +101,6 @@ fn outcome_of(alloc: Global, sink: &MemSink, status: &Status) -> Result<Outcome,
     Ok(Outcome { written, said })
 }
 
-// Runs the words with a panel.
-fn run_with(
-    alloc: Global,
-    given: &Given,
-    service: &Service<'_>,
-    line: &str,
-    panel: &mut Panel,
-) -> Result<Outcome, AllocError> {
-    let words = words_of(alloc, line)?;
-    let mut shelf = shelf_of(alloc, given, service)?;
-    let mut sink = MemSink::new(alloc, service.write_most, service.room, &service.writes)?;
-    let status = run(alloc, words.as_slice(), &mut shelf, &mut sink, panel);
-    outcome_of(alloc, &sink, &status)
-}
-
 /// Runs the words with the advisors that are named, in this order: `deadline` and `worth`.
 pub fn run_words(
     alloc: Global,
@@ -126,22 +110,26 @@ pub fn run_words(
 ) -> Result<Outcome, AllocError> {
     let mut panel = Panel::new(alloc);
     for name in service.advisors.split(',') {
-        let is_there = match name {
+        let is_seated = match name {
             "deadline" => {
                 let one: Box<dyn Advisor> = Box::new(alloc, ByDeadline::new())?;
-                is_seated(&mut panel, one)
+                panel.seat(one).is_ok()
             }
             "worth" => {
                 let one: Box<dyn Advisor> = Box::new(alloc, ByWorth::new())?;
-                is_seated(&mut panel, one)
+                panel.seat(one).is_ok()
             }
             _ => true,
         };
-        if !is_there {
+        if !is_seated {
             return Err(AllocError);
         }
     }
-    run_with(alloc, given, service, line, &mut panel)
+    let words = words_of(alloc, line)?;
+    let mut shelf = shelf_of(alloc, given, service)?;
+    let mut sink = MemSink::new(alloc, service.write_most, service.room, &service.writes)?;
+    let status = run(alloc, words.as_slice(), &mut shelf, &mut sink, &mut panel);
+    outcome_of(alloc, &sink, &status)
 }
 
 // What a run with these advisors writes and says, one behind the other.
