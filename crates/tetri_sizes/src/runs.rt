@@ -3,7 +3,7 @@ use std::alloc::{AllocError, Global};
 use tetri_advice::{Advisor, Panel};
 use tetri_greedy::{ByDeadline, ByWorth};
 use tetri_io::{MemShelf, MemSink};
-use tetri_run::{Status, run, say};
+use tetri_run::{run, say};
 use tetri_tables::{Given, Tally, expand_text, sections_of, text_in};
 
 // Bytes of a read and of a write at most, and bytes that there is room for.
@@ -26,46 +26,7 @@ fn words_of(alloc: Global, line: &str) -> Result<Vec<String>, AllocError> {
     Ok(words)
 }
 
-// The shelf with the trace and the report.
-fn shelf_of(alloc: Global, given: &Given) -> Result<MemShelf, AllocError> {
-    let mut shelf = MemShelf::new(alloc, PIECE, &[])?;
-    shelf.put("trace", given.trace.as_bytes())?;
-    shelf.put("report", given.report.as_bytes())?;
-    Ok(shelf)
-}
-
-// What is said of a status.
-fn said_of(alloc: Global, status: &Status) -> Result<String, AllocError> {
-    let mut errors = MemSink::new(alloc, PIECE, 1000, &[])?;
-    let _ = say(alloc, status, &mut errors);
-    text_in(alloc, errors.written())
-}
-
-// Seats an advisor. A panel without a free seat is told as want of memory.
-fn seat(panel: &mut Panel, one: Box<dyn Advisor>) -> Result<(), AllocError> {
-    match panel.seat(one) {
-        Ok(()) => Ok(()),
-        Err(_) => Err(AllocError),
-    }
-}
-
-// Runs the words over the trace and the report, with a panel.
-fn run_with(
-    alloc: Global,
-    given: &Given,
-    line: &str,
-    panel: &mut Panel,
-) -> Result<Outcome, AllocError> {
-    let words = words_of(alloc, line)?;
-    let mut shelf = shelf_of(alloc, given)?;
-    let mut sink = MemSink::new(alloc, PIECE, ROOM, &[])?;
-    let status = run(alloc, words.as_slice(), &mut shelf, &mut sink, panel);
-    let written = text_in(alloc, sink.written())?;
-    let said = said_of(alloc, &status)?;
-    Ok(Outcome { written, said })
-}
-
-// Runs the words over the trace and the report, with the two shipped advisors where they are asked for.
+// Runs the words over the trace and the report.
 fn run_words(
     alloc: Global,
     given: &Given,
@@ -75,11 +36,22 @@ fn run_words(
     let mut panel = Panel::new(alloc);
     if is_advised {
         let by_deadline: Box<dyn Advisor> = Box::new(alloc, ByDeadline::new())?;
-        seat(&mut panel, by_deadline)?;
         let by_worth: Box<dyn Advisor> = Box::new(alloc, ByWorth::new())?;
-        seat(&mut panel, by_worth)?;
+        if panel.seat(by_deadline).is_err() || panel.seat(by_worth).is_err() {
+            return Err(AllocError);
+        }
     }
-    run_with(alloc, given, line, &mut panel)
+    let words = words_of(alloc, line)?;
+    let mut shelf = MemShelf::new(alloc, PIECE, &[])?;
+    shelf.put("trace", given.trace.as_bytes())?;
+    shelf.put("report", given.report.as_bytes())?;
+    let mut sink = MemSink::new(alloc, PIECE, ROOM, &[])?;
+    let status = run(alloc, words.as_slice(), &mut shelf, &mut sink, &mut panel);
+    let written = text_in(alloc, sink.written())?;
+    let mut errors = MemSink::new(alloc, PIECE, 1000, &[])?;
+    let _ = say(alloc, &status, &mut errors);
+    let said = text_in(alloc, errors.written())?;
+    Ok(Outcome { written, said })
 }
 
 // Whether a line begins with one of these words; any line does where there are none.
@@ -106,41 +78,6 @@ fn chosen_lines(alloc: Global, text: &str, words: &str) -> Result<String, AllocE
     Ok(lines)
 }
 
-// The words of a command.
-fn line_of(command: &str) -> Option<&'static str> {
-    match command {
-        "plan" | "advised plan" => Some("plan trace"),
-        "check" => Some("check trace report"),
-        "parts" => Some("parts trace"),
-        "tight" => Some("tight trace"),
-        "admit" => Some("admit trace"),
-        _ => None,
-    }
-}
-
-// The lines of what is written that begin with one of these words, and what is said.
-fn lines_told(alloc: Global, outcome: &Outcome, words: &str) -> Result<String, AllocError> {
-    let mut lines = chosen_lines(alloc, outcome.written.as_str(), words)?;
-    lines.push_str(outcome.said.as_str())?;
-    Ok(lines)
-}
-
-// Expects lines, but for the line feeds at their end.
-fn expect_lines(
-    alloc: Global,
-    tally: &mut Tally,
-    kind: &str,
-    found: &str,
-    body: &str,
-) -> Result<(), AllocError> {
-    let wanted = expand_text(alloc, body)?;
-    tally.expect(
-        kind,
-        found.trim_end_matches('\n'),
-        wanted.as_str().trim_end_matches('\n'),
-    )
-}
-
 // Runs a command, and expects these lines of what it writes and says; what `plan` writes is the report from then on.
 fn judge_run(
     alloc: Global,
@@ -150,12 +87,24 @@ fn judge_run(
     body: &str,
 ) -> Result<(), AllocError> {
     let (command, words) = kind.split_once(": ").unwrap_or((kind, ""));
-    let Some(line) = line_of(command) else {
-        return tally.expect("a section", kind, "a known kind");
+    let (line, is_advised) = match command {
+        "plan" => ("plan trace", false),
+        "advised plan" => ("plan trace", true),
+        "check" => ("check trace report", false),
+        "parts" => ("parts trace", false),
+        "tight" => ("tight trace", false),
+        "admit" => ("admit trace", false),
+        _ => return tally.expect("a section", kind, "a known kind"),
     };
-    let outcome = run_words(alloc, given, line, command == "advised plan")?;
-    let found = lines_told(alloc, &outcome, words)?;
-    expect_lines(alloc, tally, kind, found.as_str(), body)?;
+    let outcome = run_words(alloc, given, line, is_advised)?;
+    let mut found = chosen_lines(alloc, outcome.written.as_str(), words)?;
+    found.push_str(outcome.said.as_str())?;
+    let wanted = expand_text(alloc, body)?;
+    tally.expect(
+        kind,
+        found.as_str().trim_end_matches('\n'),
+        wanted.as_str().trim_end_matches('\n'),
+    )?;
     if line == "plan trace" {
         given.report = outcome.written;
     }
