@@ -10,11 +10,23 @@ use tetri_tables::{Given, Tally};
 use tetri_workload::{Imported, add_partition, counts_text, fault_text, import, rejects_text};
 
 // What is wanted of an import.
-#[derive(Clone, Copy, PartialEq, Eq)]
+#[derive(Clone, Copy)]
 enum Wanted {
     Trace,
     Counts,
     Rejects,
+}
+
+// What was left out.
+fn rejects_of(alloc: Global, imported: &Imported, log: &[u8]) -> Result<String, AllocError> {
+    let rejects = rejects_text(alloc, log, imported.left.as_slice())?;
+    String::from_str(alloc, str::from_utf8(&rejects).unwrap_or("no text\n"))
+}
+
+// The trace with the counts behind it.
+fn trace_of(alloc: Global, imported: &Imported) -> Result<String, AllocError> {
+    let counts = counts_text(alloc, imported)?;
+    format!(in alloc; "{}{counts}", imported.trace)
 }
 
 // The trace with the counts behind it, the counts alone, or what was left out.
@@ -24,18 +36,28 @@ fn made(
     log: &[u8],
     wanted: Wanted,
 ) -> Result<String, AllocError> {
-    let mut text = String::new(alloc);
-    if wanted == Wanted::Rejects {
-        let rejects = rejects_text(alloc, log, imported.left.as_slice())?;
-        text.push_str(str::from_utf8(&rejects).unwrap_or("no text\n"))?;
-        return Ok(text);
+    match wanted {
+        Wanted::Trace => trace_of(alloc, imported),
+        Wanted::Counts => counts_text(alloc, imported),
+        Wanted::Rejects => rejects_of(alloc, imported, log),
     }
-    if wanted == Wanted::Trace {
-        text.push_str(imported.trace.as_str())?;
+}
+
+// Adds a line of sinfo.
+fn add_node(lines: &mut Vec<u8>, line: &str) -> Result<(), AllocError> {
+    lines.extend_from_slice(line.as_bytes())?;
+    lines.push(b'\n')?;
+    Ok(())
+}
+
+// Adds the lines of a partition, as `batch=n[1-8]`.
+fn add_hosts(alloc: Global, lines: &mut Vec<u8>, given: &str) -> Result<(), AllocError> {
+    let (name, hosts) = given.split_once('=').unwrap_or((given, ""));
+    match add_partition(alloc, lines, name.as_bytes(), hosts.as_bytes()) {
+        Ok(()) => Ok(()),
+        Err(HostsFault::NoMemory) => Err(AllocError),
+        Err(HostsFault::NotHosts | HostsFault::TooMany) => lines.extend_from_slice(b"no hosts\n"),
     }
-    let counts = counts_text(alloc, imported)?;
-    text.push_str(counts.as_str())?;
-    Ok(text)
 }
 
 // The nodes that words tell of: `node=n1|idle|batch|gpu` as a line of sinfo, `partition=batch=n[1-8]` by the hosts of a partition.
@@ -43,20 +65,8 @@ fn nodes_of(alloc: Global, words: &str) -> Result<Vec<NodeText>, AllocError> {
     let mut lines = Vec::new(alloc);
     for word in words.split_whitespace() {
         match word.split_once('=') {
-            Some(("node", line)) => {
-                lines.extend_from_slice(line.as_bytes())?;
-                lines.push(b'\n')?;
-            }
-            Some(("partition", given)) => {
-                let (name, hosts) = given.split_once('=').unwrap_or((given, ""));
-                match add_partition(alloc, &mut lines, name.as_bytes(), hosts.as_bytes()) {
-                    Ok(()) => {}
-                    Err(HostsFault::NoMemory) => return Err(AllocError),
-                    Err(HostsFault::NotHosts | HostsFault::TooMany) => {
-                        lines.extend_from_slice(b"no hosts\n")?;
-                    }
-                }
-            }
+            Some(("node", line)) => add_node(&mut lines, line)?,
+            Some(("partition", given)) => add_hosts(alloc, &mut lines, given)?,
             _ => {}
         }
     }
@@ -82,6 +92,18 @@ fn told(
     }
 }
 
+fn wanted_by(word: &str) -> Option<(Format, Wanted)> {
+    match word {
+        "swf" => Some((Format::Swf, Wanted::Trace)),
+        "sacct" => Some((Format::Sacct, Wanted::Trace)),
+        "swf counts" => Some((Format::Swf, Wanted::Counts)),
+        "sacct counts" => Some((Format::Sacct, Wanted::Counts)),
+        "swf rejects" => Some((Format::Swf, Wanted::Rejects)),
+        "sacct rejects" => Some((Format::Sacct, Wanted::Rejects)),
+        _ => None,
+    }
+}
+
 /// What is wanted of the last log with these options: the trace with the counts behind it, the counts alone, or the lines left out.
 pub fn judge(
     alloc: Global,
@@ -91,14 +113,8 @@ pub fn judge(
     options: &str,
     body: &str,
 ) -> Result<(), AllocError> {
-    let (format, wanted) = match word {
-        "swf" => (Format::Swf, Wanted::Trace),
-        "sacct" => (Format::Sacct, Wanted::Trace),
-        "swf counts" => (Format::Swf, Wanted::Counts),
-        "sacct counts" => (Format::Sacct, Wanted::Counts),
-        "swf rejects" => (Format::Swf, Wanted::Rejects),
-        "sacct rejects" => (Format::Sacct, Wanted::Rejects),
-        _ => return tally.expect("a section", word, "a known kind"),
+    let Some((format, wanted)) = wanted_by(word) else {
+        return tally.expect("a section", word, "a known kind");
     };
     let found = told(alloc, format, options, &given.log, wanted)?;
     let body = format!(in alloc; "{body}\n")?;

@@ -27,28 +27,34 @@ fn example_of(name: &str) -> Option<&str> {
     None
 }
 
+// The text of the file of an example with an ending.
+fn text_of(rt: &HostRuntime, example: &str, ending: &str) -> io::Result<String> {
+    let name = format!(in rt.alloc(); "{example}.{ending}")?;
+    fs::read_to_string(rt, name.as_str())
+}
+
 // Judges the example by the ending of the argument.
 fn judge_example(rt: &HostRuntime, example: &str, name: &str) -> io::Result<Tally> {
-    let trace = format!(in rt.alloc(); "{example}.jsonl")?;
-    let trace = fs::read_to_string(rt, trace.as_str())?;
+    let trace = text_of(rt, example, "jsonl")?;
     if name.ends_with(".answers") {
         let answers = fs::read_to_string(rt, name)?;
         return Ok(table::judge_answers(rt.alloc(), trace, answers)?);
     }
-    let report = format!(in rt.alloc(); "{example}.report")?;
-    let report = fs::read_to_string(rt, report.as_str())?;
+    let report = text_of(rt, example, "report")?;
     let is_planned = name.ends_with(".jsonl");
     Ok(table::judge_example(rt.alloc(), trace, report, is_planned)?)
+}
+
+fn judge_table(rt: &HostRuntime, name: &str) -> io::Result<Tally> {
+    let text = fs::read_to_string(rt, name)?;
+    Ok(table::judge(rt.alloc(), text.as_str())?)
 }
 
 // Judges the cases that an argument names, and prints what differs and how many there were.
 fn judge(rt: &HostRuntime, name: &str) -> io::Result<()> {
     let tally = match example_of(name) {
         Some(example) => judge_example(rt, example, name)?,
-        None => {
-            let text = fs::read_to_string(rt, name)?;
-            table::judge(rt.alloc(), text.as_str())?
-        }
+        None => judge_table(rt, name)?,
     };
     print!(rt; "{}", tally.differences)?;
     println!(rt; "{name}: {} cases", tally.cases)

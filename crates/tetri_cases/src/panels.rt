@@ -6,4 +6,4 @@ mod scripted;
 mod seats;
 mod wrapped;
 
-pub use seats::{Trial, try_panel};
+pub use seats::{Trial, is_seated, try_panel};

@@ -1,6 +1,7 @@
 // Runs over memory: what they write, and what is said of them.
 ghost use Rattle.std.specs.Prelude.{◌<◌};
 
+use crate::panels::is_seated;
 use std::alloc::{AllocError, Global};
 use tetri_advice::{Advisor, Panel};
 use tetri_greedy::{ByDeadline, ByWorth};
@@ -110,18 +111,18 @@ pub fn run_words(
 ) -> Result<Outcome, AllocError> {
     let mut panel = Panel::new(alloc);
     for name in service.advisors.split(',') {
-        let is_seated = match name {
+        let is_there = match name {
             "deadline" => {
                 let one: Box<dyn Advisor> = Box::new(alloc, ByDeadline::new())?;
-                panel.seat(one).is_ok()
+                is_seated(&mut panel, one)
             }
             "worth" => {
                 let one: Box<dyn Advisor> = Box::new(alloc, ByWorth::new())?;
-                panel.seat(one).is_ok()
+                is_seated(&mut panel, one)
             }
             _ => true,
         };
-        if !is_seated {
+        if !is_there {
             return Err(AllocError);
         }
     }

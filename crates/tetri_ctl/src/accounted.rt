@@ -3,10 +3,11 @@ ghost use Rattle.tetri_trace.specs.Scenario.{scenario};
 ghost use Rattle.tetri_trace.specs.Sound.{IsSound};
 ghost use Rattle.std.specs.Prelude.{IfOk};
 
+use crate::builders::{Built, choice, flag, on_trace, report_word, with_word};
 use crate::named::{Shelf, open_report, open_trace};
 use crate::refusals::end_of;
 use crate::said::{USAGE, complain, end, no_memory};
-use clap::{Arg, ArgAction, ArgMatches};
+use clap::{Arg, ArgMatches};
 use std::alloc::{AllocError, Global};
 use tetri_accounts::{Account, account_policy, account_report};
 use tetri_figures::{Bounds, Format, PricedSums};
@@ -26,11 +27,8 @@ pub struct Run {
 
 /// The option that says how it is told.
 pub fn format_word<'a>(alloc: Global) -> Arg<'a> {
-    Arg::new(alloc, "format")
-        .long("format")
-        .value_name("FORMAT")
-        .value_parser(["table", "csv", "jsonl"].as_slice())
-        .help("how it is told [default: table]")
+    let words = &["table", "csv", "jsonl"];
+    choice(alloc, "format", words, "how it is told [default: table]").value_name("FORMAT")
 }
 
 /// How it is told.
@@ -44,19 +42,24 @@ pub fn format_of(words: &ArgMatches<'_>) -> Format {
 
 /// The option that names a policy, whose run of the trace is told in the place of a report.
 pub fn policy_word<'a>(alloc: Global) -> Arg<'a> {
-    Arg::new(alloc, "policy")
-        .long("policy")
-        .value_name("POLICY")
-        .value_parser(["fcfs", "easy"].as_slice())
-        .help("the run of the trace by a policy, in the place of a report")
+    let help = "the run of the trace by a policy, in the place of a report";
+    choice(alloc, "policy", &["fcfs", "easy"], help).value_name("POLICY")
 }
 
 /// The option that asks for figures of the bounds that prices make.
 pub fn prices_word<'a>(alloc: Global) -> Arg<'a> {
-    Arg::new(alloc, "prices")
-        .long("prices")
-        .action(ArgAction::SetTrue)
-        .help("the bounds of a report's cycles as prices of the nodes lower them, too")
+    flag(
+        alloc,
+        "prices",
+        "the bounds of a report's cycles as prices of the nodes lower them, too",
+    )
+}
+
+/// A command on a trace and the run of a report or of a policy.
+pub fn on_run<'a>(alloc: Global, name: &'a str, about: &'a str, after: &'a str) -> Built<'a> {
+    let command = on_trace(alloc, name, about, after);
+    let command = with_word(command, report_word(alloc).required(false));
+    with_word(command, policy_word(alloc))
 }
 
 /// The policy of a word.

@@ -1,6 +1,7 @@
 // The words of an import.
-use clap::{Arg, ArgAction, ArgMatches, Command, value_parser};
-use std::alloc::{AllocError, Global};
+use crate::builders::{Built, choice, flag, number, titled, valued, with_word};
+use clap::{Arg, ArgAction, ArgMatches};
+use std::alloc::Global;
 use tetri_logs::{Format, Options, Worth, seconds_in};
 use tetri_request::Class;
 
@@ -16,131 +17,207 @@ pub struct Asked<'a> {
     pub nodes_file: Option<&'a str>,
 }
 
-// An option that holds a number.
-fn number<'a>(alloc: Global, name: &'a str, help: &'a str) -> Arg<'a> {
-    Arg::new(alloc, name)
-        .long(name)
-        .value_name("N")
-        .value_parser(value_parser!(u32))
-        .help(help)
+// The word that names a format.
+fn format_word<'a>(alloc: Global) -> Arg<'a> {
+    Arg::new(alloc, "FORMAT")
+        .required(true)
+        .value_parser(["swf", "sacct"].as_slice())
 }
 
-// An option that holds a time.
-fn time<'a>(alloc: Global, name: &'a str, help: &'a str) -> Arg<'a> {
-    Arg::new(alloc, name)
-        .long(name)
-        .value_name("TIME")
-        .help(help)
+// The word that names a log.
+fn log_word<'a>(alloc: Global) -> Arg<'a> {
+    Arg::new(alloc, "LOG")
+        .required(true)
+        .help("the log, a file or -")
 }
 
-// An option that holds one of a few words, the first by default.
-fn choice<'a>(alloc: Global, name: &'a str, words: &'a [&'a str], help: &'a str) -> Arg<'a> {
-    Arg::new(alloc, name)
-        .long(name)
-        .value_parser(words)
-        .help(help)
+// The command on a log.
+fn on_log<'a>(alloc: Global) -> Built<'a> {
+    let command = titled(
+        alloc,
+        "import",
+        "Writes the trace of an accounting log",
+        "Example: tetri_ctl import swf cluster.swf --slack 12 > cluster.jsonl",
+    );
+    let command = with_word(command, format_word(alloc));
+    with_word(command, log_word(alloc))
 }
 
-// With what is asked of the cluster and of its cycles.
-fn with_cycles<'a>(alloc: Global, command: Command<'a>) -> Result<Command<'a>, AllocError> {
-    command
-        .arg(number(alloc, "slot", "seconds of a slot [default: 300]"))?
-        .arg(number(
+// With what is asked of the slots and of the nodes.
+fn with_slots<'a>(alloc: Global, command: Built<'a>) -> Built<'a> {
+    let command = with_word(
+        command,
+        number(alloc, "slot", "N", "seconds of a slot [default: 300]"),
+    );
+    let command = with_word(
+        command,
+        number(
             alloc,
             "processors",
+            "N",
             "processors of a node [default: what the log says, or 1]",
-        ))?
-        .arg(number(
+        ),
+    );
+    with_word(
+        command,
+        number(
             alloc,
             "nodes",
+            "N",
             "number of nodes [default: what the log says of them]",
-        ))?
-        .arg(number(
-            alloc,
-            "window",
-            "slots in which leaves may start [default: 16]",
-        ))?
-        .arg(number(alloc, "budget", "nodes of a search tree [default: 200]"))
+        ),
+    )
 }
 
-// With what is asked of the jobs: which are taken, how long they may wait, and what they are worth.
-fn with_jobs<'a>(alloc: Global, command: Command<'a>) -> Result<Command<'a>, AllocError> {
-    command
-        .arg(number(
+// With what is asked of the cycles.
+fn with_cycles<'a>(alloc: Global, command: Built<'a>) -> Built<'a> {
+    let command = with_word(
+        command,
+        number(
+            alloc,
+            "window",
+            "N",
+            "slots in which leaves may start [default: 16]",
+        ),
+    );
+    with_word(
+        command,
+        number(
+            alloc,
+            "budget",
+            "N",
+            "nodes of a search tree [default: 200]",
+        ),
+    )
+}
+
+// The option that names a file of nodes.
+fn nodes_file_word<'a>(alloc: Global) -> Arg<'a> {
+    valued(
+        alloc,
+        "nodes-file",
+        "FILE",
+        "the nodes with their partitions and features: what sinfo -a -h -N -o '%N\\t%T\\t%P\\t%f' prints",
+    )
+}
+
+// The option that names the nodes of a partition.
+fn partition_word<'a>(alloc: Global) -> Arg<'a> {
+    valued(
+        alloc,
+        "partition",
+        "NAME=HOSTS",
+        "the nodes of a partition, as batch=n[1-8]; once for each",
+    )
+    .action(ArgAction::Append)
+}
+
+// With the nodes where they differ.
+fn with_nodes<'a>(alloc: Global, command: Built<'a>) -> Built<'a> {
+    let command = with_word(command, nodes_file_word(alloc));
+    with_word(command, partition_word(alloc))
+}
+
+// With how many jobs are taken, and how long they may wait.
+fn with_jobs<'a>(alloc: Global, command: Built<'a>) -> Built<'a> {
+    let command = with_word(
+        command,
+        number(
             alloc,
             "unit",
+            "N",
             "what each worth is multiplied by [default: 1]",
-        ))?
-        .arg(number(alloc, "jobs", "how many jobs are taken at most"))?
-        .arg(number(alloc, "slack", "slots that a job may wait [default: 288]"))?
-        .arg(time(
+        ),
+    );
+    let command = with_word(
+        command,
+        number(alloc, "jobs", "N", "how many jobs are taken at most"),
+    );
+    with_word(
+        command,
+        number(
+            alloc,
+            "slack",
+            "N",
+            "slots that a job may wait [default: 288]",
+        ),
+    )
+}
+
+// With which jobs are taken, and what they are worth.
+fn with_worth<'a>(alloc: Global, command: Built<'a>) -> Built<'a> {
+    let command = with_word(
+        command,
+        valued(
             alloc,
             "from",
+            "TIME",
             "jobs that are submitted at this time or later",
-        ))?
-        .arg(time(alloc, "to", "jobs that are submitted before this time"))?
-        .arg(choice(
+        ),
+    );
+    let command = with_word(
+        command,
+        valued(
+            alloc,
+            "to",
+            "TIME",
+            "jobs that are submitted before this time",
+        ),
+    );
+    let command = with_word(
+        command,
+        choice(
             alloc,
             "worth",
             &["node-slots", "job"],
             "what a job is worth",
-        ))?
-        .arg(choice(
+        ),
+    );
+    with_word(
+        command,
+        choice(
             alloc,
             "class",
             &["steady", "decay"],
             "whether waiting costs",
-        ))
-}
-
-// With the nodes where they differ.
-fn with_nodes<'a>(alloc: Global, command: Command<'a>) -> Result<Command<'a>, AllocError> {
-    let file = Arg::new(alloc, "nodes-file")
-        .long("nodes-file")
-        .value_name("FILE")
-        .help(
-            "the nodes with their partitions and features: what sinfo -a -h -N -o '%N\\t%T\\t%P\\t%f' prints",
-        );
-    let partition = Arg::new(alloc, "partition")
-        .long("partition")
-        .value_name("NAME=HOSTS")
-        .action(ArgAction::Append)
-        .help("the nodes of a partition, as batch=n[1-8]; once for each");
-    command.arg(file)?.arg(partition)
+        ),
+    )
 }
 
 // With what is asked of jobs that share nodes, and of lines that are left out.
-fn with_rejects<'a>(alloc: Global, command: Command<'a>) -> Result<Command<'a>, AllocError> {
-    let whole = Arg::new(alloc, "whole-nodes-only")
-        .long("whole-nodes-only")
-        .action(ArgAction::SetTrue)
-        .help("leave out jobs with fewer processors than a node has");
-    let rejects = Arg::new(alloc, "rejects")
-        .long("rejects")
-        .value_name("FILE")
-        .help("write each line that is left out, with its number and its cause");
-    command.arg(whole)?.arg(rejects)
+fn with_rejects<'a>(alloc: Global, command: Built<'a>) -> Built<'a> {
+    let command = with_word(
+        command,
+        flag(
+            alloc,
+            "whole-nodes-only",
+            "leave out jobs with fewer processors than a node has",
+        ),
+    );
+    with_word(
+        command,
+        valued(
+            alloc,
+            "rejects",
+            "FILE",
+            "write each line that is left out, with its number and its cause",
+        ),
+    )
 }
 
 /// The words of the command.
-pub fn import_command<'a>(alloc: Global) -> Result<Command<'a>, AllocError> {
-    let format = Arg::new(alloc, "FORMAT")
-        .required(true)
-        .value_parser(["swf", "sacct"].as_slice());
-    let log = Arg::new(alloc, "LOG")
-        .required(true)
-        .help("the log, a file or -");
-    let command = Command::new(alloc, "import")
-        .about("Writes the trace of an accounting log")
-        .after_help("Example: tetri_ctl import swf cluster.swf --slack 12 > cluster.jsonl")
-        .arg(format)?
-        .arg(log)?;
-    let command = with_nodes(alloc, with_cycles(alloc, command)?)?;
-    with_rejects(alloc, with_jobs(alloc, command)?)
+pub fn import_command<'a>(alloc: Global) -> Built<'a> {
+    let command = with_slots(alloc, on_log(alloc));
+    let command = with_nodes(alloc, with_cycles(alloc, command));
+    with_rejects(alloc, with_worth(alloc, with_jobs(alloc, command)))
 }
 
 fn number_of(matches: &ArgMatches, name: &str) -> Option<u32> {
     matches.get_one::<u32>(name)
+}
+
+fn number_or(matches: &ArgMatches, name: &str, default: u32) -> u32 {
+    number_of(matches, name).unwrap_or(default)
 }
 
 // The second since 1970 that a text says: a number of seconds, or as `2024-05-01T12:34:56`.
@@ -180,23 +257,30 @@ fn class_of(matches: &ArgMatches) -> Class {
     }
 }
 
-/// What the words ask for. `None` where a time is no time.
-pub fn asked_of<'a>(matches: &ArgMatches<'a>) -> Option<Asked<'a>> {
-    let options = Options {
-        slot: number_of(matches, "slot").unwrap_or(300),
+// How the log becomes a trace. `None` where a time is no time.
+fn options_of(matches: &ArgMatches) -> Option<Options> {
+    let from = time_of(matches, "from")?;
+    let to = time_of(matches, "to")?;
+    Some(Options {
+        slot: number_or(matches, "slot", 300),
         processors: number_of(matches, "processors"),
         nodes: number_of(matches, "nodes"),
-        window: number_of(matches, "window").unwrap_or(16),
-        budget: number_of(matches, "budget").unwrap_or(200),
-        unit: number_of(matches, "unit").unwrap_or(1),
-        from: time_of(matches, "from")?,
-        to: time_of(matches, "to")?,
+        window: number_or(matches, "window", 16),
+        budget: number_or(matches, "budget", 200),
+        unit: number_or(matches, "unit", 1),
+        from,
+        to,
         jobs: number_of(matches, "jobs"),
         worth: worth_of(matches),
-        slack: number_of(matches, "slack").unwrap_or(288),
+        slack: number_or(matches, "slack", 288),
         class: class_of(matches),
         whole_nodes_only: matches.get_flag("whole-nodes-only"),
-    };
+    })
+}
+
+/// What the words ask for. `None` where a time is no time.
+pub fn asked_of<'a>(matches: &ArgMatches<'a>) -> Option<Asked<'a>> {
+    let options = options_of(matches)?;
     Some(Asked {
         format: format_of(matches),
         log: matches.get_str("LOG").unwrap_or(""),

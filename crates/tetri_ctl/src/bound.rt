@@ -1,30 +1,32 @@
 // `tetri_ctl bound TRACE REPORT`
-use crate::named::{Shelf, open_report, open_trace, report_word, trace_word};
+use crate::builders::{Built, flag, on_report, valued, with_word};
+use crate::named::{Shelf, open_both};
 use crate::refusals::end_of;
 use crate::said::{USAGE, complain};
-use clap::{Arg, ArgAction, ArgMatches, Command};
-use std::alloc::{AllocError, Global};
+use clap::ArgMatches;
+use std::alloc::Global;
 use tetri_io::StdSink;
 use tetri_priced::{BySearch, Wanted, price_report};
 use tetri_run::Status;
 
 /// The words of the command.
-pub fn command<'a>(alloc: Global) -> Result<Command<'a>, AllocError> {
-    let slots = Arg::new(alloc, "slots")
-        .long("slots")
-        .value_name("FROM-TO")
-        .help("tell of the cycles of these slots alone, both included");
-    let no_prices = Arg::new(alloc, "no-prices")
-        .long("no-prices")
-        .action(ArgAction::SetTrue)
-        .help("leave the prices out");
-    Command::new(alloc, "bound")
-        .about("Tells the bounds of a report that is accepted, lowered by prices of nodes")
-        .after_help("Example: tetri_ctl bound day.jsonl day.report --slots 8-16 --no-prices")
-        .arg(trace_word(alloc))?
-        .arg(report_word(alloc))?
-        .arg(slots)?
-        .arg(no_prices)
+pub fn command<'a>(alloc: Global) -> Built<'a> {
+    let command = on_report(
+        alloc,
+        "bound",
+        "Tells the bounds of a report that is accepted, lowered by prices of nodes",
+        "Example: tetri_ctl bound day.jsonl day.report --slots 8-16 --no-prices",
+    );
+    let command = with_word(
+        command,
+        valued(
+            alloc,
+            "slots",
+            "FROM-TO",
+            "tell of the cycles of these slots alone, both included",
+        ),
+    );
+    with_word(command, flag(alloc, "no-prices", "leave the prices out"))
 }
 
 // The first and the last slot that a text names, as `8-16`.
@@ -57,8 +59,7 @@ fn bounded(
     report: &str,
     wanted: Wanted,
 ) -> Result<Status, u8> {
-    open_trace(rt, shelf, trace)?;
-    open_report(rt, shelf, report)?;
+    open_both(rt, shelf, trace, report)?;
     let mut sink = StdSink::new(rt.stdout());
     let alloc = rt.alloc();
     Ok(price_report(alloc, trace, report, wanted, BySearch, shelf, &mut sink))

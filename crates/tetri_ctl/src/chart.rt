@@ -1,8 +1,9 @@
 // `tetri_ctl chart TRACE REPORT [REPORT2]`
-use crate::named::{Shelf, open_report, open_trace, report_word, trace_word};
+use crate::builders::{Built, choice, number, on_report, with_word};
+use crate::named::{Shelf, open_both, open_report};
 use crate::refusals::end_of;
 use crate::said::{USAGE, complain};
-use clap::{Arg, ArgMatches, Command, value_parser};
+use clap::{Arg, ArgMatches};
 use std::alloc::{AllocError, Global};
 use tetri_chart::{Colours, PairStatus, View, chart, chart_pair, clock_of};
 use tetri_cluster::{Name, NameFault, NameList};
@@ -10,41 +11,60 @@ use tetri_figures::tags_of;
 use tetri_io::StdSink;
 use tetri_run::Status;
 
-/// The words of the command.
-pub fn command<'a>(alloc: Global) -> Result<Command<'a>, AllocError> {
-    let second = Arg::new(alloc, "REPORT2").help(
+// The word that names another report.
+fn second_word<'a>(alloc: Global) -> Arg<'a> {
+    Arg::new(alloc, "REPORT2").help(
         "another report of the trace, which is drawn below, a file or -",
+    )
+}
+
+// The option that says what the colours tell.
+fn colour_word<'a>(alloc: Global) -> Arg<'a> {
+    choice(
+        alloc,
+        "colour",
+        &["job", "class", "tag"],
+        "colour bars by job, by the class of the job, or by the first tag of the node",
+    )
+    .value_name("WHAT")
+}
+
+// With what is asked of the drawing.
+fn with_view<'a>(alloc: Global, command: Built<'a>) -> Built<'a> {
+    let command = with_word(
+        command,
+        number(
+            alloc,
+            "cycle",
+            "N",
+            "show what this cycle planned for later slots",
+        ),
     );
-    let cycle = Arg::new(alloc, "cycle")
-        .long("cycle")
-        .value_name("N")
-        .help("show what this cycle planned for later slots")
-        .value_parser(value_parser!(u32));
-    let from = Arg::new(alloc, "from")
-        .long("from")
-        .value_name("SLOT")
-        .help("begin with this slot of the run")
-        .value_parser(value_parser!(u32));
-    let to = Arg::new(alloc, "to")
-        .long("to")
-        .value_name("SLOT")
-        .help("end with this slot of the run, and not with the last in which a piece runs")
-        .value_parser(value_parser!(u32));
-    let colour = Arg::new(alloc, "colour")
-        .long("colour")
-        .value_name("WHAT")
-        .value_parser(["job", "class", "tag"].as_slice())
-        .help("colour bars by job, by the class of the job, or by the first tag of the node");
-    Command::new(alloc, "chart")
-        .about("Draws a report that is accepted, or two of one trace over the same slots, as SVG")
-        .after_help("Example: tetri_ctl chart day.jsonl day.report > day.svg")
-        .arg(trace_word(alloc))?
-        .arg(report_word(alloc))?
-        .arg(second)?
-        .arg(cycle)?
-        .arg(from)?
-        .arg(to)?
-        .arg(colour)
+    let command = with_word(
+        command,
+        number(alloc, "from", "SLOT", "begin with this slot of the run"),
+    );
+    let command = with_word(
+        command,
+        number(
+            alloc,
+            "to",
+            "SLOT",
+            "end with this slot of the run, and not with the last in which a piece runs",
+        ),
+    );
+    with_word(command, colour_word(alloc))
+}
+
+/// The words of the command.
+pub fn command<'a>(alloc: Global) -> Built<'a> {
+    let command = on_report(
+        alloc,
+        "chart",
+        "Draws a report that is accepted, or two of one trace over the same slots, as SVG",
+        "Example: tetri_ctl chart day.jsonl day.report > day.svg",
+    );
+    with_view(alloc, with_word(command, second_word(alloc)))
 }
 
 // The tags as names.
@@ -108,8 +128,7 @@ fn drawn(
     report: &str,
     words: &ArgMatches<'_>,
 ) -> Result<Status, u8> {
-    open_trace(rt, shelf, trace)?;
-    open_report(rt, shelf, report)?;
+    open_both(rt, shelf, trace, report)?;
     let Ok(view) = view_of(rt.alloc(), shelf, trace, words) else {
         return Ok(Status::NoMemory);
     };
@@ -127,8 +146,7 @@ fn drawn_pair(
     second: &str,
     words: &ArgMatches<'_>,
 ) -> Result<PairStatus, u8> {
-    open_trace(rt, shelf, trace)?;
-    open_report(rt, shelf, first)?;
+    open_both(rt, shelf, trace, first)?;
     open_report(rt, shelf, second)?;
     let Ok(view) = view_of(rt.alloc(), shelf, trace, words) else {
         return Ok(PairStatus::First(Status::NoMemory));

@@ -1,18 +1,20 @@
 // `tetri_ctl check TRACE REPORT`
-use crate::named::{Shelf, open_report, open_trace, report_word, trace_word};
+use crate::builders::{Built, on_report};
+use crate::named::{Shelf, open_both};
 use crate::refusals::end_of;
-use clap::{ArgMatches, Command};
-use std::alloc::{AllocError, Global};
+use clap::ArgMatches;
+use std::alloc::Global;
 use tetri_io::StdSink;
 use tetri_run::{Status, run_check};
 
 /// The words of the command.
-pub fn command<'a>(alloc: Global) -> Result<Command<'a>, AllocError> {
-    Command::new(alloc, "check")
-        .about("Checks a report against its trace, as tetri check does")
-        .after_help("Example: zcat day.report.gz | tetri_ctl check day.jsonl -")
-        .arg(trace_word(alloc))?
-        .arg(report_word(alloc))
+pub fn command<'a>(alloc: Global) -> Built<'a> {
+    on_report(
+        alloc,
+        "check",
+        "Checks a report against its trace, as tetri check does",
+        "Example: zcat day.report.gz | tetri_ctl check day.jsonl -",
+    )
 }
 
 // Checks a report that can be read.
@@ -22,8 +24,7 @@ fn checked(
     trace: &str,
     report: &str,
 ) -> Result<Status, u8> {
-    open_trace(rt, shelf, trace)?;
-    open_report(rt, shelf, report)?;
+    open_both(rt, shelf, trace, report)?;
     let mut sink = StdSink::new(rt.stdout());
     Ok(run_check(rt.alloc(), trace, report, shelf, &mut sink))
 }

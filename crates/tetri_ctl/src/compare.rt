@@ -6,27 +6,34 @@ ghost use Rattle.tetri_trace.specs.Sound.{IsSound};
 use crate::accounted::{
     format_of, format_word, kept_trace, policy_of, policy_word, prices_word, report_account, send,
 };
-use crate::named::{Shelf, open_trace, trace_word};
+use crate::builders::{Built, on_trace, with_word};
+use crate::named::{Shelf, open_trace};
 use crate::said::{USAGE, complain, no_memory};
-use clap::{Arg, ArgAction, ArgMatches, Command};
+use clap::{Arg, ArgAction, ArgMatches};
 use std::alloc::{AllocError, Global};
 use tetri_accounts::{Account, account_policy};
 use tetri_figures::{Bounds, Compared, compare_text};
 use tetri_trace::Trace;
 
-/// The words of the command.
-pub fn command<'a>(alloc: Global) -> Result<Command<'a>, AllocError> {
-    let reports = Arg::new(alloc, "REPORT")
+// The word that names reports.
+fn reports_word<'a>(alloc: Global) -> Arg<'a> {
+    Arg::new(alloc, "REPORT")
         .num_args(1..)
-        .help("reports of the trace, files, one perhaps -");
-    Command::new(alloc, "compare")
-        .about("Tells figures of several runs of one trace, and which jobs start at other times")
-        .after_help("Example: tetri_ctl compare day.jsonl day.report --policy fcfs --policy easy")
-        .arg(trace_word(alloc))?
-        .arg(reports)?
-        .arg(policy_word(alloc).action(ArgAction::Append))?
-        .arg(prices_word(alloc))?
-        .arg(format_word(alloc))
+        .help("reports of the trace, files, one perhaps -")
+}
+
+/// The words of the command.
+pub fn command<'a>(alloc: Global) -> Built<'a> {
+    let command = on_trace(
+        alloc,
+        "compare",
+        "Tells figures of several runs of one trace, and which jobs start at other times",
+        "Example: tetri_ctl compare day.jsonl day.report --policy fcfs --policy easy",
+    );
+    let command = with_word(command, reports_word(alloc));
+    let command = with_word(command, policy_word(alloc).action(ArgAction::Append));
+    let command = with_word(command, prices_word(alloc));
+    with_word(command, format_word(alloc))
 }
 
 // Puts an account with its name to the others.
@@ -113,6 +120,23 @@ fn accounts_of(
     }
 }
 
+// Tells of the reports and of the policies, as the words ask, and gives the exit number.
+fn tell(
+    rt: &HostRuntime,
+    trace: &str,
+    reports: &[&str],
+    policies: &[&str],
+    words: &ArgMatches<'_>,
+) -> u8 {
+    match accounts_of(rt, trace, reports, policies, words.get_flag("prices")) {
+        Ok((kept, runs)) => {
+            let text = compare_text(rt.alloc(), &kept, &runs, format_of(words));
+            send(rt, text)
+        }
+        Err(number) => number,
+    }
+}
+
 /// Tells of what the words name, and gives the exit number.
 pub fn run(rt: &HostRuntime, words: &ArgMatches<'_>) -> u8 {
     let trace = words.get_str("TRACE").unwrap_or("");
@@ -122,11 +146,5 @@ pub fn run(rt: &HostRuntime, words: &ArgMatches<'_>) -> u8 {
         complain(rt, trace, "neither a report nor a policy is named");
         return USAGE;
     }
-    match accounts_of(rt, trace, reports, policies, words.get_flag("prices")) {
-        Ok((kept, runs)) => {
-            let text = compare_text(rt.alloc(), &kept, &runs, format_of(words));
-            send(rt, text)
-        }
-        Err(number) => number,
-    }
+    tell(rt, trace, reports, policies, words)
 }

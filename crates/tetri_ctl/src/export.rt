@@ -1,8 +1,10 @@
 // `tetri_ctl export TRACE [REPORT] --cycle N`
-use crate::named::{Shelf, open_report, open_trace, report_word, trace_word};
+use crate::advisors::seat;
+use crate::builders::{Built, choice, number, on_trace, report_word, with_word};
+use crate::named::{Shelf, open_both, open_trace};
 use crate::refusals::end_of;
 use crate::said::{REFUSED, USAGE, complain, end, shown, too_large};
-use clap::{Arg, ArgMatches, Command, value_parser};
+use clap::{Arg, ArgMatches};
 use std::alloc::{AllocError, Global};
 use tetri_advice::{Advisor, Panel};
 use tetri_export::Format;
@@ -13,28 +15,37 @@ use tetri_programs::{Exported, export_cycle, export_report};
 use tetri_run::{Status, status_of};
 use tetri_trace::read_trace;
 
-/// The words of the command.
-pub fn command<'a>(alloc: Global) -> Result<Command<'a>, AllocError> {
-    let cycle = Arg::new(alloc, "cycle")
-        .long("cycle")
-        .value_name("N")
-        .required(true)
-        .value_parser(value_parser!(u32))
-        .help("the cycle whose program is written");
-    let format = Arg::new(alloc, "format")
-        .long("format")
-        .value_parser(["lp", "mps"].as_slice())
-        .help("how it is written [default: lp]");
-    let report = report_word(alloc)
+// The word that names a report, where its run is exported.
+fn run_word<'a>(alloc: Global) -> Arg<'a> {
+    report_word(alloc)
         .required(false)
-        .help("the report whose run it is, a file or -");
-    Command::new(alloc, "export")
-        .about("Writes the integer program of a cycle of a run, for other solvers")
-        .after_help("Example: tetri_ctl export day.jsonl --cycle 7 > day7.lp")
-        .arg(trace_word(alloc))?
-        .arg(report)?
-        .arg(cycle)?
-        .arg(format)
+        .help("the report whose run it is, a file or -")
+}
+
+// The option that names the cycle.
+fn cycle_word<'a>(alloc: Global) -> Arg<'a> {
+    number(alloc, "cycle", "N", "the cycle whose program is written").required(true)
+}
+
+/// The words of the command.
+pub fn command<'a>(alloc: Global) -> Built<'a> {
+    let command = on_trace(
+        alloc,
+        "export",
+        "Writes the integer program of a cycle of a run, for other solvers",
+        "Example: tetri_ctl export day.jsonl --cycle 7 > day7.lp",
+    );
+    let command = with_word(command, run_word(alloc));
+    let command = with_word(command, cycle_word(alloc));
+    with_word(
+        command,
+        choice(
+            alloc,
+            "format",
+            &["lp", "mps"],
+            "how it is written [default: lp]",
+        ),
+    )
 }
 
 // The format that the words ask for.
@@ -57,12 +68,11 @@ fn seat_and_export(
         Ok(trace) => trace,
         Err(fault) => return Ok(Err(fault)),
     };
-    let by_deadline: Box<dyn Advisor> = Box::new(rt.alloc(), ByDeadline::new())?;
-    let by_worth: Box<dyn Advisor> = Box::new(rt.alloc(), ByWorth::new())?;
     let mut panel = Panel::new(rt.alloc());
-    if panel.seat(by_deadline).is_err() || panel.seat(by_worth).is_err() {
-        return Err(AllocError);
-    }
+    let by_deadline: Box<dyn Advisor> = Box::new(rt.alloc(), ByDeadline::new())?;
+    seat(&mut panel, by_deadline)?;
+    let by_worth: Box<dyn Advisor> = Box::new(rt.alloc(), ByWorth::new())?;
+    seat(&mut panel, by_worth)?;
     Ok(Ok(export_cycle(rt.alloc(), &trace, cycle, format, &mut panel)?))
 }
 
@@ -146,10 +156,7 @@ fn run_plan(rt: &HostRuntime, trace: &str, cycle: u32, format: Format) -> u8 {
 // Exports a cycle of the run of a report, and gives the exit number.
 fn run_report(rt: &HostRuntime, trace: &str, report: &str, cycle: u32, format: Format) -> u8 {
     let mut shelf = Shelf::new(rt.alloc(), rt);
-    if let Err(number) = open_trace(rt, &mut shelf, trace) {
-        return number;
-    }
-    if let Err(number) = open_report(rt, &mut shelf, report) {
+    if let Err(number) = open_both(rt, &mut shelf, trace, report) {
         return number;
     }
     match export_report(rt.alloc(), trace, report, cycle, format, &mut shelf) {

@@ -1,12 +1,14 @@
 // `tetri_ctl import FORMAT LOG`
 use crate::asked::{Asked, asked_of, import_command};
-use crate::said::{NO_MEMORY, READ_FAULT, REFUSED, USAGE, WRITE_FAULT, complain, unread};
-use clap::{ArgMatches, Command};
+use crate::builders::Built;
+use crate::said::{
+    NO_MEMORY, READ_FAULT, REFUSED, USAGE, WRITE_FAULT, complain, unread, write_output,
+};
+use clap::ArgMatches;
 use std::alloc::{AllocError, Global};
 use std::fs;
 use tetri_cluster::NodeText;
 use tetri_hosts::{HostsFault, NodeFate, read_nodes};
-use tetri_io::{StdSink, send_all};
 use tetri_logs::{Cause, Reject};
 use tetri_pipes::{Unread, read_whole};
 use tetri_workload::{
@@ -15,7 +17,7 @@ use tetri_workload::{
 };
 
 /// The words of the command.
-pub fn command<'a>(alloc: Global) -> Result<Command<'a>, AllocError> {
+pub fn command<'a>(alloc: Global) -> Built<'a> {
     import_command(alloc)
 }
 
@@ -29,13 +31,9 @@ fn log_of(rt: &HostRuntime, name: &str) -> Result<Vec<u8>, Unread> {
 
 // Writes the trace.
 fn write_trace(rt: &HostRuntime, imported: &Imported) -> u8 {
-    let mut out = StdSink::new(rt.stdout());
-    match send_all(&mut out, imported.trace.as_bytes()) {
+    match write_output(rt, imported.trace.as_bytes()) {
         Ok(()) => 0,
-        Err(_) => {
-            complain(rt, "standard output", "write fault");
-            WRITE_FAULT
-        }
+        Err(number) => number,
     }
 }
 

@@ -1,23 +1,24 @@
 // `tetri_ctl lint TRACE`
-use crate::named::{Shelf, open_trace, trace_word};
-use crate::said::{BAD_INPUT, NO_MEMORY, REFUSED, WRITE_FAULT, complain, read_fault, shown};
-use clap::{Arg, ArgAction, ArgMatches, Command};
+use crate::builders::{Built, flag, on_trace, with_word};
+use crate::named::{Shelf, open_trace};
+use crate::said::{BAD_INPUT, NO_MEMORY, REFUSED, complain, read_fault, shown, write_output};
+use clap::ArgMatches;
 use std::alloc::{AllocError, Global};
 use std::fmt::Write;
-use tetri_io::{StdSink, send_all};
 use tetri_lint::{Level, LintFault, Linted, add_finding, add_refusal, level_of, lint};
 
 /// The words of the command.
-pub fn command<'a>(alloc: Global) -> Result<Command<'a>, AllocError> {
-    let strict = Arg::new(alloc, "strict")
-        .long("strict")
-        .action(ArgAction::SetTrue)
-        .help("end with 1 where there is a warning");
-    Command::new(alloc, "lint")
-        .about("Tells why a trace is refused, or what is suspicious in it")
-        .after_help("Example: tetri_ctl lint day.jsonl --strict")
-        .arg(trace_word(alloc))?
-        .arg(strict)
+pub fn command<'a>(alloc: Global) -> Built<'a> {
+    let command = on_trace(
+        alloc,
+        "lint",
+        "Tells why a trace is refused, or what is suspicious in it",
+        "Example: tetri_ctl lint day.jsonl --strict",
+    );
+    with_word(
+        command,
+        flag(alloc, "strict", "end with 1 where there is a warning"),
+    )
 }
 
 // What is found in a trace of this name, a line each.
@@ -63,13 +64,9 @@ fn write_out(rt: &HostRuntime, name: &str, linted: &Linted, is_strict: bool) -> 
         complain(rt, name, "out of memory");
         return NO_MEMORY;
     };
-    let mut out = StdSink::new(rt.stdout());
-    match send_all(&mut out, text.as_bytes()) {
+    match write_output(rt, text.as_bytes()) {
         Ok(()) => number_of(linted, is_strict),
-        Err(_) => {
-            complain(rt, "standard output", "write fault");
-            WRITE_FAULT
-        }
+        Err(number) => number,
     }
 }
 

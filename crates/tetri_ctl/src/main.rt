@@ -3,8 +3,10 @@
 #![tactic(auto)]
 
 mod accounted;
+mod advisors;
 mod asked;
 mod bound;
+mod builders;
 mod chart;
 mod check;
 mod compare;
@@ -20,10 +22,11 @@ mod refusals;
 mod said;
 mod stats;
 
+use builders::{Built, with_command};
 use clap::error::ErrorKind;
 use clap::{ArgMatches, Command, Error};
 use said::{USAGE, WRITE_FAULT};
-use std::alloc::{AllocError, Global};
+use std::alloc::Global;
 use std::process::ExitCode;
 use std::{env, io};
 use tetri_about::VERSION;
@@ -33,9 +36,9 @@ fn words<R: env::Env + AllocGlobal>(rt: &R) -> io::Result<Vec<String>> {
     env::args(rt)?.collect(rt.alloc()).map_err(io::Error::from)
 }
 
-// The command line.
-fn command<'a>(alloc: Global) -> Result<Command<'a>, AllocError> {
-    Command::new(alloc, "tetri_ctl")
+// The program, without its commands.
+fn program<'a>(alloc: Global) -> Built<'a> {
+    let program = Command::new(alloc, "tetri_ctl")
         .bin_name("tetri_ctl")?
         .about(
             "What people use around tetri: plans, checks, imports, pictures, accounts, bounds, exports, lint, queues",
@@ -44,19 +47,38 @@ fn command<'a>(alloc: Global) -> Result<Command<'a>, AllocError> {
         .propagate_version(true)
         .subcommand_required(true)
         .arg_required_else_help(true)
-        .after_help("In the place of a file - is standard input. Read on: docs/CTL.md")
-        .subcommand(plan::command(alloc)?)?
-        .subcommand(check::command(alloc)?)?
-        .subcommand(import::command(alloc)?)?
-        .subcommand(chart::command(alloc)?)?
-        .subcommand(jobs::command(alloc)?)?
-        .subcommand(stats::command(alloc)?)?
-        .subcommand(compare::command(alloc)?)?
-        .subcommand(bound::command(alloc)?)?
-        .subcommand(export::command(alloc)?)?
-        .subcommand(lint::command(alloc)?)?
-        .subcommand(queue::command(alloc)?)?
-        .subcommand(orders::command(alloc)?)
+        .after_help("In the place of a file - is standard input. Read on: docs/CTL.md");
+    Ok(program)
+}
+
+// With the commands that plan, check, import and draw.
+fn with_plans<'a>(alloc: Global, program: Built<'a>) -> Built<'a> {
+    let program = with_command(program, plan::command(alloc));
+    let program = with_command(program, check::command(alloc));
+    let program = with_command(program, import::command(alloc));
+    with_command(program, chart::command(alloc))
+}
+
+// With the commands that tell of runs.
+fn with_accounts<'a>(alloc: Global, program: Built<'a>) -> Built<'a> {
+    let program = with_command(program, jobs::command(alloc));
+    let program = with_command(program, stats::command(alloc));
+    let program = with_command(program, compare::command(alloc));
+    with_command(program, bound::command(alloc))
+}
+
+// With the commands around other solvers and resource managers.
+fn with_others<'a>(alloc: Global, program: Built<'a>) -> Built<'a> {
+    let program = with_command(program, export::command(alloc));
+    let program = with_command(program, lint::command(alloc));
+    let program = with_command(program, queue::command(alloc));
+    with_command(program, orders::command(alloc))
+}
+
+// The command line.
+fn command<'a>(alloc: Global) -> Built<'a> {
+    let program = with_plans(alloc, program(alloc));
+    with_others(alloc, with_accounts(alloc, program))
 }
 
 // Whether the word of this name stands for standard input.

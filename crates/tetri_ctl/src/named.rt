@@ -1,7 +1,5 @@
 // Traces and reports that a call names.
 use crate::said::{BAD_INPUT, READ_FAULT, unread};
-use clap::Arg;
-use std::alloc::Global;
 use tetri_pipes::PipeShelf;
 
 /// The shelf of the program: its files, pipes and standard input.
@@ -12,20 +10,6 @@ const TRACE_MOST: u64 = 67_108_864;
 
 // The bytes at most of a report that is kept in memory.
 const REPORT_MOST: u64 = 2_147_483_648;
-
-/// The word that names a trace.
-pub fn trace_word<'a>(alloc: Global) -> Arg<'a> {
-    Arg::new(alloc, "TRACE")
-        .required(true)
-        .help("the trace, a file or -")
-}
-
-/// The word that names a report.
-pub fn report_word<'a>(alloc: Global) -> Arg<'a> {
-    Arg::new(alloc, "REPORT")
-        .required(true)
-        .help("its report, a file or -")
-}
 
 /// Makes a trace ready to be read. Where it cannot be, that is said, and the error is the exit number.
 pub fn open_trace(rt: &HostRuntime, shelf: &mut Shelf<'_>, name: &str) -> Result<(), u8> {
@@ -41,4 +25,15 @@ pub fn open_report(rt: &HostRuntime, shelf: &mut Shelf<'_>, name: &str) -> Resul
         Ok(()) => Ok(()),
         Err(why) => Err(unread(rt, name, &why, READ_FAULT)),
     }
+}
+
+/// Makes a trace and a report of it ready to be read, as `open_trace` the trace.
+pub fn open_both(
+    rt: &HostRuntime,
+    shelf: &mut Shelf<'_>,
+    trace: &str,
+    report: &str,
+) -> Result<(), u8> {
+    open_trace(rt, shelf, trace)?;
+    open_report(rt, shelf, report)
 }

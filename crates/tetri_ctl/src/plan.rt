@@ -1,7 +1,9 @@
 // `tetri_ctl plan TRACE`
-use crate::named::{Shelf, open_trace, trace_word};
+use crate::advisors::seat;
+use crate::builders::{Built, choice, on_trace, with_word};
+use crate::named::{Shelf, open_trace};
 use crate::refusals::end_of;
-use clap::{Arg, ArgMatches, Command};
+use clap::{Arg, ArgMatches};
 use std::alloc::{AllocError, Global};
 use tetri_advice::{Advisor, Panel};
 use tetri_by_price::ByPrice;
@@ -25,18 +27,21 @@ enum Search {
 // The bytes of a plan's copies of dictionaries at most.
 const KEEP_BYTES: usize = 268_435_456;
 
+// The option that says how plans are searched for.
+fn search_word<'a>(alloc: Global) -> Arg<'a> {
+    let help = "how plans are searched for; exact is tetri plan [default: swift]";
+    choice(alloc, "search", &["exact", "prices", "swift"], help).value_name("HOW")
+}
+
 /// The words of the command.
-pub fn command<'a>(alloc: Global) -> Result<Command<'a>, AllocError> {
-    let search = Arg::new(alloc, "search")
-        .long("search")
-        .value_name("HOW")
-        .value_parser(["exact", "prices", "swift"].as_slice())
-        .help("how plans are searched for; exact is tetri plan [default: swift]");
-    Command::new(alloc, "plan")
-        .about("Plans a trace, and writes its report")
-        .after_help("Example: tetri_ctl import swf cluster.swf | tetri_ctl plan - > cluster.report")
-        .arg(trace_word(alloc))?
-        .arg(search)
+pub fn command<'a>(alloc: Global) -> Built<'a> {
+    let command = on_trace(
+        alloc,
+        "plan",
+        "Plans a trace, and writes its report",
+        "Example: tetri_ctl import swf cluster.swf | tetri_ctl plan - > cluster.report",
+    );
+    with_word(command, search_word(alloc))
 }
 
 fn search_of(words: &ArgMatches<'_>) -> Search {
@@ -47,35 +52,35 @@ fn search_of(words: &ArgMatches<'_>) -> Search {
     }
 }
 
-// Seats the two shipped advisors, and plans. Its only error is want of memory for a seat.
+// Seats the two shipped advisors, and plans as it is asked for. Its only error is want of memory for a seat.
 fn seat_and_plan(
     rt: &HostRuntime,
     shelf: &mut Shelf<'_>,
     trace: &str,
     search: Search,
 ) -> Result<Status, AllocError> {
-    let by_deadline: Box<dyn Advisor> = Box::new(rt.alloc(), ByDeadline::new())?;
-    let by_worth: Box<dyn Advisor> = Box::new(rt.alloc(), ByWorth::new())?;
     let mut panel = Panel::new(rt.alloc());
-    if panel.seat(by_deadline).is_err() || panel.seat(by_worth).is_err() {
-        return Err(AllocError);
-    }
+    let by_deadline: Box<dyn Advisor> = Box::new(rt.alloc(), ByDeadline::new())?;
+    seat(&mut panel, by_deadline)?;
+    let by_worth: Box<dyn Advisor> = Box::new(rt.alloc(), ByWorth::new())?;
+    seat(&mut panel, by_worth)?;
     let mut sink = StdSink::new(rt.stdout());
-    match search {
-        Search::Exact => Ok(run_plan(rt.alloc(), trace, shelf, &mut sink, &mut panel)),
+    let status = match search {
+        Search::Exact => run_plan(rt.alloc(), trace, shelf, &mut sink, &mut panel),
         Search::Prices => {
             let mut planner = ByChooser {
                 chooser: Sooner::new(ByPrice::new(panel)),
             };
-            Ok(run_chosen(rt.alloc(), trace, shelf, &mut sink, &mut planner))
+            run_chosen(rt.alloc(), trace, shelf, &mut sink, &mut planner)
         }
         Search::Swift => {
             let mut planner = ByChooser {
                 chooser: Sooner::new(BySwift::new(panel, KEEP_BYTES)),
             };
-            Ok(run_chosen(rt.alloc(), trace, shelf, &mut sink, &mut planner))
+            run_chosen(rt.alloc(), trace, shelf, &mut sink, &mut planner)
         }
-    }
+    };
+    Ok(status)
 }
 
 /// Plans what the words name, and gives the exit number.

@@ -1,11 +1,12 @@
 // `tetri_ctl queue --jobs FILE --nodes FILE`
+use crate::builders::{Built, choice, flag, number, titled, valued, with_word};
 use crate::said::{
-    BAD_INPUT, NO_MEMORY, READ_FAULT, REFUSED, USAGE, WRITE_FAULT, complain, unread,
+    BAD_INPUT, NO_MEMORY, READ_FAULT, REFUSED, USAGE, WRITE_FAULT, complain, unread, write_output,
 };
-use clap::{Arg, ArgAction, ArgMatches, Command, value_parser};
+use clap::{Arg, ArgMatches};
 use std::alloc::{AllocError, Global};
 use std::fs;
-use tetri_io::{StdSink, parts_at, send_all};
+use tetri_io::parts_at;
 use tetri_logs::seconds_in;
 use tetri_pipes::{Unread, read_whole};
 use tetri_queue::{
@@ -14,96 +15,157 @@ use tetri_queue::{
 };
 use tetri_request::Class;
 
+// What the files hold.
+#[derive(Drop)]
+struct Files {
+    jobs: Vec<u8>,
+    arrays: Vec<u8>,
+    nodes: Vec<u8>,
+    reservations: Vec<u8>,
+}
+
 // An option that names a file.
 fn file<'a>(alloc: Global, name: &'a str, help: &'a str) -> Arg<'a> {
-    Arg::new(alloc, name)
-        .long(name)
-        .value_name("FILE")
-        .help(help)
+    valued(alloc, name, "FILE", help)
 }
 
-// An option that holds a number.
-fn number<'a>(alloc: Global, name: &'a str, help: &'a str) -> Arg<'a> {
-    Arg::new(alloc, name)
-        .long(name)
-        .value_name("N")
-        .value_parser(value_parser!(u32))
-        .help(help)
-}
-
-// With the files.
-fn with_files<'a>(alloc: Global, command: Command<'a>) -> Result<Command<'a>, AllocError> {
-    command
-        .arg(file(alloc, "jobs", "the lines of squeue, a file or -").required(true))?
-        .arg(file(
+// With the files of jobs and of nodes.
+fn with_files<'a>(alloc: Global, command: Built<'a>) -> Built<'a> {
+    let command = with_word(
+        command,
+        file(alloc, "jobs", "the lines of squeue, a file or -").required(true),
+    );
+    let command = with_word(
+        command,
+        file(
             alloc,
             "arrays",
             "the pending arrays, as 6_[0-3%2], which squeue prints without -r, a file or -",
-        ))?
-        .arg(file(alloc, "nodes", "the lines of sinfo, a file or -").required(true))?
-        .arg(file(
+        ),
+    );
+    with_word(
+        command,
+        file(alloc, "nodes", "the lines of sinfo, a file or -").required(true),
+    )
+}
+
+// With the files of reservations, and of lines that are not taken.
+fn with_more_files<'a>(alloc: Global, command: Built<'a>) -> Built<'a> {
+    let command = with_word(
+        command,
+        file(
             alloc,
             "reservations",
             "the lines of scontrol show reservation --oneliner, a file or -",
-        ))?
-        .arg(file(
+        ),
+    );
+    with_word(
+        command,
+        file(
             alloc,
             "rejects",
             "write there each line of the jobs that is not taken, behind what becomes of it",
-        ))
+        ),
+    )
 }
 
-// With what is asked of the jobs.
-fn with_jobs<'a>(alloc: Global, command: Command<'a>) -> Result<Command<'a>, AllocError> {
-    command
-        .arg(
-            Arg::new(alloc, "worth")
-                .long("worth")
-                .value_parser(["node-slots", "priority"].as_slice())
-                .help("what a job is worth [default: node-slots]"),
-        )?
-        .arg(number(
+// With what is asked of the cycle.
+fn with_cycle<'a>(alloc: Global, command: Built<'a>) -> Built<'a> {
+    let command = with_word(
+        command,
+        valued(
+            alloc,
+            "now",
+            "TIME",
+            "when slot 0 begins, by the manager's clock",
+        ),
+    );
+    let command = with_word(
+        command,
+        number(alloc, "slot", "N", "seconds of a slot [default: 60]"),
+    );
+    let command = with_word(
+        command,
+        number(
+            alloc,
+            "window",
+            "N",
+            "slots in which leaves may start [default: 16]",
+        ),
+    );
+    with_word(
+        command,
+        number(
+            alloc,
+            "budget",
+            "N",
+            "nodes of a search tree [default: 200]",
+        ),
+    )
+}
+
+// With what a job is worth.
+fn with_worth<'a>(alloc: Global, command: Built<'a>) -> Built<'a> {
+    let command = with_word(
+        command,
+        choice(
+            alloc,
+            "worth",
+            &["node-slots", "priority"],
+            "what a job is worth [default: node-slots]",
+        ),
+    );
+    with_word(
+        command,
+        number(
             alloc,
             "waiting",
+            "N",
             "how many times its node-slots a job is worth more for each slot that it has waited [default: 0]",
-        ))?
-        .arg(number(alloc, "slack", "slots that a job may wait [default: 288]"))?
-        .arg(
-            Arg::new(alloc, "class")
-                .long("class")
-                .value_parser(["decay", "steady"].as_slice())
-                .help("whether waiting costs [default: decay]"),
-        )?
-        .arg(
-            Arg::new(alloc, "whole")
-                .long("whole")
-                .action(ArgAction::SetTrue)
-                .help("each job is given whole nodes, whatever its line says of sharing"),
-        )
+        ),
+    )
+}
+
+// With how a job may wait, and what it is given.
+fn with_waits<'a>(alloc: Global, command: Built<'a>) -> Built<'a> {
+    let command = with_word(
+        command,
+        number(
+            alloc,
+            "slack",
+            "N",
+            "slots that a job may wait [default: 288]",
+        ),
+    );
+    let command = with_word(
+        command,
+        choice(
+            alloc,
+            "class",
+            &["decay", "steady"],
+            "whether waiting costs [default: decay]",
+        ),
+    );
+    with_word(
+        command,
+        flag(
+            alloc,
+            "whole",
+            "each job is given whole nodes, whatever its line says of sharing",
+        ),
+    )
 }
 
 /// The words of the command.
-pub fn command<'a>(alloc: Global) -> Result<Command<'a>, AllocError> {
-    let command = Command::new(alloc, "queue")
-        .about("Writes the trace of one cycle of a resource manager's queue")
-        .after_help(
-            "Example: tetri_ctl queue --jobs jobs.txt --nodes nodes.txt --slot 60 > cycle.jsonl",
-        );
-    let command = with_files(alloc, command)?
-        .arg(
-            Arg::new(alloc, "now")
-                .long("now")
-                .value_name("TIME")
-                .help("when slot 0 begins, by the manager's clock"),
-        )?
-        .arg(number(alloc, "slot", "seconds of a slot [default: 60]"))?
-        .arg(number(
-            alloc,
-            "window",
-            "slots in which leaves may start [default: 16]",
-        ))?
-        .arg(number(alloc, "budget", "nodes of a search tree [default: 200]"))?;
-    with_jobs(alloc, command)
+pub fn command<'a>(alloc: Global) -> Built<'a> {
+    let command = titled(
+        alloc,
+        "queue",
+        "Writes the trace of one cycle of a resource manager's queue",
+        "Example: tetri_ctl queue --jobs jobs.txt --nodes nodes.txt --slot 60 > cycle.jsonl",
+    );
+    let command = with_more_files(alloc, with_files(alloc, command));
+    with_waits(alloc, with_worth(alloc, with_cycle(alloc, command)))
 }
 
 // All that a file has.
@@ -137,29 +199,51 @@ fn second_in(text: &str) -> Option<u32> {
     }
 }
 
+// The time that is given, if one is; `None` where it is no time.
+fn now_of(words: &ArgMatches<'_>) -> Option<Option<u32>> {
+    match words.get_str("now") {
+        Some(text) => second_in(text).map(Some),
+        None => Some(None),
+    }
+}
+
+fn worth_of(words: &ArgMatches<'_>) -> QueueWorth {
+    match words.get_str("worth") {
+        Some("priority") => QueueWorth::Priority,
+        _ => QueueWorth::NodeSlots,
+    }
+}
+
+fn class_of(words: &ArgMatches<'_>) -> Class {
+    match words.get_str("class") {
+        Some("steady") => Class::Steady,
+        _ => Class::Decay,
+    }
+}
+
 // What the words ask for. `None` where the time is no time.
 fn asked_of(words: &ArgMatches<'_>) -> Option<Asked> {
-    let now = match words.get_str("now") {
-        Some(text) => Some(second_in(text)?),
-        None => None,
-    };
+    let now = now_of(words)?;
     Some(Asked {
         slot: number_of(words, "slot", 60),
         window: number_of(words, "window", 16),
         budget: number_of(words, "budget", 200),
         slack: number_of(words, "slack", 288),
         waiting: number_of(words, "waiting", 0),
-        worth: match words.get_str("worth") {
-            Some("priority") => QueueWorth::Priority,
-            _ => QueueWorth::NodeSlots,
-        },
-        class: match words.get_str("class") {
-            Some("steady") => Class::Steady,
-            _ => Class::Decay,
-        },
+        worth: worth_of(words),
+        class: class_of(words),
         whole: words.get_flag("whole"),
         now,
     })
+}
+
+// Adds a line behind the word of what becomes of it.
+fn add_reject(text: &mut Vec<u8>, line: &[u8], fate: Fate) -> Result<(), AllocError> {
+    text.extend_from_slice(fate_word(fate).as_bytes())?;
+    text.push(b'\t')?;
+    text.extend_from_slice(line)?;
+    text.push(b'\n')?;
+    Ok(())
 }
 
 // The lines of the jobs that are not taken, each behind the word of what becomes of it.
@@ -168,13 +252,27 @@ fn rejects_text(rt: &HostRuntime, jobs: &[u8], queue: &Queue) -> Result<Vec<u8>,
     let lines = parts_at(rt.alloc(), b'\n', jobs)?;
     for (line, fate) in lines.iter().zip(queue.fates.iter()) {
         if *fate != Fate::Taken && *fate != Fate::Blank {
-            text.extend_from_slice(fate_word(*fate).as_bytes())?;
-            text.push(b'\t')?;
-            text.extend_from_slice(line)?;
-            text.push(b'\n')?;
+            add_reject(&mut text, line, *fate)?;
         }
     }
     Ok(text)
+}
+
+// Writes each line of the jobs that is not taken into a file, and gives the exit number.
+fn write_rejects(
+    rt: &HostRuntime,
+    name: &str,
+    jobs: &[u8],
+    queue: &Queue,
+) -> Result<u8, AllocError> {
+    let text = rejects_text(rt, jobs, queue)?;
+    match fs::write(rt, name, text.as_slice()) {
+        Ok(()) => Ok(0),
+        Err(error) => {
+            let _said = eprintln!(rt; "tetri_ctl: {name}: {error}");
+            Ok(WRITE_FAULT)
+        }
+    }
 }
 
 // Writes the trace, and says what became of the lines.
@@ -186,16 +284,13 @@ fn write_out(
 ) -> Result<u8, AllocError> {
     let counts = counts_text(rt.alloc(), queue)?;
     if let Some(name) = rejects {
-        let text = rejects_text(rt, jobs, queue)?;
-        if let Err(error) = fs::write(rt, name, text.as_slice()) {
-            let _said = eprintln!(rt; "tetri_ctl: {name}: {error}");
-            return Ok(WRITE_FAULT);
+        let number = write_rejects(rt, name, jobs, queue)?;
+        if number != 0 {
+            return Ok(number);
         }
     }
-    let mut out = StdSink::new(rt.stdout());
-    if send_all(&mut out, queue.trace.as_bytes()).is_err() {
-        complain(rt, "standard output", "write fault");
-        return Ok(WRITE_FAULT);
+    if let Err(number) = write_output(rt, queue.trace.as_bytes()) {
+        return Ok(number);
     }
     let _told = rt.eprint(counts.as_str());
     Ok(0)
@@ -212,20 +307,32 @@ fn refuse(rt: &HostRuntime, fault: QueueFault) -> u8 {
     }
 }
 
+// The files that the words name.
+fn files_of(rt: &HostRuntime, words: &ArgMatches<'_>) -> Result<Files, u8> {
+    Ok(Files {
+        jobs: read(rt, words.get_str("jobs"))?,
+        arrays: read(rt, words.get_str("arrays"))?,
+        nodes: read(rt, words.get_str("nodes"))?,
+        reservations: read(rt, words.get_str("reservations"))?,
+    })
+}
+
+// The trace of what files hold.
+fn trace_of(rt: &HostRuntime, asked: &Asked, files: &Files) -> Result<Queue, QueueFault> {
+    let texts = QueueTexts {
+        jobs: &files.jobs,
+        arrays: &files.arrays,
+        nodes: &files.nodes,
+        reservations: &files.reservations,
+    };
+    queue_trace(rt.alloc(), asked, texts)
+}
+
 // Writes the trace of what the words name, and gives the exit number.
 fn run_asked(rt: &HostRuntime, asked: &Asked, words: &ArgMatches<'_>) -> Result<u8, u8> {
-    let jobs = read(rt, words.get_str("jobs"))?;
-    let arrays = read(rt, words.get_str("arrays"))?;
-    let nodes = read(rt, words.get_str("nodes"))?;
-    let reservations = read(rt, words.get_str("reservations"))?;
-    let texts = QueueTexts {
-        jobs: &jobs,
-        arrays: &arrays,
-        nodes: &nodes,
-        reservations: &reservations,
-    };
-    match queue_trace(rt.alloc(), asked, texts) {
-        Ok(queue) => match write_out(rt, &jobs, words.get_str("rejects"), &queue) {
+    let files = files_of(rt, words)?;
+    match trace_of(rt, asked, &files) {
+        Ok(queue) => match write_out(rt, &files.jobs, words.get_str("rejects"), &queue) {
             Ok(number) => Ok(number),
             Err(AllocError) => Err(refuse(rt, QueueFault::NoMemory)),
         },

@@ -1,6 +1,6 @@
 // What is said of how a call ended, and the number with which the program exits.
 use std::{fs, io};
-use tetri_io::StdSink;
+use tetri_io::{StdSink, send_all};
 use tetri_pipes::Unread;
 use tetri_run::{Status, conclude};
 
@@ -69,6 +69,18 @@ pub fn unread(rt: &HostRuntime, name: &str, why: &Unread, too_long: u8) -> u8 {
         Unread::NoMemory => {
             complain(rt, name, "out of memory");
             NO_MEMORY
+        }
+    }
+}
+
+/// Writes a text to standard output. Where it cannot be written, that is said, and the error is the exit number.
+pub fn write_output(rt: &HostRuntime, text: &[u8]) -> Result<(), u8> {
+    let mut out = StdSink::new(rt.stdout());
+    match send_all(&mut out, text) {
+        Ok(()) => Ok(()),
+        Err(_) => {
+            complain(rt, "standard output", "write fault");
+            Err(WRITE_FAULT)
         }
     }
 }

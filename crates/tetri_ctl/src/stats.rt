@@ -2,28 +2,30 @@
 ghost use Rattle.tetri_trace.specs.Scenario.{scenario};
 ghost use Rattle.tetri_trace.specs.Sound.{IsSound};
 
-use crate::accounted::{Run, account_in, format_of, format_word, policy_word, prices_word, send};
-use crate::named::{Shelf, report_word, trace_word};
-use clap::{Arg, ArgMatches, Command};
+use crate::accounted::{Run, account_in, format_of, format_word, on_run, prices_word, send};
+use crate::builders::{Built, choice, with_word};
+use crate::named::Shelf;
+use clap::{Arg, ArgMatches};
 use std::alloc::{AllocError, Global};
 use tetri_figures::{By, stats_text, tags_of};
 
+// The option that asks for more columns.
+fn by_word<'a>(alloc: Global) -> Arg<'a> {
+    let help = "a column for each tag of nodes, or for each class of jobs, too";
+    choice(alloc, "by", &["tag", "class"], help).value_name("WHAT")
+}
+
 /// The words of the command.
-pub fn command<'a>(alloc: Global) -> Result<Command<'a>, AllocError> {
-    let by = Arg::new(alloc, "by")
-        .long("by")
-        .value_name("WHAT")
-        .value_parser(["tag", "class"].as_slice())
-        .help("a column for each tag of nodes, or for each class of jobs, too");
-    Command::new(alloc, "stats")
-        .about("Tells figures of a run: waits, use of nodes, worth, cycles")
-        .after_help("Example: tetri_ctl stats day.jsonl day.report --by tag")
-        .arg(trace_word(alloc))?
-        .arg(report_word(alloc).required(false))?
-        .arg(policy_word(alloc))?
-        .arg(by)?
-        .arg(prices_word(alloc))?
-        .arg(format_word(alloc))
+pub fn command<'a>(alloc: Global) -> Built<'a> {
+    let command = on_run(
+        alloc,
+        "stats",
+        "Tells figures of a run: waits, use of nodes, worth, cycles",
+        "Example: tetri_ctl stats day.jsonl day.report --by tag",
+    );
+    let command = with_word(command, by_word(alloc));
+    let command = with_word(command, prices_word(alloc));
+    with_word(command, format_word(alloc))
 }
 
 fn by_of(words: &ArgMatches<'_>) -> By {

@@ -1,6 +1,9 @@
 // Accounts as text, over memory. A table gives traces and reports, and below them wants what is told of them: by a section `jobs FORMAT`,
 // `stats FORMAT BY` or `compare FORMAT`, which has the text, or the words of what refuses the report; by `priced FORMAT BY`, the figures with
 // those of the bounds that prices make; and by `fcfs FORMAT BY` or `easy FORMAT BY`, the figures of the trace's run by that policy.
+ghost use Rattle.tetri_trace.specs.Scenario.{scenario};
+ghost use Rattle.tetri_trace.specs.Sound.{IsSound};
+
 use std::alloc::{AllocError, Global};
 use std::fmt::Write;
 use tetri_accounts::{Account, account_policy, account_report};
@@ -12,6 +15,7 @@ use tetri_policy::Policy;
 use tetri_priced::{BySearch, Noting, Wanted};
 use tetri_run::{Status, check_seen, conclude};
 use tetri_tables::{Given, Tally, answer, sections_of, text_in};
+use tetri_trace::Trace;
 
 fn format_of(word: &str) -> Format {
     match word {
@@ -91,19 +95,22 @@ fn crowd_told(alloc: Global, jobs: u32) -> Result<String, AllocError> {
     format!(in alloc; "{lines} lines, {bytes} bytes")
 }
 
+// The lines of figures that are of the bounds that prices make.
+fn priced_lines(alloc: Global, text: &str) -> Result<String, AllocError> {
+    let mut lines = String::new(alloc);
+    for line in text.lines() {
+        if line.starts_with("priced ") {
+            write!(lines, "{line}\n")?;
+        }
+    }
+    Ok(lines)
+}
+
 // The last two lines of the figures of such a crowd, those of the bounds that prices make.
 fn crowd_priced(alloc: Global, jobs: u32) -> Result<String, AllocError> {
     let given = crowd(alloc, jobs)?;
     let text = told(alloc, &given, "priced table")?;
-    let all = text_in(alloc, &text)?;
-    let mut lines = String::new(alloc);
-    for line in all.as_str().lines() {
-        if line.starts_with("priced ") {
-            lines.push_str(line)?;
-            lines.push_str("\n")?;
-        }
-    }
-    Ok(lines)
+    priced_lines(alloc, str::from_utf8(&text).unwrap_or("not text"))
 }
 
 // The figures of the run of a trace by a policy.
@@ -111,16 +118,16 @@ fn told_by(
     alloc: Global,
     given: &Given,
     policy: Policy,
-    by: By,
-    format: Format,
+    wish: Wish<'_>,
 ) -> Result<Vec<u8>, AllocError> {
     let mut shelf = shelf_of(alloc, given)?;
-    let Ok(trace) = answer(alloc, given.trace.as_bytes())? else {
-        return Vec::from_slice(alloc, b"the trace is not read");
-    };
-    let account = account_policy(alloc, &trace, policy)?;
-    let tags = tags_of(alloc, &mut shelf, "trace")?;
-    stats_text(alloc, &trace, &account, Bounds::Absent, by, &tags, format)
+    match answer(alloc, given.trace.as_bytes())? {
+        Ok(trace) => {
+            let account = account_policy(alloc, &trace, policy)?;
+            stats_told(alloc, &mut shelf, &trace, &account, Bounds::Absent, wish)
+        }
+        Err(_) => Vec::from_slice(alloc, b"the trace is not read"),
+    }
 }
 
 // What prices make of the bounds of a report that is accepted.
@@ -132,42 +139,149 @@ fn priced_in(alloc: Global, shelf: &mut MemShelf) -> Bounds {
     }
 }
 
-// What is told by these words.
-fn told(alloc: Global, given: &Given, kind: &str) -> Result<Vec<u8>, AllocError> {
+// What a section asks for: which figures, over which groups, in which format.
+#[derive(Clone, Copy)]
+struct Wish<'a> {
+    what: &'a str,
+    format: Format,
+    by: By,
+}
+
+fn wish_of(kind: &str) -> Wish<'_> {
     let mut words = kind.split(' ');
-    let what = words.next().unwrap_or("");
-    let format = format_of(words.next().unwrap_or(""));
-    let by = by_of(words.next().unwrap_or(""));
-    match what {
-        "fcfs" => return told_by(alloc, given, Policy::FirstCome, by, format),
-        "easy" => return told_by(alloc, given, Policy::Backfill, by, format),
-        _ => {}
+    Wish {
+        what: words.next().unwrap_or(""),
+        format: format_of(words.next().unwrap_or("")),
+        by: by_of(words.next().unwrap_or("")),
     }
-    let mut shelf = shelf_of(alloc, given)?;
-    let (trace, first) = match account_report(alloc, "trace", "report", &mut shelf) {
-        Ok(both) => both,
-        Err(status) => return said(alloc, &status),
-    };
-    match what {
-        "jobs" => jobs_text(alloc, &trace, first.rows.as_slice(), format),
-        "stats" => {
-            let tags = tags_of(alloc, &mut shelf, "trace")?;
-            stats_text(alloc, &trace, &first, Bounds::Printed, by, &tags, format)
-        }
-        "priced" => {
-            let bounds = priced_in(alloc, &mut shelf);
-            let tags = tags_of(alloc, &mut shelf, "trace")?;
-            stats_text(alloc, &trace, &first, bounds, by, &tags, format)
-        }
-        _ => {
-            let second = match account_report(alloc, "trace", "report", &mut shelf) {
-                Ok((_trace, second)) => second,
-                Err(status) => return said(alloc, &status),
-            };
+}
+
+// The figures of a report's account, with these bounds.
+fn stats_told(
+    alloc: Global,
+    shelf: &mut MemShelf,
+    trace: &Trace,
+    account: &Account,
+    bounds: Bounds,
+    wish: Wish<'_>,
+) -> Result<Vec<u8>, AllocError>
+    requires { IsSound (scenario trace.now) }
+{
+    let tags = tags_of(alloc, shelf, "trace")?;
+    stats_text(alloc, trace, account, bounds, wish.by, &tags, wish.format)
+}
+
+// The report beside itself.
+fn compared_told(
+    alloc: Global,
+    shelf: &mut MemShelf,
+    trace: &Trace,
+    first: Account,
+    format: Format,
+) -> Result<Vec<u8>, AllocError>
+    requires { IsSound (scenario trace.now) }
+{
+    match account_report(alloc, "trace", "report", shelf) {
+        Ok((_trace, second)) => {
             let mut runs = Vec::new(alloc);
             put(alloc, "one", first, &mut runs)?;
             put(alloc, "two", second, &mut runs)?;
-            compare_text(alloc, &trace, &runs, format)
+            compare_text(alloc, trace, &runs, format)
+        }
+        Err(status) => said(alloc, &status),
+    }
+}
+
+// What is told of a report's account.
+fn account_told(
+    alloc: Global,
+    shelf: &mut MemShelf,
+    trace: &Trace,
+    account: Account,
+    wish: Wish<'_>,
+) -> Result<Vec<u8>, AllocError>
+    requires { IsSound (scenario trace.now) }
+{
+    match wish.what {
+        "jobs" => jobs_text(alloc, trace, account.rows.as_slice(), wish.format),
+        "stats" => stats_told(alloc, shelf, trace, &account, Bounds::Printed, wish),
+        "priced" => {
+            let bounds = priced_in(alloc, shelf);
+            stats_told(alloc, shelf, trace, &account, bounds, wish)
+        }
+        _ => compared_told(alloc, shelf, trace, account, wish.format),
+    }
+}
+
+// What is told of the report, or what is said where it is refused.
+fn report_told(alloc: Global, given: &Given, wish: Wish<'_>) -> Result<Vec<u8>, AllocError> {
+    let mut shelf = shelf_of(alloc, given)?;
+    match account_report(alloc, "trace", "report", &mut shelf) {
+        Ok((trace, account)) => account_told(alloc, &mut shelf, &trace, account, wish),
+        Err(status) => said(alloc, &status),
+    }
+}
+
+// What is told by these words.
+fn told(alloc: Global, given: &Given, kind: &str) -> Result<Vec<u8>, AllocError> {
+    let wish = wish_of(kind);
+    match wish.what {
+        "fcfs" => told_by(alloc, given, Policy::FirstCome, wish),
+        "easy" => told_by(alloc, given, Policy::Backfill, wish),
+        _ => report_told(alloc, given, wish),
+    }
+}
+
+// Expects a text, but for the line feeds at the end of what is found.
+fn expect_text(
+    alloc: Global,
+    tally: &mut Tally,
+    given: &Given,
+    kind: &str,
+    body: &str,
+) -> Result<(), AllocError> {
+    let found = told(alloc, given, kind)?;
+    let text = text_in(alloc, &found)?;
+    tally.expect(kind, text.as_str().trim_end_matches('\n'), body)
+}
+
+fn expect_crowd(
+    alloc: Global,
+    tally: &mut Tally,
+    kind: &str,
+    jobs: &str,
+    body: &str,
+) -> Result<(), AllocError> {
+    let found = crowd_told(alloc, jobs.parse::<u32>().unwrap_or(0))?;
+    tally.expect(kind, found.as_str(), body)
+}
+
+fn expect_priced_crowd(
+    alloc: Global,
+    tally: &mut Tally,
+    kind: &str,
+    jobs: &str,
+    body: &str,
+) -> Result<(), AllocError> {
+    let found = crowd_priced(alloc, jobs.parse::<u32>().unwrap_or(0))?;
+    tally.expect(kind, found.as_str().trim_end_matches('\n'), body)
+}
+
+fn judge_section(
+    alloc: Global,
+    given: &mut Given,
+    tally: &mut Tally,
+    kind: &str,
+    body: &str,
+) -> Result<(), AllocError> {
+    match kind.split_once(' ') {
+        Some(("crowd", jobs)) => expect_crowd(alloc, tally, kind, jobs, body),
+        Some(("priced-crowd", jobs)) => expect_priced_crowd(alloc, tally, kind, jobs, body),
+        _ => {
+            if given.take(alloc, kind, body)? {
+                return Ok(());
+            }
+            expect_text(alloc, tally, given, kind, body)
         }
     }
 }
@@ -176,18 +290,8 @@ fn told(alloc: Global, given: &Given, kind: &str) -> Result<Vec<u8>, AllocError>
 pub fn judge(alloc: Global, table: &str) -> Result<Tally, AllocError> {
     let mut tally = Tally::new(alloc);
     let mut given = Given::new(alloc);
-    for (kind, body) in sections_of(alloc, table)?.as_slice() {
-        if let Some(jobs) = kind.strip_prefix("crowd ") {
-            let found = crowd_told(alloc, jobs.parse::<u32>().unwrap_or(0))?;
-            tally.expect(kind, found.as_str(), body)?;
-        } else if let Some(jobs) = kind.strip_prefix("priced-crowd ") {
-            let found = crowd_priced(alloc, jobs.parse::<u32>().unwrap_or(0))?;
-            tally.expect(kind, found.as_str().trim_end_matches('\n'), body)?;
-        } else if !given.take(alloc, kind, body)? {
-            let found = told(alloc, &given, kind)?;
-            let text = text_in(alloc, &found)?;
-            tally.expect(kind, text.as_str().trim_end_matches('\n'), body)?;
-        }
+    for (kind, body) in sections_of(alloc, table)? {
+        judge_section(alloc, &mut given, &mut tally, kind, body)?;
     }
     Ok(tally)
 }

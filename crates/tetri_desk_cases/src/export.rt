@@ -1,4 +1,8 @@
 // Programs of cycles as texts: what is written of them, and what is said where there is none.
+ghost use Rattle.tetri_trace.specs.Scenario.{scenario};
+ghost use Rattle.tetri_trace.specs.Sound.{IsSound};
+
+use crate::panels::seat;
 use std::alloc::{AllocError, Global};
 use tetri_advice::{Advisor, Panel};
 use tetri_export::Format;
@@ -7,49 +11,62 @@ use tetri_io::{MemShelf, MemSink};
 use tetri_programs::{Exported, export_cycle, export_report};
 use tetri_run::{Status, say, status_of};
 use tetri_tables::{Given, Tally, sections_of, text_in};
-use tetri_trace::read_trace;
+use tetri_trace::{Trace, read_trace};
 
-// What a section asks for: whether of the report's run, in which format, and of which cycle.
+// What a section asks for: whether for the size alone, whether of the report's run, in which format, and of which cycle.
 #[derive(Clone, Copy)]
 struct Wish {
+    is_size: bool,
     is_report: bool,
     format: Format,
     cycle: u32,
 }
 
-// The wish that words say, as `plan lp 0` and `report mps 3`.
+fn format_of(word: &str) -> Format {
+    match word {
+        "mps" => Format::Mps,
+        _ => Format::Lp,
+    }
+}
+
+// The wish that words say, as `plan lp 0`, `report mps 3` and `size plan lp 0`.
 fn wish_of(words: &str) -> Option<Wish> {
+    let (is_size, words) = match words.strip_prefix("size ") {
+        Some(words) => (true, words),
+        None => (false, words),
+    };
     let (whose, rest) = words.split_once(' ')?;
     let (format, cycle) = rest.split_once(' ')?;
     Some(Wish {
+        is_size,
         is_report: whose == "report",
-        format: if format == "mps" {
-            Format::Mps
-        } else {
-            Format::Lp
-        },
+        format: format_of(format),
         cycle: cycle.parse::<u32>().ok()?,
     })
 }
 
-// A cycle of the plan of the trace, with the two shipped advisors.
+// A cycle of the plan of a trace, with the two shipped advisors.
+fn cycle_exported(alloc: Global, trace: &Trace, wish: Wish) -> Result<Exported, AllocError>
+    requires { IsSound (scenario trace.now) }
+{
+    let mut panel = Panel::new(alloc);
+    let by_deadline: Box<dyn Advisor> = Box::new(alloc, ByDeadline::new())?;
+    seat(&mut panel, by_deadline)?;
+    let by_worth: Box<dyn Advisor> = Box::new(alloc, ByWorth::new())?;
+    seat(&mut panel, by_worth)?;
+    export_cycle(alloc, trace, wish.cycle, wish.format, &mut panel)
+}
+
+// The same of the trace on the shelf, or what refuses it.
 fn planned(
     alloc: Global,
     shelf: &mut MemShelf,
     wish: Wish,
 ) -> Result<Result<Exported, Status>, AllocError> {
-    let trace = match read_trace(alloc, shelf, "trace") {
-        Ok(trace) => trace,
-        Err(fault) => return Ok(Err(status_of(fault))),
-    };
-    let by_deadline: Box<dyn Advisor> = Box::new(alloc, ByDeadline::new())?;
-    let by_worth: Box<dyn Advisor> = Box::new(alloc, ByWorth::new())?;
-    let mut panel = Panel::new(alloc);
-    if panel.seat(by_deadline).is_err() || panel.seat(by_worth).is_err() {
-        return Err(AllocError);
+    match read_trace(alloc, shelf, "trace") {
+        Ok(trace) => Ok(Ok(cycle_exported(alloc, &trace, wish)?)),
+        Err(fault) => Ok(Err(status_of(fault))),
     }
-    let exported = export_cycle(alloc, &trace, wish.cycle, wish.format, &mut panel)?;
-    Ok(Ok(exported))
 }
 
 // What comes of a wish.
@@ -92,6 +109,24 @@ fn size_of(alloc: Global, text: &str) -> Result<String, AllocError> {
     format!(in alloc; "{line}, {lines} lines, {bytes} bytes\n")
 }
 
+// The shelf with the trace and the report.
+fn shelf_of(alloc: Global, given: &Given) -> Result<MemShelf, AllocError> {
+    let mut shelf = MemShelf::new(alloc, 65_536, &[])?;
+    shelf.put("trace", given.trace.as_bytes())?;
+    shelf.put("report", given.report.as_bytes())?;
+    Ok(shelf)
+}
+
+// The text that is wished for, or its size.
+fn found_for(alloc: Global, given: &Given, wish: Wish) -> Result<String, AllocError> {
+    let mut shelf = shelf_of(alloc, given)?;
+    let text = told(alloc, exported(alloc, &mut shelf, wish)?)?;
+    if wish.is_size {
+        return size_of(alloc, text.as_str());
+    }
+    Ok(text)
+}
+
 // Tries a section that asks for a text, or for its size.
 fn judge_text(
     alloc: Global,
@@ -100,23 +135,12 @@ fn judge_text(
     kind: &str,
     body: &str,
 ) -> Result<(), AllocError> {
-    let (is_size, words) = match kind.strip_prefix("size ") {
-        Some(words) => (true, words),
-        None => (false, kind),
-    };
-    let Some(wish) = wish_of(words) else {
+    let Some(wish) = wish_of(kind) else {
         return tally.expect(kind, "no such kind", "");
     };
-    let mut shelf = MemShelf::new(alloc, 65_536, &[])?;
-    shelf.put("trace", given.trace.as_bytes())?;
-    shelf.put("report", given.report.as_bytes())?;
-    let text = told(alloc, exported(alloc, &mut shelf, wish)?)?;
+    let found = found_for(alloc, given, wish)?;
     let wanted = format!(in alloc; "{body}\n")?;
-    if is_size {
-        let size = size_of(alloc, text.as_str())?;
-        return tally.expect(kind, size.as_str(), wanted.as_str());
-    }
-    tally.expect(kind, text.as_str(), wanted.as_str())
+    tally.expect(kind, found.as_str(), wanted.as_str())
 }
 
 /// Tries the sections of a table.

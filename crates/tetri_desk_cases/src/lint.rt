@@ -40,26 +40,39 @@ fn in_short(alloc: Global, text: &str) -> Result<String, AllocError> {
     format!(in alloc; "{count} lines, the last: {last}")
 }
 
+// What is said of the trace, in a section of this kind.
+fn said_by(alloc: Global, kind: &str, trace: &str) -> Result<String, AllocError> {
+    let content = trace.as_bytes();
+    match kind {
+        "lint of a failed read" => said(alloc, content, &[1]),
+        "lint of a failed second reading" => said(alloc, content, &[3]),
+        _ => said(alloc, content, &[]),
+    }
+}
+
+fn expect_said(
+    alloc: Global,
+    tally: &mut Tally,
+    kind: &str,
+    trace: &str,
+    body: &str,
+) -> Result<(), AllocError> {
+    let text = said_by(alloc, kind, trace)?;
+    if kind == "lint in short" {
+        let short = in_short(alloc, text.as_str())?;
+        return tally.expect(kind, short.as_str(), body);
+    }
+    tally.expect(kind, text.as_str().trim_end_matches('\n'), body)
+}
+
 /// Judges the cases of a table.
 pub fn judge(alloc: Global, table: &str) -> Result<Tally, AllocError> {
     let mut given = Given::new(alloc);
     let mut tally = Tally::new(alloc);
     for (kind, body) in sections_of(alloc, table)? {
-        if given.take(alloc, kind, body)? {
-            continue;
+        if !given.take(alloc, kind, body)? {
+            expect_said(alloc, &mut tally, kind, given.trace.as_str(), body)?;
         }
-        let content = given.trace.as_bytes();
-        let text = match kind {
-            "lint of a failed read" => said(alloc, content, &[1])?,
-            "lint of a failed second reading" => said(alloc, content, &[3])?,
-            _ => said(alloc, content, &[])?,
-        };
-        if kind == "lint in short" {
-            let short = in_short(alloc, text.as_str())?;
-            tally.expect(kind, short.as_str(), body)?;
-            continue;
-        }
-        tally.expect(kind, text.as_str().trim_end_matches('\n'), body)?;
     }
     Ok(tally)
 }

@@ -5,39 +5,72 @@
 mod accounts;
 mod export;
 mod lint;
+mod panels;
 mod policies;
 mod prices;
 mod queue;
 mod swift;
 
+use std::alloc::{AllocError, Global};
 use std::{env, fs, io};
 use tetri_tables::Tally;
 
-// Judges the cases of a table. None where nothing is tried by such a name.
-fn judge(rt: &HostRuntime, name: &str, text: &str) -> io::Result<Option<Tally>> {
-    let kind = name.split(['-', '.']).next().unwrap_or("");
+// What the cases of a table try.
+#[derive(Clone, Copy)]
+enum Kind {
+    Accounts,
+    Export,
+    Lint,
+    Policies,
+    Prices,
+    Queue,
+    Swift,
+}
+
+// What a table of this name tries, if it tries anything.
+fn kind_of(name: &str) -> Option<Kind> {
+    match name.split(['-', '.']).next().unwrap_or("") {
+        "accounts" => Some(Kind::Accounts),
+        "export" => Some(Kind::Export),
+        "lint" => Some(Kind::Lint),
+        "policies" => Some(Kind::Policies),
+        "prices" => Some(Kind::Prices),
+        "queue" => Some(Kind::Queue),
+        "swift" => Some(Kind::Swift),
+        _ => None,
+    }
+}
+
+// Judges the cases of a table.
+fn judge(alloc: Global, kind: Kind, text: &str) -> Result<Tally, AllocError> {
     match kind {
-        "accounts" => Ok(Some(accounts::judge(rt.alloc(), text)?)),
-        "export" => Ok(Some(export::judge(rt.alloc(), text)?)),
-        "lint" => Ok(Some(lint::judge(rt.alloc(), text)?)),
-        "policies" => Ok(Some(policies::judge(rt.alloc(), text)?)),
-        "prices" => Ok(Some(prices::judge(rt.alloc(), text)?)),
-        "queue" => Ok(Some(queue::judge(rt.alloc(), text)?)),
-        "swift" => Ok(Some(swift::judge(rt.alloc(), text)?)),
-        _ => Ok(None),
+        Kind::Accounts => accounts::judge(alloc, text),
+        Kind::Export => export::judge(alloc, text),
+        Kind::Lint => lint::judge(alloc, text),
+        Kind::Policies => policies::judge(alloc, text),
+        Kind::Prices => prices::judge(alloc, text),
+        Kind::Queue => queue::judge(alloc, text),
+        Kind::Swift => swift::judge(alloc, text),
+    }
+}
+
+fn print_tally(rt: &HostRuntime, name: &str, tally: &Tally) -> io::Result<()> {
+    print!(rt; "{}", tally.differences)?;
+    println!(rt; "{name}: {} cases", tally.cases)
+}
+
+// Judges a file, and prints what differs and how many cases there were.
+fn judge_file(rt: &HostRuntime, name: &str) -> io::Result<()> {
+    let text = fs::read_to_string(rt, name)?;
+    match kind_of(name) {
+        Some(kind) => print_tally(rt, name, &judge(rt.alloc(), kind, text.as_str())?),
+        None => println!(rt; "{name}: nothing is tried by this name"),
     }
 }
 
 fn main(rt: HostRuntime) -> io::Result<()> {
     for name in env::args(&rt)?.skip(1) {
-        let text = fs::read_to_string(&rt, name.as_str())?;
-        match judge(&rt, name.as_str(), text.as_str())? {
-            Some(tally) => {
-                print!(rt; "{}", tally.differences)?;
-                println!(rt; "{name}: {} cases", tally.cases)?;
-            }
-            None => println!(rt; "{name}: nothing is tried by this name")?,
-        }
+        judge_file(&rt, name.as_str())?;
     }
     Ok(())
 }

@@ -117,26 +117,43 @@ fn lines_by(alloc: Global, content: &str, policy: Policy) -> Result<String, Allo
     }
 }
 
+fn expect_lines(
+    alloc: Global,
+    tally: &mut Tally,
+    given: &Given,
+    kind: &str,
+    policy: Policy,
+    body: &str,
+) -> Result<(), AllocError> {
+    let found = lines_by(alloc, given.trace.as_str(), policy)?;
+    tally.expect(kind, found.as_str(), body)
+}
+
+fn judge_section(
+    alloc: Global,
+    given: &mut Given,
+    tally: &mut Tally,
+    kind: &str,
+    body: &str,
+) -> Result<(), AllocError> {
+    match kind {
+        "fcfs" => expect_lines(alloc, tally, given, kind, Policy::FirstCome, body),
+        "easy" => expect_lines(alloc, tally, given, kind, Policy::Backfill, body),
+        _ => {
+            if given.take(alloc, kind, body)? {
+                return Ok(());
+            }
+            tally.expect(kind, "no such section", "")
+        }
+    }
+}
+
 /// Judges a table of traces and of their lines by a policy.
 pub fn judge(alloc: Global, table: &str) -> Result<Tally, AllocError> {
     let mut tally = Tally::new(alloc);
     let mut given = Given::new(alloc);
     for (kind, body) in sections_of(alloc, table)? {
-        match kind {
-            "fcfs" => {
-                let found = lines_by(alloc, given.trace.as_str(), Policy::FirstCome)?;
-                tally.expect(kind, found.as_str(), body)?;
-            }
-            "easy" => {
-                let found = lines_by(alloc, given.trace.as_str(), Policy::Backfill)?;
-                tally.expect(kind, found.as_str(), body)?;
-            }
-            _ => {
-                if !given.take(alloc, kind, body)? {
-                    tally.expect(kind, "no such section", "")?;
-                }
-            }
-        }
+        judge_section(alloc, &mut given, &mut tally, kind, body)?;
     }
     Ok(tally)
 }

@@ -1,5 +1,7 @@
 // Swift searches beside others over the first cycle of traces, runs by swift plans, whose reports are checked, and grants that are moved.
-ghost use Rattle.std.specs.Prelude.{IfOk, IfSome};
+ghost use Rattle.std.specs.Prelude.{◌≡◌, ◌<◌, ◌^◌, All, IfOk, IfSome, pos};
+ghost use Rattle.tetri_compile.specs.Gain.{most_gain};
+ghost use Rattle.tetri_ip.specs.Points.{IsFit};
 ghost use Rattle.tetri_space.specs.Sound.{IsSound as IsSoundSpace};
 ghost use Rattle.tetri_space.specs.Space.{space};
 ghost use Rattle.tetri_trace.specs.Scenario.{scenario};
@@ -9,12 +11,13 @@ mod made;
 mod moved;
 mod wild;
 
+use crate::panels::seat;
 use made::made_trace;
 use moved::moved_in;
 use std::alloc::{AllocError, Global};
 use tetri_advice::{Advisor, Panel};
 use tetri_by_swift::BySwift;
-use tetri_compile::{compile, size};
+use tetri_compile::{Compiled, compile, size};
 use tetri_greedy::{ByDeadline, ByWorth};
 use tetri_io::{MemShelf, MemSink};
 use tetri_plan::Chooser;
@@ -62,8 +65,49 @@ fn note(out: &mut String, what: &str, found: &Found, other: &Found) -> Result<()
     Ok(())
 }
 
-// What the searches of an instance find, by the exact one, from nothing and by proposals without
-// sense too where they are asked for.
+// What the exact search, one from nothing and one by proposals without sense find, where they differ.
+fn note_others(
+    alloc: Global,
+    out: &mut String,
+    c: &Compiled,
+    budget: u32,
+    swift: &Found,
+) -> Result<(), AllocError>
+    requires fit { IsFit c.now.program }
+    requires zero { All (λ z. z ≡ pos 0) c.now.program.lower.items }
+    requires bounded { most_gain c.now.program < 2 ^ 64 }
+{
+    let exact = search(alloc, c, 0, budget)?;
+    note(out, "exactly", swift, &exact)?;
+    let mut nothing = Anew;
+    let anew = search_by(alloc, c, 0, budget, &mut nothing)?;
+    note(out, "anew", swift, &anew)?;
+    let mut engine = Wild::new();
+    let wild = search_by(alloc, c, 0, budget, &mut engine)?;
+    note(out, "by a wild engine", swift, &wild)
+}
+
+// What the searches of a program find, by the others too where they are asked for.
+fn program_searched(
+    alloc: Global,
+    c: &Compiled,
+    budget: u32,
+    bytes: usize,
+    beside: bool,
+) -> Result<String, AllocError>
+    requires fit { IsFit c.now.program }
+    requires zero { All (λ z. z ≡ pos 0) c.now.program.lower.items }
+    requires bounded { most_gain c.now.program < 2 ^ 64 }
+{
+    let swift = swift_search(alloc, c, 0, budget, bytes)?;
+    let mut out = told(alloc, &swift)?;
+    if beside {
+        note_others(alloc, &mut out, c, budget, &swift)?;
+    }
+    Ok(out)
+}
+
+// What the searches of an instance find.
 fn searched(
     alloc: Global,
     inst: &Instance,
@@ -79,19 +123,7 @@ fn searched(
         return String::from_str(alloc, "too large");
     }
     let c = compile(alloc, inst, &parts)?;
-    let swift = swift_search(alloc, &c, 0, budget, bytes)?;
-    let mut out = told(alloc, &swift)?;
-    if beside {
-        let exact = search(alloc, &c, 0, budget)?;
-        note(&mut out, "exactly", &swift, &exact)?;
-        let mut nothing = Anew;
-        let anew = search_by(alloc, &c, 0, budget, &mut nothing)?;
-        note(&mut out, "anew", &swift, &anew)?;
-        let mut engine = Wild::new();
-        let wild = search_by(alloc, &c, 0, budget, &mut engine)?;
-        note(&mut out, "by a wild engine", &swift, &wild)?;
-    }
-    Ok(out)
+    program_searched(alloc, &c, budget, bytes, beside)
 }
 
 fn searched_in(
@@ -118,6 +150,20 @@ fn optimal_in(report: &str) -> &str {
     }
 }
 
+// Whether a report of the trace is accepted, and how many plans it counts as optimal.
+fn report_told(alloc: Global, shelf: &mut MemShelf, report: &[u8]) -> Result<String, AllocError> {
+    shelf.put("report", report)?;
+    let mut told = MemSink::new(alloc, 4000, 4000, &[])?;
+    match run_check(alloc, "trace", "report", shelf, &mut told) {
+        Status::Done => {
+            let report = text_in(alloc, report)?;
+            let optimal = optimal_in(report.as_str());
+            format!(in alloc; "accepted, optimal={optimal}")
+        }
+        _ => String::from_str(alloc, "refused"),
+    }
+}
+
 // The plans of a trace, and whether their report is accepted.
 fn run_in<C: Chooser + Drop>(
     alloc: Global,
@@ -128,17 +174,10 @@ fn run_in<C: Chooser + Drop>(
     shelf.put("trace", content.as_bytes())?;
     let mut sink = MemSink::new(alloc, 4000, 4_000_000, &[])?;
     let mut planner = ByChooser { chooser };
-    if run_chosen(alloc, "trace", &mut shelf, &mut sink, &mut planner) != Status::Done {
-        return String::from_str(alloc, "not planned");
+    match run_chosen(alloc, "trace", &mut shelf, &mut sink, &mut planner) {
+        Status::Done => report_told(alloc, &mut shelf, sink.written()),
+        _ => String::from_str(alloc, "not planned"),
     }
-    shelf.put("report", sink.written())?;
-    let mut told = MemSink::new(alloc, 4000, 4000, &[])?;
-    if run_check(alloc, "trace", "report", &mut shelf, &mut told) != Status::Done {
-        return String::from_str(alloc, "refused");
-    }
-    let report = text_in(alloc, sink.written())?;
-    let optimal = optimal_in(report.as_str());
-    format!(in alloc; "accepted, optimal={optimal}")
 }
 
 // A row of runs by a swift search, with the two shipped advisors.
@@ -148,12 +187,11 @@ fn run_row(
     bytes: usize,
     is_moved: bool,
 ) -> Result<String, AllocError> {
-    let by_deadline: Box<dyn Advisor> = Box::new(alloc, ByDeadline::new())?;
-    let by_worth: Box<dyn Advisor> = Box::new(alloc, ByWorth::new())?;
     let mut panel = Panel::new(alloc);
-    if panel.seat(by_deadline).is_err() || panel.seat(by_worth).is_err() {
-        return Err(AllocError);
-    }
+    let by_deadline: Box<dyn Advisor> = Box::new(alloc, ByDeadline::new())?;
+    seat(&mut panel, by_deadline)?;
+    let by_worth: Box<dyn Advisor> = Box::new(alloc, ByWorth::new())?;
+    seat(&mut panel, by_worth)?;
     let chooser = BySwift::new(panel, bytes);
     if is_moved {
         run_in(alloc, content, Sooner::new(chooser))
@@ -189,33 +227,95 @@ fn number_at(numbers: &[u32], place: usize) -> u32 {
     }
 }
 
-// What a row of a section finds. None where there is no such section.
-fn found_by(
+// What the rows of a section try.
+#[derive(Clone, Copy)]
+enum Kind {
+    Searches,
+    SearchesBeside,
+    MadeSearches,
+    WideSearches,
+    Runs,
+    RunsMoved,
+    Moved,
+}
+
+fn kind_of(section: &str) -> Option<Kind> {
+    match section {
+        "searches" => Some(Kind::Searches),
+        "searches beside" => Some(Kind::SearchesBeside),
+        "made searches" => Some(Kind::MadeSearches),
+        "wide searches" => Some(Kind::WideSearches),
+        "runs" => Some(Kind::Runs),
+        "runs moved" => Some(Kind::RunsMoved),
+        "moved" => Some(Kind::Moved),
+        _ => None,
+    }
+}
+
+// What searches of a trace find by a row's budget and count of bytes.
+fn search_row(
     alloc: Global,
-    kind: &str,
-    given: &Given,
-    row: &str,
-) -> Result<Option<String>, AllocError> {
+    trace: &str,
+    numbers: &[u32],
+    beside: bool,
+) -> Result<String, AllocError> {
+    let bytes = number_at(numbers, 1) as usize;
+    searched_in(alloc, trace, number_at(numbers, 0), bytes, beside)
+}
+
+// The same of a trace that is made of the row's numbers.
+fn made_row(alloc: Global, numbers: &[u32], beside: bool) -> Result<String, AllocError> {
+    let made = made_trace(alloc, numbers)?;
+    search_row(alloc, made.as_str(), numbers, beside)
+}
+
+// What a row of a section finds.
+fn found_by(alloc: Global, kind: Kind, trace: &str, row: &str) -> Result<String, AllocError> {
     let words = numbers_of(alloc, row)?;
     let numbers: &[u32] = &words;
-    let trace = given.trace.as_str();
-    let (budget, bytes) = (number_at(numbers, 0), number_at(numbers, 1) as usize);
+    let bytes = number_at(numbers, 0) as usize;
     match kind {
-        "searches" => Ok(Some(searched_in(alloc, trace, budget, bytes, false)?)),
-        "searches beside" => Ok(Some(searched_in(alloc, trace, budget, bytes, true)?)),
-        "made searches" => {
-            let made = made_trace(alloc, numbers)?;
-            Ok(Some(searched_in(alloc, made.as_str(), budget, bytes, true)?))
-        }
-        "wide searches" => {
-            let made = made_trace(alloc, numbers)?;
-            Ok(Some(searched_in(alloc, made.as_str(), budget, bytes, false)?))
-        }
-        "runs" => Ok(Some(run_row(alloc, trace, budget as usize, false)?)),
-        "runs moved" => Ok(Some(run_row(alloc, trace, budget as usize, true)?)),
-        "moved" => Ok(Some(moved_row(alloc, trace, row)?)),
-        _ => Ok(None),
+        Kind::Searches => search_row(alloc, trace, numbers, false),
+        Kind::SearchesBeside => search_row(alloc, trace, numbers, true),
+        Kind::MadeSearches => made_row(alloc, numbers, true),
+        Kind::WideSearches => made_row(alloc, numbers, false),
+        Kind::Runs => run_row(alloc, trace, bytes, false),
+        Kind::RunsMoved => run_row(alloc, trace, bytes, true),
+        Kind::Moved => moved_row(alloc, trace, row),
     }
+}
+
+fn judge_row(
+    alloc: Global,
+    given: &Given,
+    tally: &mut Tally,
+    section: &str,
+    line: &str,
+) -> Result<(), AllocError> {
+    let (row, wanted) = halves(line);
+    match kind_of(section) {
+        Some(kind) => {
+            let found = found_by(alloc, kind, given.trace.as_str(), row)?;
+            tally.expect(row, found.as_str(), wanted)
+        }
+        None => tally.expect(section, "no such section", ""),
+    }
+}
+
+fn judge_section(
+    alloc: Global,
+    given: &mut Given,
+    tally: &mut Tally,
+    section: &str,
+    body: &str,
+) -> Result<(), AllocError> {
+    if given.take(alloc, section, body)? {
+        return Ok(());
+    }
+    for line in body.lines() {
+        judge_row(alloc, given, tally, section, line)?;
+    }
+    Ok(())
 }
 
 /// Judges a table of traces, of what searches of their first cycles find, of runs by swift plans, and of
@@ -223,17 +323,8 @@ fn found_by(
 pub fn judge(alloc: Global, table: &str) -> Result<Tally, AllocError> {
     let mut tally = Tally::new(alloc);
     let mut given = Given::new(alloc);
-    for (kind, body) in sections_of(alloc, table)? {
-        if given.take(alloc, kind, body)? {
-            continue;
-        }
-        for line in body.lines() {
-            let (row, wanted) = halves(line);
-            match found_by(alloc, kind, &given, row)? {
-                Some(found) => tally.expect(row, found.as_str(), wanted)?,
-                None => tally.expect(kind, "no such section", "")?,
-            }
-        }
+    for (section, body) in sections_of(alloc, table)? {
+        judge_section(alloc, &mut given, &mut tally, section, body)?;
     }
     Ok(tally)
 }

@@ -14,6 +14,11 @@ fn repeated(alloc: Global, count: u32, grants: &Allotment) -> Result<Allotment, 
     Ok(Allotment::of(all))
 }
 
+fn copies_in(alloc: Global, count: &str, grants: &str) -> Result<Allotment, AllocError> {
+    let one = grants_in(alloc, grants)?;
+    repeated(alloc, count.parse::<u32>().unwrap_or(0), &one)
+}
+
 // A step: `mute`, `none`, `echo`, grants, or `COUNT of GRANTS`.
 fn step_in(alloc: Global, text: &str) -> Result<Step, AllocError> {
     match text {
@@ -21,11 +26,7 @@ fn step_in(alloc: Global, text: &str) -> Result<Step, AllocError> {
         "none" => Ok(Step::Say(Allotment::new(alloc))),
         "echo" => Ok(Step::Echo),
         _ => match text.split_once(" of ") {
-            Some((count, grants)) => {
-                let one = grants_in(alloc, grants)?;
-                let count = count.parse::<u32>().unwrap_or(0);
-                Ok(Step::Say(repeated(alloc, count, &one)?))
-            }
+            Some((count, grants)) => Ok(Step::Say(copies_in(alloc, count, grants)?)),
             None => Ok(Step::Say(grants_in(alloc, text)?)),
         },
     }

@@ -6,7 +6,7 @@ use crate::panels::scripted::Scripted;
 use crate::panels::wrapped::{Forgetful, Untold};
 use crate::runs;
 use std::alloc::{AllocError, Global};
-use tetri_advice::{Advisor, Panel};
+use tetri_advice::{Advisor, Panel, PanelOf};
 use tetri_greedy::{ByDeadline, ByWorth};
 use tetri_io::{MemShelf, MemSink};
 use tetri_run::{Status, run_plan};
@@ -24,27 +24,40 @@ pub enum Trial<'a> {
 // An advisor that a line names.
 #[derive(Drop)]
 enum Named {
-    Deadline,
-    Worth,
-    Repeat,
-    UntoldDeadline,
-    UntoldWorth,
-    ForgetfulDeadline(Vec<bool>),
-    ForgetfulWorth(Vec<bool>),
+    Deadline(ByDeadline),
+    Worth(ByWorth),
+    Repeat(Repeat),
+    UntoldDeadline(Untold<ByDeadline>),
+    UntoldWorth(Untold<ByWorth>),
+    ForgetfulDeadline(Forgetful<ByDeadline>),
+    ForgetfulWorth(Forgetful<ByWorth>),
     Scripted(Scripted),
     Nobody,
+}
+
+// One that forgets in these turns.
+fn forgetful_by(alloc: Global, word: &str, turns: &str) -> Result<Named, AllocError> {
+    let turns = turns_in(alloc, turns)?;
+    match word {
+        "deadline" => Ok(Named::ForgetfulDeadline(Forgetful::new(ByDeadline::new(), turns))),
+        "worth" => Ok(Named::ForgetfulWorth(Forgetful::new(ByWorth::new(), turns))),
+        _ => Ok(Named::Nobody),
+    }
+}
+
+// One by a script, whose steps end as it is asked or as it is taught.
+fn scripted_by(alloc: Global, steps: &str, is_asked: bool) -> Result<Named, AllocError> {
+    let steps = steps_in(alloc, steps)?;
+    Ok(Named::Scripted(Scripted::new(alloc, steps, is_asked)?))
 }
 
 // The advisor of a line that goes on with turns or steps.
 fn advisor_by_turns(alloc: Global, word: &str, more: &str) -> Result<Named, AllocError> {
     match word {
-        "forgetful deadline" => Ok(Named::ForgetfulDeadline(turns_in(alloc, more)?)),
-        "forgetful worth" => Ok(Named::ForgetfulWorth(turns_in(alloc, more)?)),
-        "taught" | "asked" => {
-            let steps = steps_in(alloc, more)?;
-            let one = Scripted::new(alloc, steps, word == "asked")?;
-            Ok(Named::Scripted(one))
-        }
+        "forgetful deadline" => forgetful_by(alloc, "deadline", more),
+        "forgetful worth" => forgetful_by(alloc, "worth", more),
+        "taught" => scripted_by(alloc, more, false),
+        "asked" => scripted_by(alloc, more, true),
         _ => Ok(Named::Nobody),
     }
 }
@@ -52,20 +65,25 @@ fn advisor_by_turns(alloc: Global, word: &str, more: &str) -> Result<Named, Allo
 fn advisor_of(alloc: Global, line: &str) -> Result<Named, AllocError> {
     let (word, more) = line.split_once(": ").unwrap_or((line, ""));
     match word {
-        "deadline" => Ok(Named::Deadline),
-        "worth" => Ok(Named::Worth),
-        "repeat" => Ok(Named::Repeat),
-        "untold deadline" => Ok(Named::UntoldDeadline),
-        "untold worth" => Ok(Named::UntoldWorth),
+        "deadline" => Ok(Named::Deadline(ByDeadline::new())),
+        "worth" => Ok(Named::Worth(ByWorth::new())),
+        "repeat" => Ok(Named::Repeat(Repeat::new(alloc))),
+        "untold deadline" => Ok(Named::UntoldDeadline(Untold::new(ByDeadline::new()))),
+        "untold worth" => Ok(Named::UntoldWorth(Untold::new(ByWorth::new()))),
         _ => advisor_by_turns(alloc, word, more),
     }
+}
+
+/// Seats an advisor; whether there was a seat.
+pub fn is_seated(panel: &mut Panel, one: Box<dyn Advisor>) -> bool {
+    panel.seat(one).is_ok()
 }
 
 // Boxes an advisor and seats it; whether there was a seat.
 macro_rules! seated {
     ($panel:ident, $alloc:ident, $one:expr) => {{
         let one: Box<dyn Advisor> = Box::new($alloc, $one)?;
-        $panel.seat(one).is_ok()
+        is_seated(&mut $panel, one)
     }};
 }
 
@@ -88,10 +106,44 @@ fn shelf_with(alloc: Global, trace: &str) -> Result<MemShelf, AllocError> {
     Ok(shelf)
 }
 
-fn is_done(status: &Status) -> bool {
-    match status {
-        Status::Done => true,
-        _ => false,
+// A report that was planned, and who sits behind it.
+#[derive(Drop)]
+struct Planned {
+    report: String,
+    sits: String,
+}
+
+// What was planned, and who sits behind it; nothing where the plan ended before.
+fn planned_of<A: Advisor>(
+    alloc: Global,
+    status: &Status,
+    sink: &MemSink,
+    panel: &PanelOf<A>,
+) -> Result<Option<Planned>, AllocError> {
+    if !matches!(status, Status::Done) {
+        return Ok(None);
+    }
+    let sits = seats_told(alloc, panel)?;
+    let report = text_in(alloc, sink.written())?;
+    Ok(Some(Planned { report, sits }))
+}
+
+// Expects a plan to end with this report and these seats; from then on it is the report, which a check accepts.
+fn expect_planned(
+    alloc: Global,
+    given: &mut Given,
+    tally: &mut Tally,
+    planned: Option<Planned>,
+    wanted: &str,
+) -> Result<(), AllocError> {
+    match planned {
+        Some(Planned { report, sits }) => {
+            let found = format!(in alloc; "{report}{sits}")?;
+            tally.expect(given.trace.as_str(), found.as_str(), wanted)?;
+            given.report = report;
+            runs::accepted(alloc, given, tally)
+        }
+        None => tally.expect(given.trace.as_str(), "another end", "done"),
     }
 }
 
@@ -107,17 +159,13 @@ pub fn try_panel(
     let mut panel = Panel::new(alloc);
     for line in given.seats.as_str().lines() {
         let is_seated = match advisor_of(alloc, line)? {
-            Named::Deadline => seated!(panel, alloc, ByDeadline::new()),
-            Named::Worth => seated!(panel, alloc, ByWorth::new()),
-            Named::Repeat => seated!(panel, alloc, Repeat::new(alloc)),
-            Named::UntoldDeadline => seated!(panel, alloc, Untold::new(ByDeadline::new())),
-            Named::UntoldWorth => seated!(panel, alloc, Untold::new(ByWorth::new())),
-            Named::ForgetfulDeadline(turns) => {
-                seated!(panel, alloc, Forgetful::new(ByDeadline::new(), turns))
-            }
-            Named::ForgetfulWorth(turns) => {
-                seated!(panel, alloc, Forgetful::new(ByWorth::new(), turns))
-            }
+            Named::Deadline(one) => seated!(panel, alloc, one),
+            Named::Worth(one) => seated!(panel, alloc, one),
+            Named::Repeat(one) => seated!(panel, alloc, one),
+            Named::UntoldDeadline(one) => seated!(panel, alloc, one),
+            Named::UntoldWorth(one) => seated!(panel, alloc, one),
+            Named::ForgetfulDeadline(one) => seated!(panel, alloc, one),
+            Named::ForgetfulWorth(one) => seated!(panel, alloc, one),
             Named::Scripted(one) => seated!(panel, alloc, one),
             Named::Nobody => false,
         };
@@ -125,22 +173,14 @@ pub fn try_panel(
             tally.expect(line, "no seat", "a seat")?;
         }
     }
-    let trace = given.trace.as_str();
     match trial {
-        Trial::Rows(rows) => try_rows(alloc, tally, trace, &mut panel, rows),
+        Trial::Rows(rows) => try_rows(alloc, tally, given.trace.as_str(), &mut panel, rows),
         Trial::Run(report) => {
-            let mut shelf = shelf_with(alloc, trace)?;
+            let mut shelf = shelf_with(alloc, given.trace.as_str())?;
             let mut sink = MemSink::new(alloc, 7, 4_000_000, &[])?;
             let status = run_plan(alloc, "trace", &mut shelf, &mut sink, &mut panel);
-            if !is_done(&status) {
-                return tally.expect(trace, "another end", "done");
-            }
-            let sits = seats_told(alloc, &panel)?;
-            let written = text_in(alloc, sink.written())?;
-            let found = format!(in alloc; "{written}{sits}")?;
-            tally.expect(trace, found.as_str(), report)?;
-            given.report = written;
-            runs::accepted(alloc, given, tally)
+            let planned = planned_of(alloc, &status, &sink, &panel)?;
+            expect_planned(alloc, given, tally, planned, report)
         }
     }
 }

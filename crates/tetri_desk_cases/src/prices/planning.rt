@@ -1,9 +1,11 @@
 // Runs by prices.
+use crate::panels::seat;
 use std::alloc::{AllocError, Global};
 use tetri_advice::{Advisor, Panel};
 use tetri_by_price::ByPrice;
 use tetri_greedy::{ByDeadline, ByWorth};
 use tetri_io::{MemShelf, MemSink};
+use tetri_plan::Chooser;
 use tetri_run::{ByChooser, Status, run_check, run_chosen};
 use tetri_tables::{Given, Tally, text_in};
 
@@ -12,24 +14,30 @@ const PIECE: usize = 65_536;
 
 const ROOM: usize = 16_000_000;
 
-// The report of the run by prices, with the two shipped advisors.
-fn report_of(alloc: Global, trace: &str) -> Result<String, AllocError> {
-    let by_deadline: Box<dyn Advisor> = Box::new(alloc, ByDeadline::new())?;
-    let by_worth: Box<dyn Advisor> = Box::new(alloc, ByWorth::new())?;
-    let mut panel = Panel::new(alloc);
-    if panel.seat(by_deadline).is_err() || panel.seat(by_worth).is_err() {
-        return Err(AllocError);
-    }
-    let mut planner = ByChooser {
-        chooser: ByPrice::new(panel),
-    };
+// The report of the run by a chooser.
+fn report_by<C: Chooser + Drop>(
+    alloc: Global,
+    trace: &str,
+    chooser: C,
+) -> Result<String, AllocError> {
     let mut shelf = MemShelf::new(alloc, PIECE, &[])?;
     shelf.put("trace", trace.as_bytes())?;
     let mut sink = MemSink::new(alloc, PIECE, ROOM, &[])?;
+    let mut planner = ByChooser { chooser };
     match run_chosen(alloc, "trace", &mut shelf, &mut sink, &mut planner) {
         Status::Done => text_in(alloc, sink.written()),
         _ => String::from_str(alloc, "no report"),
     }
+}
+
+// The report of the run by prices, with the two shipped advisors.
+fn report_of(alloc: Global, trace: &str) -> Result<String, AllocError> {
+    let mut panel = Panel::new(alloc);
+    let by_deadline: Box<dyn Advisor> = Box::new(alloc, ByDeadline::new())?;
+    seat(&mut panel, by_deadline)?;
+    let by_worth: Box<dyn Advisor> = Box::new(alloc, ByWorth::new())?;
+    seat(&mut panel, by_worth)?;
+    report_by(alloc, trace, ByPrice::new(panel))
 }
 
 // Whether a check accepts the report.

@@ -78,17 +78,28 @@ fn status_of(alloc: Global, wish: &Wish<'_>, shelf: &mut MemShelf, sink: &mut Me
     }
 }
 
-// What is written, and what is said behind it.
-fn told(alloc: Global, given: &Given, wish: &Wish<'_>) -> Result<String, AllocError> {
+// The shelf with the trace and the report.
+fn shelf_of(alloc: Global, given: &Given) -> Result<MemShelf, AllocError> {
     let mut shelf = MemShelf::new(alloc, PIECE, &[])?;
     shelf.put("trace", given.trace.as_bytes())?;
     shelf.put("report", given.report.as_bytes())?;
+    Ok(shelf)
+}
+
+// What is said of a status.
+fn said_of(alloc: Global, status: &Status) -> Result<String, AllocError> {
+    let mut errors = MemSink::new(alloc, PIECE, 1000, &[])?;
+    let _said = say(alloc, status, &mut errors);
+    text_in(alloc, errors.written())
+}
+
+// What is written, and what is said behind it.
+fn told(alloc: Global, given: &Given, wish: &Wish<'_>) -> Result<String, AllocError> {
+    let mut shelf = shelf_of(alloc, given)?;
     let mut sink = MemSink::new(alloc, PIECE, ROOM, &[])?;
     let status = status_of(alloc, wish, &mut shelf, &mut sink);
-    let mut errors = MemSink::new(alloc, PIECE, 1000, &[])?;
-    let _said = say(alloc, &status, &mut errors);
+    let said = said_of(alloc, &status)?;
     let written = text_in(alloc, sink.written())?;
-    let said = text_in(alloc, errors.written())?;
     format!(in alloc; "{written}{said}")
 }
 

@@ -85,29 +85,34 @@ fn tags_of(node: u32) -> &'static str {
     }
 }
 
+// The header of a trace with so many nodes and slots of its window.
+fn add_header(out: &mut String, nodes: u32, window: u32) -> Result<(), AllocError> {
+    out.push_str("{\"nodes\":[")?;
+    for node in 0..nodes {
+        let before = if node == 0 { "" } else { "," };
+        let tags = tags_of(node);
+        write!(out, "{before}{{\"name\":\"n{node}\",\"tags\":[{tags}]}}")?;
+    }
+    write!(out, "],\"window\":{window},\"budget\":1,\"until\":1}}\n")
+}
+
+fn add_job(out: &mut String, draw: &mut Draw, job: u32, window: u32) -> Result<(), AllocError> {
+    write!(out, "{{\"at\":0,\"arrive\":\"j{job}\",\"strl\":\"")?;
+    add_expression(out, draw, window)?;
+    write!(out, "\"}}\n")
+}
+
 /// The trace of a cycle by six numbers: a budget and a count of bytes, which it leaves alone, what it
 /// is drawn from, and how many nodes, jobs and slots of its window there are.
 pub fn made_trace(alloc: Global, numbers: &[u32]) -> Result<String, AllocError> {
     let mut draw = Draw {
         state: number_at(numbers, 2) as u64,
     };
-    let nodes = number_at(numbers, 3);
-    let jobs = number_at(numbers, 4);
     let window = number_at(numbers, 5);
-    let mut out = String::from_str(alloc, "{\"nodes\":[")?;
-    for node in 0..nodes {
-        let before = if node == 0 { "" } else { "," };
-        write!(
-            out,
-            "{before}{{\"name\":\"n{node}\",\"tags\":[{}]}}",
-            tags_of(node)
-        )?;
-    }
-    write!(out, "],\"window\":{window},\"budget\":1,\"until\":1}}\n")?;
-    for job in 0..jobs {
-        write!(out, "{{\"at\":0,\"arrive\":\"j{job}\",\"strl\":\"")?;
-        add_expression(&mut out, &mut draw, window)?;
-        write!(out, "\"}}\n")?;
+    let mut out = String::new(alloc);
+    add_header(&mut out, number_at(numbers, 3), window)?;
+    for job in 0..number_at(numbers, 4) {
+        add_job(&mut out, &mut draw, job, window)?;
     }
     Ok(out)
 }

@@ -6,6 +6,7 @@ use std::alloc::{AllocError, Global};
 use tetri_sooner::moved_sooner;
 use tetri_space::Instance;
 use tetri_strl::{Allotment, Grant, NodeList};
+use tetri_tables::grants_told;
 
 // A number, and 0 for what is none.
 fn number_of(word: &str) -> u32 {
@@ -27,33 +28,20 @@ fn grant_of(alloc: Global, text: &str) -> Result<Grant, AllocError> {
     })
 }
 
-fn print_grant(out: &mut String, grant: &Grant) -> Result<(), AllocError> {
-    write!(out, "{} {} ", grant.job, grant.leaf)?;
-    for (place, node) in grant.nodes.as_slice().iter().enumerate() {
-        if 0 < place {
-            out.push_str(",")?;
-        }
-        write!(out, "{node}")?;
+// The grants of a row, with `;` between them.
+fn grants_of(alloc: Global, row: &str) -> Result<Allotment, AllocError> {
+    let mut grants = Allotment::new(alloc);
+    for text in row.split(';') {
+        grants.push(grant_of(alloc, text.trim())?)?;
     }
-    Ok(())
+    Ok(grants)
 }
 
 /// The grants of a row, as they are moved.
 pub fn moved_in(alloc: Global, inst: &Instance, row: &str) -> Result<String, AllocError>
     requires { IsSound (space inst.now) }
 {
-    let mut grants = Allotment::new(alloc);
-    for text in row.split(';') {
-        let grant = grant_of(alloc, text.trim())?;
-        grants.push(grant)?;
-    }
+    let grants = grants_of(alloc, row)?;
     let moved = moved_sooner(alloc, inst, &grants)?;
-    let mut out = String::new(alloc);
-    for (place, grant) in moved.as_slice().iter().enumerate() {
-        if 0 < place {
-            out.push_str("; ")?;
-        }
-        print_grant(&mut out, grant)?;
-    }
-    Ok(out)
+    grants_told(alloc, moved.as_slice())
 }
