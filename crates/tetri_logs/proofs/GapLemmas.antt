@@ -1,10 +1,9 @@
 -- A gap behind the first jobs.
 use Rattle.std.proofs.Common.{◌≡◌, ◌+◌, ◌*◌, ◌<◌, ◌∙◌, ℕ, List, Bool, true, false, [], ◌∷◌, ◌++◌, take, drop, length, get_or, cond, refl, ap, sym}
-use Rattle.std.specs.Prelude.{nat_lt, None, Some}
+use Rattle.std.specs.Prelude.{nat_lt}
 use Rattle.std.proofs.lemmas.List.{drop_more, take_more}
-use Rattle.tetri_logs.specs.Origin.{begun, begun_with, gap_after, gap_at, is_in_run, last_second, may_begin}
+use Rattle.tetri_logs.specs.Origin.{gap_after, gap_at, last_second, may_begin}
 use Rattle.tetri_logs.specs.Scale.{moment_of}
-use Rattle.tetri_logs.specs.declared.account.Account.{Account}
 use Rattle.tetri_logs.specs.declared.entry.LoggedJob.{LoggedJob}
 use Rattle.tetri_logs.specs.declared.options.Settings.{Settings}
 
@@ -42,24 +41,3 @@ gap_after-here s last i jobs d inside begins late =
     ap (gap_after s last) (drop_more jobs i d inside)
     ∙ ap (λ t. cond t (cond (nat_lt moment (s.origin + 10000 * s.slot)) (gap_after s moment rest) (gap_at s last moment)) (gap_after s last rest)) begins
     ∙ ap (λ t. cond t (gap_after s moment rest) (gap_at s last moment)) late
-
--- a job that comes early enough leaves no gap before it
-by_run : (s : Settings) (last moment : ℕ) (rest : List LoggedJob) (begins early : Bool) → early ≡ true → ((second : ℕ) → gap_after s second rest ≡ None)
-    → cond begins (cond early (gap_after s moment rest) (gap_at s last moment)) (gap_after s last rest) ≡ None
-by_run s last moment rest true true early none = none moment
-by_run s last moment rest true false early none = cc
-by_run s last moment rest false early known none = none last
-
-pub gap_after-early : (s : Settings) (last : ℕ) (job : LoggedJob) (rest : List LoggedJob) → is_in_run s job.account ≡ true → ((second : ℕ) → gap_after s second rest ≡ None)
-    → gap_after s last (job ∷ rest) ≡ None
-gap_after-early s last job rest early none =
-    by_run s last (moment_of s job.account) rest (may_begin s job.account) (is_in_run s job.account) early none
-
--- the first job begins slot 0 if it may
-begun_by : (s t : Settings) (a : Account) (second : ℕ) (b : Bool) → cond b (Some (record s { origin = moment_of s a })) None ≡ Some t
-    → record s { origin = cond b (moment_of s a) second } ≡ t
-begun_by s t a second true is = cc
-begun_by s t a second false is = cc
-
-pub begun-first : (s t : Settings) (job : LoggedJob) (jobs : List LoggedJob) → begun_with s job.account ≡ Some t → begun s (job ∷ jobs) ≡ t
-begun-first s t job jobs is = begun_by s t job.account _ (may_begin s job.account) is

@@ -1,7 +1,8 @@
-pub mod ReadingLemmas
+pub mod LogLaws
+mod ReadingLemmas
 mod CommentLemmas
 mod EarlyLemmas
 mod WordLemmas
 mod LineLemmas
-pub mod GapLemmas
+mod GapLemmas
 mod SeparatorLemmas

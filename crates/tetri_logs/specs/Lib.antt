@@ -16,6 +16,7 @@ pub mod Seats
 pub mod JobName
 pub mod Entry
 pub mod Reading
+pub mod Walk
 pub mod Options
 pub mod Scale
 pub mod Placing

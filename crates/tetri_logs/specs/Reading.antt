@@ -3,7 +3,6 @@ use Rattle.std.specs.Prelude.{ℕ, ◌+◌, List, [], ◌∷◌, ◌++◌, Bool,
 use Rattle.tetri_logs.specs.Entry.{layout_at, line_entries}
 use Rattle.tetri_logs.specs.Layout.{first_layout}
 use Rattle.tetri_logs.specs.Lines.{log_lines}
-use Rattle.tetri_logs.specs.declared.account.Account.{Account}
 use Rattle.tetri_logs.specs.declared.entry.Reject.{Reject}
 use Rattle.tetri_logs.specs.declared.entry.Entry.{Entry}
 use Rattle.tetri_logs.specs.declared.entry.Entry.TheVariants.{Job, Comment, Left}
@@ -32,11 +31,6 @@ jobs_in [] = []
 jobs_in (Job job ∷ es) = job ∷ jobs_in es
 jobs_in (Comment fact ∷ es) = jobs_in es
 jobs_in (Left reject ∷ es) = jobs_in es
-
--- what the log says of the first of these jobs
-abbrev pub first_account : List LoggedJob → Option Account
-first_account [] = None
-first_account (job ∷ jobs) = Some job.account
 
 -- the lines that bring no job, and the tasks of an array that bring none
 abbrev pub left_in : List Entry → List Reject

@@ -1,5 +1,5 @@
 // What a line of a log is.
-ghost use Rattle.std.specs.Prelude.{◌≡◌, ◌∷◌, [], IfOk, OnOk, false, map, unwrap_or};
+ghost use Rattle.std.specs.Prelude.{◌≡◌, ◌∷◌, [], IfOk, OnOk, map, unwrap_or};
 ghost use Rattle.tetri_logs.specs.Entry.{entries_in, header_at, header_entry, ids_if, layout_at, line_entries, row_entries, row_entry, swf_entry, table_entries, with_name};
 ghost use Rattle.tetri_logs.specs.Sacct.{id_name, told_cell};
 ghost use Rattle.tetri_logs.specs.SetText.{seated};
@@ -82,7 +82,7 @@ pub enum Entry<'a> {
 
 /// What a line of a log is: one entry, or the tasks of an array.
 #[derive(Drop)]
-pub(crate) enum Entries<'a> {
+pub enum Entries<'a> {
     One(Entry<'a>),
     Tasks(Vec<Entry<'a>>),
 }
@@ -137,24 +137,8 @@ fn with_made_name<'a>(
     }
 }
 
-/// What a line of the Standard Workload Format is where all nodes are alike. The words of the line take the place of others. Its only error
-/// is want of memory.
+// What a line of the Standard Workload Format is.
 #[inline(always)]
-pub fn alike_entry<'a>(
-    line: usize,
-    words: &mut Vec<&'a [u8]>,
-    text: &'a [u8],
-) -> Result<Entry<'a>, AllocError>
-    ensures { IfOk result (λ e. e ≡ swf_entry false line text.now) }
-{
-    words_of(words, text)?;
-    let words = words.as_slice();
-    if is_comment(text) {
-        return Ok(Entry::Comment(fact_in(words)));
-    }
-    Ok(with_name(line, word_at(words, 0), swf_account(words)))
-}
-
 fn swf_entry<'a>(
     alloc: Global,
     seats: &mut Seats<'a>,
@@ -341,6 +325,7 @@ fn table_entries<'a>(
 }
 
 /// The same as `read_entries`, without a vector for an entry alone. The words of the line take the place of others.
+#[inline(always)]
 pub(crate) fn line_entries<'a>(
     alloc: Global,
     seats: &mut Seats<'a>,

@@ -22,11 +22,12 @@ mod set_text;
 mod swf;
 mod tasks;
 mod times;
+mod walk;
 mod words;
 
 pub use account::Account;
 pub use comments::Fact;
-pub use entry::{Cause, Entry, Format, LoggedJob, Reject, alike_entry, read_entries};
+pub use entry::{Cause, Entries, Entry, Format, LoggedJob, Reject, read_entries};
 pub use header::Header;
 pub use job_name::JobName;
 pub use layout::{Layout, first_layout};
@@ -37,3 +38,4 @@ pub use placing::{Placing, place};
 pub use reading::{Facts, FirstJob, Log, first_job, read_log, with_fact};
 pub use set_text::SetText;
 pub use times::seconds_in;
+pub use walk::Walk;

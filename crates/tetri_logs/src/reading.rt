@@ -1,16 +1,12 @@
 // What a log says.
-ghost use Rattle.std.specs.Prelude.{◌≡◌, ◌+◌, ◌++◌, ◌∷◌, [], IfOk, OnOk, false, length, map, option_map};
+ghost use Rattle.std.specs.Prelude.{◌≡◌, ◌+◌, ◌++◌, ◌∷◌, [], IfOk, OnOk, length, option_map, slice_get};
 ghost use Rattle.tetri_base.specs.Lists.{count};
 ghost use Rattle.tetri_logs.specs.Entry.{entries_in};
-ghost use Rattle.tetri_logs.specs.Reading.{entries, facts_in, first_account, is_comment, jobs_in, left_in, no_facts, with_fact};
-ghost use Rattle.tetri_logs.specs.declared.entry.Format.TheVariants.{Swf};
+ghost use Rattle.tetri_logs.specs.Reading.{entries, facts_in, is_comment, jobs_in, left_in, no_facts, with_fact};
 
-use crate::account::Account;
 use crate::comments::Fact;
-use crate::entry::{Entries, Entry, Format, LoggedJob, Reject, alike_entry, line_entries};
-use crate::layout::first_layout;
-use crate::lines::next_line;
-use crate::seats::Seats;
+use crate::entry::{Entries, Entry, Format, LoggedJob, Reject};
+use crate::walk::Walk;
 use std::alloc::{AllocError, Global};
 
 /// What the comments of a log say.
@@ -147,47 +143,64 @@ fn read_lines<'a>(
         facts: NO_FACTS,
         comments: 0,
     };
-    let mut layout = first_layout(format);
-    let mut seats = Seats::new(alloc, mixed);
-    let mut words = Vec::new(alloc);
-    let mut rest = log;
-    let mut number = 0usize;
-    while let Some((line, behind)) = next_line(rest) {
-        number += 1;
-        let entries = line_entries(alloc, &mut seats, &mut layout, number, &mut words, line)?;
-        read.comments += comments_of(&entries);
-        add_all(&mut read, entries)?;
-        rest = behind;
+    let mut walk = Walk::new(alloc, mixed, format, log);
+    while let Some(found) = walk.next(alloc)? {
+        read.comments += comments_of(&found);
+        add_all(&mut read, found)?;
     }
     Ok(read)
 }
 
 /// The first job of a log, and what the comments before it say.
-#[derive(Clone, Copy, Debug, PartialEq, Eq)]
-pub struct FirstJob {
-    pub account: Account,
+#[derive(Drop)]
+pub struct FirstJob<'a> {
+    pub job: LoggedJob<'a>,
     pub facts: Facts,
 }
 
-/// The first job of a log in the Standard Workload Format where all nodes are alike, if there is one. Its only error is want of memory.
-pub fn first_job(alloc: Global, log: &[u8]) -> Result<Option<FirstJob>, AllocError>
-    ensures { IfOk result (λ first. option_map (λ f. f.account) first ≡ first_account (jobs_in (entries false Swf log.now))) }
+// The first job of these.
+fn first_of(entries: Vec<Entry<'_>>) -> Option<LoggedJob<'_>>
+    ensures { result ≡ slice_get (jobs_in entries.entry.items) 0 }
 {
-    let mut words = Vec::new(alloc);
-    let mut facts = NO_FACTS;
-    let mut rest = log;
-    let mut number = 0usize;
-    while let Some((line, behind)) = next_line(rest) {
-        number += 1;
-        match alike_entry(number, &mut words, line)? {
-            Entry::Job(job) => {
-                let account = job.account;
-                return Ok(Some(FirstJob { account, facts }));
-            }
-            Entry::Comment(fact) => facts = with_fact(facts, fact),
-            Entry::Left(_) => {}
+    for entry in entries {
+        if let Entry::Job(job) = entry {
+            return Some(job);
         }
-        rest = behind;
+    }
+    None
+}
+
+// The first job of a line.
+fn first_in(found: Entries<'_>) -> Option<LoggedJob<'_>>
+    ensures { result ≡ slice_get (jobs_in (entries_in found.entry)) 0 }
+{
+    match found {
+        Entries::One(Entry::Job(job)) => Some(job),
+        Entries::One(_) => None,
+        Entries::Tasks(entries) => first_of(entries),
+    }
+}
+
+/// The first job of a log, if there is one; with its set, where nodes differ. Its only error is want of memory.
+pub fn first_job<'a>(
+    alloc: Global,
+    mixed: bool,
+    format: Format,
+    log: &'a [u8],
+) -> Result<Option<FirstJob<'a>>, AllocError>
+    ensures { IfOk result (λ first. option_map (λ f. f.job) first ≡ slice_get (jobs_in (entries mixed format log.now)) 0) }
+{
+    let mut facts = NO_FACTS;
+    let mut walk = Walk::new(alloc, mixed, format, log);
+    while let Some(found) = walk.next(alloc)? {
+        match found {
+            Entries::One(Entry::Comment(fact)) => facts = with_fact(facts, fact),
+            found => {
+                if let Some(job) = first_in(found) {
+                    return Ok(Some(FirstJob { job, facts }));
+                }
+            }
+        }
     }
     Ok(None)
 }

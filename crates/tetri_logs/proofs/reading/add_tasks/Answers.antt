@@ -1,6 +1,6 @@
 use Rattle.std.proofs.Common.{◌∙◌, ◌++◌, ◌∷◌, [], ap, sym}
 use Rattle.tetri_logs.specs.Reading.{facts_in, jobs_in, left_in}
-use Rattle.tetri_logs.proofs.ReadingLemmas.{facts_in-append, jobs_in-more, left_in-more}
+use Rattle.tetri_logs.proofs.LogLaws.{facts_in-append, jobs_in-more, left_in-more}
 use Rattle.tetri_logs.proofs.reading.add_tasks.Goals as goal
 
 pub loop-entry-preserved : goal.loop-entry-preserved
