@@ -1,21 +1,20 @@
 -- Jobs that come in their turn are in order of submission, and leave no gap.
-use Rattle.std.proofs.Common.{◌≡◌, ◌+◌, ◌<◌, ◌≤◌, ◌∙◌, ◌++◌, ℕ, zero, suc, List, Bool, true, false, [], ◌∷◌, length, get_or, cond, refl, ap, sym, subst, arith, nat_cmp, is_lt}
-use Rattle.std.specs.Prelude.{None, Some, fold, is_some}
+use Rattle.std.proofs.Common.{◌≡◌, ◌+◌, ◌<◌, ◌≤◌, ◌∙◌, ◌++◌, ℕ, zero, suc, List, Bool, true, false, [], ◌∷◌, length, map, get_or, cond, refl, ap, sym, subst, arith, nat_cmp, is_lt}
+use Rattle.std.specs.Prelude.{None, Some, fold, is_some, slice_get}
 use Rattle.std.proofs.lemmas.Bool.Decides.{nat_tests}
+use Rattle.std.proofs.lemmas.List.{map-append}
+use Rattle.std.proofs.lemmas.List.Sums.{fold-append}
 use Rattle.tetri_cluster.specs.declared.cluster.NodeText.{NodeText}
 use Rattle.tetri_logs.specs.Origin.{begun, begun_with, gap_after, gap_of}
-use Rattle.tetri_base.specs.Lists.{count}
-use Rattle.tetri_logs.specs.Reading.{first_account, is_comment, jobs_in}
-use Rattle.tetri_logs.specs.declared.account.Account.{Account}
+use Rattle.tetri_logs.specs.Reading.{jobs_in}
 use Rattle.tetri_logs.specs.declared.entry.Entry.{Entry}
-use Rattle.tetri_logs.specs.declared.entry.Entry.TheVariants.{Job, Comment, Left}
 use Rattle.tetri_logs.specs.declared.entry.LoggedJob.{LoggedJob}
 use Rattle.tetri_logs.specs.declared.options.Options.{Options}
 use Rattle.tetri_logs.specs.declared.options.Settings.{Settings}
-use Rattle.tetri_logs.proofs.GapLemmas.{begun-first, gap_after-early}
+use Rattle.tetri_logs.proofs.LogLaws.{begun-first, gap_after-early, jobs_in-append}
 use Rattle.tetri_workload.specs.Kinds.{are_mixed, settled, settled_all}
 use Rattle.tetri_workload.specs.Ordering.{IsOrderBy}
-use Rattle.tetri_workload.specs.Reading.{ComeInTurn}
+use Rattle.tetri_workload.specs.Reading.{ComeInTurn, jobs_of}
 use Rattle.tetri_workload.specs.Taking.{Tally, with_logged}
 
 abbrev submit_of : LoggedJob → ℕ
@@ -41,13 +40,31 @@ in_order s last jobs turn = record {
   stable = λ x. refl;
 }
 
--- where nodes are alike these are the jobs themselves
-settled_by : (b : Bool) (nodes : List NodeText) (jobs settled : List LoggedJob) → b ≡ false → cond b settled jobs ≡ jobs
-settled_by true nodes jobs settled alike = cc
-settled_by false nodes jobs settled alike = refl
+-- some jobs and others, each with how many nodes are in its set where nodes differ
+settled-by : (mixed : Bool) (nodes : List NodeText) (xs ys : List LoggedJob)
+    → cond mixed (map (settled nodes) (xs ++ ys)) (xs ++ ys) ≡ cond mixed (map (settled nodes) xs) xs ++ cond mixed (map (settled nodes) ys) ys
+settled-by true nodes xs ys = map-append (settled nodes) xs ys
+settled-by false nodes xs ys = refl
 
-pub settled-alike : (nodes : List NodeText) (jobs : List LoggedJob) → are_mixed nodes ≡ false → settled_all nodes jobs ≡ jobs
-settled-alike nodes jobs alike = settled_by (are_mixed nodes) nodes jobs _ alike
+settled-append : (nodes : List NodeText) (xs ys : List LoggedJob) → settled_all nodes (xs ++ ys) ≡ settled_all nodes xs ++ settled_all nodes ys
+settled-append nodes xs ys = settled-by (are_mixed nodes) nodes xs ys
+
+none-by : (mixed : Bool) (nodes : List NodeText) → cond mixed (map (settled nodes) []) [] ≡ []
+none-by true nodes = refl
+none-by false nodes = refl
+
+pub settled-none : (nodes : List NodeText) → settled_all nodes [] ≡ []
+settled-none nodes = none-by (are_mixed nodes) nodes
+
+-- the jobs of some entries and of others
+pub jobs_of-append : (nodes : List NodeText) (xs ys : List Entry) → jobs_of nodes (xs ++ ys) ≡ jobs_of nodes xs ++ jobs_of nodes ys
+jobs_of-append nodes xs ys = ap (settled_all nodes) (jobs_in-append xs ys) ∙ settled-append nodes (jobs_in xs) (jobs_in ys)
+
+-- what is taken of them
+pub taken-append : (s : Settings) (nodes : List NodeText) (t : Tally) (xs ys : List Entry)
+    → fold (with_logged s) (fold (with_logged s) t (jobs_of nodes xs)) (jobs_of nodes ys) ≡ fold (with_logged s) t (jobs_of nodes (xs ++ ys))
+taken-append s nodes t xs ys =
+    sym (fold-append (with_logged s) t (jobs_of nodes xs) (jobs_of nodes ys)) ∙ ap (fold (with_logged s) t) (sym (jobs_of-append nodes xs ys))
 
 no_gap : (s : Settings) (last : ℕ) (jobs : List LoggedJob) → ComeInTurn s last jobs → (second : ℕ) → gap_after s second jobs ≡ None
 no_gap s last [] turn second = refl
@@ -61,24 +78,11 @@ pub no_gap-in_turn : (o : Options) (s : Settings) (last : ℕ) (jobs : List Logg
 no_gap-in_turn o s last jobs turn = gap_by (is_some o.from) o s jobs (no_gap s last jobs turn s.origin)
 
 -- the first job begins slot 0
-pub begun-of : (draft s : Settings) (a : Account) (jobs : List LoggedJob) → Some a ≡ first_account jobs → begun_with draft a ≡ Some s → begun draft jobs ≡ s
-begun-of draft s a [] first begins = cc
-begun-of draft s a (job ∷ jobs) first begins =
-    let same : job.account ≡ a = cc in
-    begun-first draft s job jobs (ap (begun_with draft) same ∙ begins)
-
--- one entry before others
-pub jobs_joined : (e : Entry) (es : List Entry) → jobs_in (e ∷ []) ++ jobs_in es ≡ jobs_in (e ∷ es)
-jobs_joined (Job job) es = refl
-jobs_joined (Comment fact) es = refl
-jobs_joined (Left reject) es = refl
-
-pub taken_joined : (s : Settings) (t : Tally) (e : Entry) (es : List Entry) → fold (with_logged s) (fold (with_logged s) t (jobs_in (e ∷ []))) (jobs_in es) ≡ fold (with_logged s) t (jobs_in (e ∷ es))
-taken_joined s t (Job job) es = refl
-taken_joined s t (Comment fact) es = refl
-taken_joined s t (Left reject) es = refl
-
-pub at_most_one : (e : Entry) → count is_comment (e ∷ []) ≤ 1
-at_most_one (Job job) = omega arith
-at_most_one (Comment fact) = omega arith
-at_most_one (Left reject) = omega arith
+pub begun-of : (draft s : Settings) (nodes : List NodeText) (job first : LoggedJob) (jobs : List LoggedJob)
+    → Some job ≡ slice_get jobs 0 → first ∷ [] ≡ settled_all nodes (job ∷ []) → begun_with draft first.account ≡ Some s → begun draft (settled_all nodes jobs) ≡ s
+begun-of draft s nodes job first [] is settles begins = cc
+begun-of draft s nodes job first (head ∷ jobs) is settles begins =
+    let same : head ≡ job = cc in
+    let split : settled_all nodes (head ∷ jobs) ≡ first ∷ settled_all nodes jobs =
+    settled-append nodes (head ∷ []) jobs ∙ ap (λ js. js ++ settled_all nodes jobs) (ap (λ j. settled_all nodes (j ∷ [])) same ∙ sym settles) in
+    ap (begun draft) split ∙ begun-first draft s first (settled_all nodes jobs) begins

@@ -1,8 +1,7 @@
 // From a log to a trace.
-ghost use Rattle.std.specs.Prelude.{◌≡◌, ◌+◌, ◌++◌, IfErr, IfOk, IfSome, OnOk, false, length};
+ghost use Rattle.std.specs.Prelude.{◌≡◌, ◌+◌, ◌++◌, IfErr, IfOk, IfSome, OnOk, length};
 ghost use Rattle.tetri_base.specs.Lists.{count};
 ghost use Rattle.tetri_logs.specs.Reading.{entries, facts_in, is_comment, jobs_in, left_in, no_facts};
-ghost use Rattle.tetri_logs.specs.declared.entry.Format.TheVariants.{Swf};
 ghost use Rattle.tetri_workload.specs.Import.{IsDrawn, IsImport, IsImportOn, IsRefused};
 ghost use Rattle.tetri_workload.specs.Kinds.{are_mixed, fitted};
 ghost use Rattle.tetri_workload.specs.Known.{AreKnown};
@@ -16,8 +15,8 @@ use crate::text::trace_text;
 use std::alloc::{AllocError, Global};
 use tetri_cluster::NodeText;
 use tetri_logs::{
-    Format, Log, OptionFault, Options, Reject, Settings, begun, begun_with, early_fault, first_job,
-    gap_of, read_log, settings_of,
+    FirstJob, Format, Log, OptionFault, Options, Reject, Settings, begun, begun_with, early_fault,
+    first_job, gap_of, read_log, settings_of,
 };
 
 /// Why a log is not imported.
@@ -139,30 +138,34 @@ fn draw_sorted(
     })
 }
 
-// The same of a log in the Standard Workload Format where all nodes are alike, without a list of its jobs: nothing where they do not come
-// in their turn, the first of them does not begin the trace, or a comment behind it says something of the cluster.
+// The same without a list of its jobs: nothing where they do not come in their turn, a line has tasks of an array, the first job does not
+// begin the trace, or a comment behind it says something of the cluster.
 fn draw_in_turn(
     alloc: Global,
+    kinds: &mut Kinds,
+    format: Format,
     options: &Options,
     nodes: &[NodeText],
     log: &[u8],
 ) -> Result<Option<Drawn>, AllocError>
-    requires { are_mixed nodes.now ≡ false }
-    ensures { IfOk result (λ drawn. IfSome drawn (IsDrawn (entries false Swf log.now) nodes.now options.now)) }
+    requires { AreKnown nodes.now kinds.old }
+    ensures known { OnOk result (AreKnown nodes.now kinds.new) }
+    ensures drawn { IfOk result (λ drawn. IfSome drawn (IsDrawn (entries (are_mixed nodes.now) format log.now) nodes.now options.now)) }
 {
-    let Some(first) = first_job(alloc, log)? else {
+    let Some(FirstJob { job, facts }) = first_job(alloc, are_mixed(nodes), format, log)? else {
         return Ok(None);
     };
-    let Ok(draft) = settings_of(options, first.facts) else {
+    let Ok(draft) = settings_of(options, facts) else {
         return Ok(None);
     };
+    let first = kinds.settle_one(alloc, nodes, job)?;
     let Some(settings) = begun_with(&draft, first.account) else {
         return Ok(None);
     };
-    let Some(read) = read_in_turn(alloc, &settings, log)? else {
+    let Some(read) = read_in_turn(alloc, kinds, format, &settings, nodes, log)? else {
         return Ok(None);
     };
-    if read.facts != first.facts {
+    if read.facts != facts {
         return Ok(None);
     }
     Ok(Some(Drawn {
@@ -187,12 +190,9 @@ fn draw(
     ensures drawn { IfOk result (IsDrawn (entries (are_mixed nodes.now) format log.now) nodes.now options.now) }
     ensures refused { IfErr result (IsRefused (entries (are_mixed nodes.now) format log.now) nodes.now options.now) }
 {
-    match format {
-        Format::Swf if !are_mixed(nodes) => match draw_in_turn(alloc, options, nodes, log)? {
-            Some(drawn) => Ok(drawn),
-            None => draw_sorted(alloc, kinds, format, options, nodes, log),
-        },
-        _ => draw_sorted(alloc, kinds, format, options, nodes, log),
+    match draw_in_turn(alloc, kinds, format, options, nodes, log)? {
+        Some(drawn) => Ok(drawn),
+        None => draw_sorted(alloc, kinds, format, options, nodes, log),
     }
 }
 

@@ -1,5 +1,5 @@
 // Nodes that differ, and which of them are in a set.
-ghost use Rattle.std.specs.Prelude.{◌≡◌, ◌↔◌, ◌<◌, [], IfOk, IfSome, IsTrue, OnOk, false, length, map, slice_index_or};
+ghost use Rattle.std.specs.Prelude.{◌≡◌, ◌↔◌, ◌<◌, ◌∷◌, [], IfOk, IfSome, IsTrue, OnOk, false, length, map, slice_index_or};
 ghost use Rattle.tetri_cluster.specs.Names.{is_among};
 ghost use Rattle.tetri_workload.specs.Kinds.{are_mixed, fitted, has_all, members, members_from, settled, settled_all, tags_in};
 
@@ -7,7 +7,7 @@ use std::alloc::{AllocError, Global};
 use tetri_base::Items;
 use tetri_cluster::{NameList, NameTable, NodeSet, NodeText};
 use tetri_io::parts_at;
-use tetri_logs::{LoggedJob, Options};
+use tetri_logs::{Account, LoggedJob, Options};
 
 // The nodes that a trace has at most.
 const MOST_NODES: usize = 4096;
@@ -180,6 +180,29 @@ impl Kinds {
     {
         let number = self.number(alloc, nodes, set)?;
         Ok(self.nodes_of(number).as_slice().len() as u32)
+    }
+
+    /// A job with how many nodes are in its set, where nodes differ. Its only error is want of memory.
+    #[inline(always)]
+    pub(crate) fn settle_one<'a>(
+        &mut self,
+        alloc: Global,
+        nodes: &[NodeText],
+        job: LoggedJob<'a>,
+    ) -> Result<LoggedJob<'a>, AllocError>
+        requires { AreKnown nodes.now self.old }
+        ensures known { OnOk result (AreKnown nodes.now self.new) }
+        ensures job { IfOk result (λ j. j ∷ [] ≡ settled_all nodes.now (job.entry ∷ [])) }
+    {
+        if !are_mixed(nodes) {
+            return Ok(job);
+        }
+        let room = self.room(alloc, nodes, job.set.text().as_bytes())?;
+        let account = Account {
+            room: Some(room),
+            ..job.account
+        };
+        Ok(LoggedJob { account, ..job })
     }
 
     // Each job with how many nodes are in its set.
