@@ -118,6 +118,28 @@ fn expect_rows(alloc: Global, tally: &mut Tally, e: &Expr, body: &str) -> Result
     Ok(())
 }
 
+// Reads texts over the nodes of a trace; nothing where the trace is refused.
+fn reader_of(alloc: Global, trace: &str) -> Result<Option<ClusterReader>, AllocError> {
+    match answer(alloc, trace.as_bytes())? {
+        Ok(trace) => Ok(Some(ClusterReader::new(alloc, trace.cluster))),
+        Err(_) => Ok(None),
+    }
+}
+
+fn expect_expression(
+    alloc: Global,
+    tally: &mut Tally,
+    reader: &mut ClusterReader,
+    text: &str,
+    body: &str,
+) -> Result<(), AllocError> {
+    let text = expand(alloc, text)?;
+    match reader.read_expr(alloc, &text, 1, 0) {
+        Ok(e) => expect_rows(alloc, tally, &e, body),
+        Err(_) => tally.expect("an expression", "refused", "read"),
+    }
+}
+
 /// Rows of an expression over the nodes of the trace, whose grants are those of job 1: `worth GRANTS`, `top FROM TO`,
 /// `aligned`, `copy`, `left FROM TO` with what is left of it in these slots, `waste GRANTS` with the place of the first grant
 /// that earns nothing, `trim GRANTS` and `idle GRANTS`.
@@ -128,13 +150,8 @@ pub fn expression(
     text: &str,
     body: &str,
 ) -> Result<(), AllocError> {
-    let Ok(trace) = answer(alloc, trace.as_bytes())? else {
-        return tally.expect("a trace", "refused", "read");
-    };
-    let mut reader = ClusterReader::new(alloc, trace.cluster);
-    let text = expand(alloc, text)?;
-    match reader.read_expr(alloc, &text, 1, 0) {
-        Ok(e) => expect_rows(alloc, tally, &e, body),
-        Err(_) => tally.expect("an expression", "refused", "read"),
+    match reader_of(alloc, trace)? {
+        Some(mut reader) => expect_expression(alloc, tally, &mut reader, text, body),
+        None => tally.expect("a trace", "refused", "read"),
     }
 }

@@ -64,27 +64,24 @@ fn expect_first(
     tally.expect(what, found.as_str(), wanted)
 }
 
-/// 4,096 sets of two nodes, one more, and fewer.
-pub fn numbered_sets(alloc: Global, tally: &mut Tally) -> Result<(), AllocError> {
-    let mut sets = Sets::new(alloc);
-    fill(alloc, tally, &mut sets)?;
-    expect_found(alloc, tally, &mut sets, 7, 8, "Ok(7)")?;
-    expect_found(alloc, tally, &mut sets, 7, 9, "Err(Full)")?;
+fn expect_sets(alloc: Global, tally: &mut Tally, sets: &mut Sets) -> Result<(), AllocError> {
+    fill(alloc, tally, sets)?;
+    expect_found(alloc, tally, sets, 7, 8, "Ok(7)")?;
+    expect_found(alloc, tally, sets, 7, 9, "Err(Full)")?;
     expect_first(
         alloc,
         tally,
-        &mut sets,
+        sets,
         5000,
         "all sets",
         "4096 [2, 3] true false",
     )?;
-    expect_first(
-        alloc,
-        tally,
-        &mut sets,
-        3,
-        "three sets",
-        "3 [2, 3] true false",
-    )?;
-    expect_found(alloc, tally, &mut sets, 7, 9, "Ok(3)")
+    expect_first(alloc, tally, sets, 3, "three sets", "3 [2, 3] true false")?;
+    expect_found(alloc, tally, sets, 7, 9, "Ok(3)")
+}
+
+/// 4,096 sets of two nodes, one more, and fewer.
+pub fn numbered_sets(alloc: Global, tally: &mut Tally) -> Result<(), AllocError> {
+    let mut sets = Sets::new(alloc);
+    expect_sets(alloc, tally, &mut sets)
 }

@@ -162,12 +162,16 @@ fn trace_told(alloc: Global, trace: &Trace) -> Result<String, AllocError> {
     Ok(out)
 }
 
+fn read_told(alloc: Global, trace: &str) -> Result<String, AllocError> {
+    match answer(alloc, trace.as_bytes())? {
+        Ok(trace) => trace_told(alloc, &trace),
+        Err(fault) => fault_told(alloc, fault),
+    }
+}
+
 /// The text is what the trace says, by the numbers of nodes, sets and jobs.
 pub fn read(alloc: Global, given: &Given, tally: &mut Tally, body: &str) -> Result<(), AllocError> {
-    let found = match answer(alloc, given.trace.as_bytes())? {
-        Ok(trace) => trace_told(alloc, &trace)?,
-        Err(fault) => fault_told(alloc, fault)?,
-    };
+    let found = read_told(alloc, given.trace.as_str())?;
     tally.expect("a trace", found.as_str(), body)
 }
 

@@ -105,6 +105,20 @@ fn cluster_told(alloc: Global, cluster: &Cluster, row: &str) -> Result<String, A
     }
 }
 
+fn expect_nodes(
+    alloc: Global,
+    tally: &mut Tally,
+    cluster: &Cluster,
+    body: &str,
+) -> Result<(), AllocError> {
+    for row in body.lines() {
+        let (what, wanted) = halves(row);
+        let found = cluster_told(alloc, cluster, what)?;
+        tally.expect(row, found.as_str(), wanted)?;
+    }
+    Ok(())
+}
+
 /// Rows over the nodes of the trace: `count`, `node NAME`, `tag TAG`, `name NUMBER` and `has NUMBER TAG`, each with what it
 /// answers.
 pub fn nodes(
@@ -113,15 +127,10 @@ pub fn nodes(
     tally: &mut Tally,
     body: &str,
 ) -> Result<(), AllocError> {
-    let Some(cluster) = cluster_of(alloc, given, tally)? else {
-        return Ok(());
-    };
-    for row in body.lines() {
-        let (what, wanted) = halves(row);
-        let found = cluster_told(alloc, &cluster, what)?;
-        tally.expect(row, found.as_str(), wanted)?;
+    match cluster_of(alloc, given, tally)? {
+        Some(cluster) => expect_nodes(alloc, tally, &cluster, body),
+        None => Ok(()),
     }
-    Ok(())
 }
 
 // A node of this name without tags, where it is a name.

@@ -69,9 +69,9 @@ fn text_told(
     text: &[u8],
 ) -> Result<(String, Cluster), AllocError> {
     let mut reader = ClusterReader::new(alloc, cluster);
-    let found = told(alloc, &mut reader, limits, text)?;
+    let found = told(alloc, &mut reader, limits, text);
     let (cluster, _) = reader.into_parts();
-    Ok((found, cluster))
+    Ok((found?, cluster))
 }
 
 fn expect_found(
@@ -121,7 +121,22 @@ pub fn texts(
     Ok(())
 }
 
-// The text of what a text says, for a job of this arrival, and the nodes back.
+// The text of what a text says, for a job of this arrival.
+fn print_told(
+    alloc: Global,
+    reader: &mut ClusterReader,
+    text: &[u8],
+    arrival: u32,
+) -> Result<Vec<u8>, AllocError>
+    requires { arrival ≤ 10000 }
+{
+    match reader.read_expr(alloc, text, 1, arrival) {
+        Ok(e) => print_expr(alloc, &e, arrival, reader.cluster(), reader.sets()),
+        Err(_) => Vec::from_slice(alloc, b"not read"),
+    }
+}
+
+// The same over these nodes, which are given back.
 fn printed(
     alloc: Global,
     text: &[u8],
@@ -131,15 +146,23 @@ fn printed(
     requires { arrival ≤ 10000 }
 {
     let mut reader = ClusterReader::new(alloc, cluster);
-    let text = match reader.read_expr(alloc, text, 1, arrival) {
-        Ok(e) => print_expr(alloc, &e, arrival, reader.cluster(), reader.sets())?,
-        Err(_) => Vec::from_slice(alloc, b"not read")?,
-    };
+    let text = print_told(alloc, &mut reader, text, arrival);
     let (cluster, _) = reader.into_parts();
-    Ok((text, cluster))
+    Ok((text?, cluster))
 }
 
-// Notes how a text is printed, and gives what is printed, with the nodes.
+// Notes how a text is printed.
+fn expect_printed(
+    alloc: Global,
+    tally: &mut Tally,
+    row: &str,
+    text: &[u8],
+) -> Result<(), AllocError> {
+    let wanted = expand_text(alloc, halves(row).1)?;
+    tally.expect(row, str::from_utf8(text).unwrap_or(""), wanted.as_str())
+}
+
+// The same of a text that is printed, and gives what is printed, with the nodes.
 fn expect_print(
     alloc: Global,
     tally: &mut Tally,
@@ -151,8 +174,7 @@ fn expect_print(
     requires { arrival ≤ 10000 }
 {
     let (text, cluster) = printed(alloc, text, arrival, cluster)?;
-    let wanted = expand_text(alloc, halves(row).1)?;
-    tally.expect(row, str::from_utf8(&text).unwrap_or(""), wanted.as_str())?;
+    expect_printed(alloc, tally, row, &text)?;
     Ok((text, cluster))
 }
 

@@ -88,6 +88,18 @@ fn expect_row(
     tally.expect(row, found.as_str(), wanted.as_str())
 }
 
+fn expect_rows(
+    alloc: Global,
+    tally: &mut Tally,
+    reader: &mut ClusterReader,
+    body: &str,
+) -> Result<(), AllocError> {
+    for row in body.lines() {
+        expect_row(alloc, tally, reader, row)?;
+    }
+    Ok(())
+}
+
 /// Rows over the nodes of the trace, one behind the other over the same sets: `set: TEXT => NUMBER [NODES]`,
 /// `fill: COUNT => NUMBER OF SETS` with the sets `{n0}`, `{n1}` and so on, `expression: TEXT => NUMBER OF SETS`, and `lone set` and `lone expression`,
 /// which are read with no other sets.
@@ -96,8 +108,5 @@ pub fn sets(alloc: Global, given: &Given, tally: &mut Tally, body: &str) -> Resu
         return Ok(());
     };
     let mut reader = ClusterReader::new(alloc, cluster);
-    for row in body.lines() {
-        expect_row(alloc, tally, &mut reader, row)?;
-    }
-    Ok(())
+    expect_rows(alloc, tally, &mut reader, body)
 }
