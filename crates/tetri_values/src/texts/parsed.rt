@@ -121,22 +121,7 @@ pub fn texts(
     Ok(())
 }
 
-// The text of what a text says, for a job of this arrival.
-fn print_told(
-    alloc: Global,
-    reader: &mut ClusterReader,
-    text: &[u8],
-    arrival: u32,
-) -> Result<Vec<u8>, AllocError>
-    requires { arrival ≤ 10000 }
-{
-    match reader.read_expr(alloc, text, 1, arrival) {
-        Ok(e) => print_expr(alloc, &e, arrival, reader.cluster(), reader.sets()),
-        Err(_) => Vec::from_slice(alloc, b"not read"),
-    }
-}
-
-// The same over these nodes, which are given back.
+// The text of what a text says, for a job of this arrival, and the nodes back.
 fn printed(
     alloc: Global,
     text: &[u8],
@@ -146,9 +131,12 @@ fn printed(
     requires { arrival ≤ 10000 }
 {
     let mut reader = ClusterReader::new(alloc, cluster);
-    let text = print_told(alloc, &mut reader, text, arrival);
+    let text = match reader.read_expr(alloc, text, 1, arrival) {
+        Ok(e) => print_expr(alloc, &e, arrival, reader.cluster(), reader.sets())?,
+        Err(_) => Vec::from_slice(alloc, b"not read")?,
+    };
     let (cluster, _) = reader.into_parts();
-    Ok((text?, cluster))
+    Ok((text, cluster))
 }
 
 // Notes how a text is printed.
