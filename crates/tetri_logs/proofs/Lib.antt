@@ -6,3 +6,4 @@ mod WordLemmas
 mod LineLemmas
 mod GapLemmas
 mod SeparatorLemmas
+mod TimeLemmas

@@ -38,7 +38,7 @@ pub parts_from-start : (p : ℕ → Bool) (bs : List ℕ) → parts_from p [] bs
 parts_from-start p bs = parts_onto p [] bs ∙ onto-nil (slice_split p bs) (omega (arith, length-slice_split p bs))
 
 -- what stands from one place to another, one byte on
-range_more : (xs : List ℕ) (from i : ℕ) → from ≤ i → i < length xs → slice_range xs from (i + 1) ≡ slice_range xs from i ++ get_or xs i 0 ∷ []
+pub range_more : (xs : List ℕ) (from i : ℕ) → from ≤ i → i < length xs → slice_range xs from (i + 1) ≡ slice_range xs from i ++ get_or xs i 0 ∷ []
 range_more xs from i order inside =
     let room : i - from < length (drop from xs) = omega (arith, length-drop from xs) in
     let one : i + 1 - from ≡ i - from + 1 = omega arith in

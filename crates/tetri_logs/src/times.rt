@@ -1,5 +1,5 @@
 // The moment that a text is.
-ghost use Rattle.std.specs.Prelude.{◌≡◌, ◌≤◌, ◌<◌, length, IfSome};
+ghost use Rattle.std.specs.Prelude.{◌≡◌, ◌+◌, ◌≤◌, ◌<◌, length, IfSome};
 ghost use Rattle.tetri_logs.specs.Times.{date_in, has_marks, part, seconds_in};
 
 use crate::calendar::{Date, is_date, seconds_of};
@@ -26,17 +26,31 @@ fn has_marks(text: &[u8]) -> bool
         && text[16] == b':'
 }
 
+// The number that two digits are.
+#[tactic(auto, using(crate::proofs::TimeLemmas::is_pair, crate::proofs::TimeLemmas::no_first, crate::proofs::TimeLemmas::no_second))]
+fn pair(text: &[u8], from: usize) -> Option<u64>
+    requires { from + 2 ≤ length text.now }
+    ensures { result ≡ part text.now from (from + 2) }
+{
+    let (tens, ones) = (text[from], text[from + 1]);
+    if tens.is_ascii_digit() && ones.is_ascii_digit() {
+        Some(u64::from(tens - b'0') * 10 + u64::from(ones - b'0'))
+    } else {
+        None
+    }
+}
+
 #[tactic(auto, unfolding(crate::specs::Times::date_in))]
 fn date_in(text: &[u8]) -> Option<Date>
     requires { length text.now ≡ 19 }
     ensures { result ≡ date_in text.now }
 {
     let year = part(text, 0, 4)?;
-    let month = part(text, 5, 7)?;
-    let day = part(text, 8, 10)?;
-    let hour = part(text, 11, 13)?;
-    let minute = part(text, 14, 16)?;
-    let second = part(text, 17, 19)?;
+    let month = pair(text, 5)?;
+    let day = pair(text, 8)?;
+    let hour = pair(text, 11)?;
+    let minute = pair(text, 14)?;
+    let second = pair(text, 17)?;
     Some(Date {
         year,
         month,

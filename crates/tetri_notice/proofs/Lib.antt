@@ -1,4 +1,6 @@
 pub mod ItemLemmas
+pub mod MemberLemmas
 pub mod NoticeLaws
 pub mod ObjectLemmas
 pub mod Options
+pub mod WrittenLemmas

@@ -6,3 +6,4 @@ pub mod Asks
 pub mod Objects
 pub mod Notices
 pub mod Words
+pub mod Written

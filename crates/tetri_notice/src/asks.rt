@@ -6,6 +6,7 @@ ghost use Rattle.tetri_strl.specs.WellMade.{PEAK};
 ghost use Rattle.tetri_notice.specs.Answers.{Gives};
 ghost use Rattle.tetri_notice.specs.Asks.{ask_at, ask_in, ask_keys, ask_text, class_of, elastic_of, number_at, object_keys, prefer_at, prefer_in, prefer_keys, prefer_text, run_of, set_text, worth_in, class_named, IsSoundAskText, IsSoundPreference, IsSoundPreferText};
 ghost use Rattle.tetri_notice.specs.Fields.{optional, slot_in, within};
+ghost use Rattle.tetri_notice.specs.Written.{whole};
 ghost use Rattle.tetri_notice.specs.declared.fault.Field.TheVariants as fields;
 ghost use Rattle.tetri_notice.specs.declared.fault.TraceWhy.TheVariants as whys;
 
@@ -94,26 +95,34 @@ fn set_text(ask: &Value) -> Result<&str, Stop>
     }
 }
 
-fn written_worth(value: &Value) -> Option<u64>
-    ensures { result ≡ option_and_then (within 0 PEAK) (slot_in (view value.now)) }
+fn written_worth(z: i64) -> Option<u64>
+    ensures { result ≡ option_and_then (within 0 PEAK) (slot_in (whole z)) }
 {
-    match value.as_i64() {
-        Some(n) if 0 <= n && n <= WORTH_MOST => Some(n as u64),
-        _ => None,
+    if 0 <= z && z <= WORTH_MOST {
+        Some(z as u64)
+    } else {
+        None
     }
 }
 
-// A written worth, times the unit.
-fn worth_in(unit: u64, value: &Value) -> Option<u64>
-    ensures value { result ≡ worth_in unit (view value.now) }
+/// A written worth, times the unit.
+pub(crate) fn worth_of(unit: u64, z: i64) -> Option<u64>
+    ensures value { result ≡ worth_in unit (whole z) }
     ensures within { IfSome result (λ v. v ≤ PEAK) }
 {
-    let worth = written_worth(value)?.checked_mul(unit)?;
+    let worth = written_worth(z)?.checked_mul(unit)?;
     if worth <= WORTH_MOST as u64 {
         Some(worth)
     } else {
         None
     }
+}
+
+fn worth_in(unit: u64, value: &Value) -> Option<u64>
+    ensures value { result ≡ worth_in unit (view value.now) }
+    ensures within { IfSome result (λ v. v ≤ PEAK) }
+{
+    worth_of(unit, value.as_i64()?)
 }
 
 fn worth_at(unit: u64, ask: &Value) -> Result<u64, Stop>
@@ -180,7 +189,8 @@ fn prefer_in(dur: u32, ask: &Value) -> Result<Option<PreferText>, Stop>
     Ok(Some(prefer))
 }
 
-fn class_named(name: &str) -> Option<Class>
+/// The class with this name.
+pub(crate) fn class_named(name: &str) -> Option<Class>
     ensures { result ≡ class_named name.now }
 {
     if name == "steady" {

@@ -8,6 +8,7 @@ mod fault;
 mod field;
 mod header;
 mod words;
+mod written;
 
 pub use asks::{AskText, PreferText};
 pub use closures::ClosureText;
@@ -15,3 +16,4 @@ pub use event::{Notice, WorkText, event_in};
 pub use fault::{Field, Stop, TraceFault, TraceWhy};
 pub use field::{object_in, read_name};
 pub use header::{Header, HeaderText, header_in};
+pub use written::written_event;

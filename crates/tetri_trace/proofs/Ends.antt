@@ -1,14 +1,12 @@
--- Lines that are refused before their object is read, and the end of a content.
+-- Lines that are refused, and the end of a content.
 use Rattle.std.proofs.Common.{◌≡◌, ℕ, ◌+◌, ◌<◌, ◌≤◌, ◌==◌, true, false, cond, List, [], ◌∷◌, ◌++◌, length, drop, refl, ap, ◌∙◌, Ok, Err, arith, lt-ltb}
 use Rattle.std.specs.Prelude.{Option, Result}
 use Rattle.std.proofs.lemmas.Bool.{le-ltb}
-use Rattle.serde_json.specs.Data.{Data}
 use Rattle.tetri_io.specs.Lines.{line_of, lines_from, onto}
 use Rattle.tetri_io.proofs.TextLaws.{first_line, line_of-le, some_line}
 use Rattle.tetri_notice.specs.Answers.{Stops}
 use Rattle.tetri_trace.specs.Answers.{Fails, fault_at}
-use Rattle.tetri_notice.specs.Fields.{object_in}
-use Rattle.tetri_trace.specs.Lines.{add_line, add_object, from_lines, is_blank_line}
+use Rattle.tetri_trace.specs.Lines.{add_line, from_lines}
 use Rattle.tetri_trace.specs.Scenario.{Scenario}
 use Rattle.tetri_notice.specs.declared.fault.Stop.{Stop}
 use Rattle.tetri_notice.specs.declared.fault.Stop.TheVariants as stops
@@ -16,17 +14,6 @@ use Rattle.tetri_notice.specs.declared.fault.TraceFault.{TraceFault}
 use Rattle.tetri_notice.specs.declared.fault.TraceFault.TheVariants as faults
 use Rattle.tetri_notice.specs.declared.fault.TraceWhy.{TraceWhy}
 use Rattle.tetri_notice.specs.declared.fault.TraceWhy.TheVariants.{LineTooLong}
-
--- no object stands in a line
-pub no_object : (so_far : Option Scenario) (line : List ℕ) (next : ℕ) (stop : Stop) → length line ≤ 1048576 → next ≤ 67108864 → is_blank_line line ≡ false → Stops stop (object_in line) → Stops stop (add_line so_far (line, next))
-unfolding add_line
-no_object so_far line next (stops.Because why) short early text h = rw (le-ltb 1048576 (length line) short, le-ltb 67108864 next early, text, h) refl
-no_object so_far line next stops.NoMemory short early text h = tt
-
--- an object that stands in a line is added
-pub has_object : (so_far : Option Scenario) (line : List ℕ) (next : ℕ) (d : Data) → length line ≤ 1048576 → next ≤ 67108864 → is_blank_line line ≡ false → object_in line ≡ Ok d → add_line so_far (line, next) ≡ add_object so_far d
-unfolding add_line
-has_object so_far line next d short early text e = rw (le-ltb 1048576 (length line) short, le-ltb 67108864 next early, text, e) refl
 
 -- a line with too many bytes is refused
 too_long : (so_far : Option Scenario) (line : ℕ) (l : List ℕ × ℕ) (others : List (List ℕ × ℕ)) → 1048576 < length l.0 → from_lines so_far line (l ∷ others) ≡ Err (line, LineTooLong)

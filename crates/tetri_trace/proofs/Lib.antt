@@ -3,6 +3,7 @@ pub mod Demands
 pub mod Ends
 pub mod JobNames
 pub mod Later
+pub mod LineLemmas
 pub mod NamedApart
 pub mod NamedLemmas
 pub mod SoundLemmas

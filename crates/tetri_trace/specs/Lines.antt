@@ -74,12 +74,13 @@ happened s at (drains name) = ok_or (number_of name (names_of s.nodes)) NoSuchNo
 happened s at (undrains name) = ok_or (number_of name (names_of s.nodes)) NoSuchNode >>= λ node. Ok (with_event s at (Undrain node))
 happened s at (fails name) = ok_or (number_of name (names_of s.nodes)) NoSuchNode >>= λ node. Ok (with_event s at (Fail node))
 
+-- the trace with what happens at a slot
+abbrev pub noticed : Scenario → ℕ × Notice → Result Scenario TraceWhy
+noticed s said = next_slot s said.0 >>= λ at. happened s at said.1
+
 -- the trace with the event that an object is
-unfoldable pub add_event : Scenario → Data → Result Scenario TraceWhy
-add_event s d = do
-  said ← event_in s.header.unit d
-  at ← next_slot s said.0
-  happened s at said.1
+abbrev pub add_event : Scenario → Data → Result Scenario TraceWhy
+add_event s d = event_in s.header.unit d >>= noticed s
 
 -- nodes whose names differ
 abbrev pub named_apart : List NodeText → Result (List NodeText) TraceWhy

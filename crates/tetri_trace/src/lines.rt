@@ -1,18 +1,23 @@
 // A trace, line by line.
-ghost use Rattle.std.specs.Prelude.{◌≡◌, ◌≤◌, OnOk, option_map};
+ghost use Rattle.std.specs.Prelude.{◌≡◌, ◌≤◌, IfOk, None, OnOk, Some, option_map};
 ghost use Rattle.std.specs.Option.{ForSome};
 ghost use Rattle.serde_json.specs.View.{view};
+ghost use Rattle.tetri_base.specs.ResultSteps.{◌>>=◌};
 ghost use Rattle.tetri_notice.specs.Answers.{Gives};
+ghost use Rattle.tetri_notice.specs.Fields.{object_in};
+ghost use Rattle.tetri_notice.specs.Notices.{IsGoodNotice};
+ghost use Rattle.tetri_notice.specs.Objects.{notice as notice_said};
 ghost use Rattle.tetri_trace.specs.Draft.{so_far, IsSoundDraft};
-ghost use Rattle.tetri_trace.specs.Lines.{add_event, add_line, add_object, is_blank_line};
+ghost use Rattle.tetri_trace.specs.Lines.{add_event, add_line, add_object, is_blank_line, noticed};
 
 use crate::draft::Draft;
 use crate::happen::{happened, next_slot};
 use crate::header::begun;
+use json::Scratch;
 use serde_json::Value;
 use std::alloc::Global;
 use tetri_io::is_blank;
-use tetri_notice::{Stop, TraceWhy, event_in, header_in, object_in};
+use tetri_notice::{Notice, Stop, TraceWhy, event_in, header_in, object_in, written_event};
 
 /// The bytes that a line has at most, without its line feed.
 pub(crate) const LINE_MOST: usize = 1_048_576;
@@ -25,37 +30,60 @@ fn is_blank_line(line: &[u8]) -> bool
     line.iter().all(|b| is_blank(*b))
 }
 
-#[tactic(auto, unfolding(crate::specs::Lines::add_event))]
+// What happens at a slot.
+fn add_notice(alloc: Global, draft: &mut Draft, at: u64, notice: Notice) -> Result<(), Stop>
+    requires sound { IsSoundDraft draft.old }
+    requires good { IsGoodNotice (notice_said notice) }
+    ensures gives { Gives (λ _. so_far draft.new) result (noticed (so_far draft.old) (at, notice_said notice.entry)) }
+    ensures sound { OnOk result (IsSoundDraft draft.new) }
+{
+    let at = next_slot(draft, at)?;
+    happened(alloc, draft, at, notice)
+}
+
 fn add_event(alloc: Global, draft: &mut Draft, object: &Value) -> Result<(), Stop>
     requires { IsSoundDraft draft.old }
     ensures gives { Gives (λ _. so_far draft.new) result (add_event (so_far draft.old) (view object.now)) }
     ensures sound { OnOk result (IsSoundDraft draft.new) }
 {
     let (at, notice) = event_in(draft.header.unit, object)?;
-    let at = next_slot(draft, at)?;
-    happened(alloc, draft, at, notice)
+    add_notice(alloc, draft, at, notice)
 }
 
-// The first object is the header, and each later one an event.
-fn add_object(alloc: Global, draft: &mut Option<Draft>, object: &Value) -> Result<(), Stop>
-    requires { ForSome draft.old IsSoundDraft }
-    ensures gives { Gives (λ _. option_map so_far draft.new) result (add_object (option_map so_far draft.old) (view object.now)) }
-    ensures sound { OnOk result (ForSome draft.new IsSoundDraft) }
+// The event that a line is. Lines that an import wrote are read quickly.
+#[tactic(auto, using(crate::proofs::LineLemmas::in_turn))]
+fn add_event_line(
+    alloc: Global,
+    scratch: &mut Scratch,
+    draft: &mut Draft,
+    line: &[u8],
+) -> Result<(), Stop>
+    requires { IsSoundDraft draft.old }
+    ensures gives { Gives (λ _. so_far draft.new) result (object_in line.now >>= add_event (so_far draft.old)) }
+    ensures sound { OnOk result (IsSoundDraft draft.new) }
 {
-    match draft {
-        Some(draft) => add_event(alloc, draft, object),
-        None => {
-            let header = header_in(alloc, object)?;
-            *draft = Some(begun(alloc, header)?);
-            Ok(())
-        }
+    if let Some((at, notice)) = written_event(draft.header.unit, line, scratch) {
+        return add_notice(alloc, draft, at, notice);
     }
+    let object = object_in(alloc, line)?;
+    add_event(alloc, draft, &object)
 }
 
-/// Adds a line, where `next` is the offset behind it and its line feed.
+// The trace that the header on a line begins.
+fn header_line(alloc: Global, line: &[u8]) -> Result<Draft, Stop>
+    ensures gives { Gives (λ draft. Some (so_far draft)) result (object_in line.now >>= add_object None) }
+    ensures sound { IfOk result IsSoundDraft }
+{
+    let object = object_in(alloc, line)?;
+    let header = header_in(alloc, &object)?;
+    begun(alloc, header)
+}
+
+/// Adds a line, where `next` is the offset behind it and its line feed. The first object is the header, and each later one an event.
 #[tactic(auto, unfolding(crate::specs::Lines::add_line))]
 pub(crate) fn add_line(
     alloc: Global,
+    scratch: &mut Scratch,
     draft: &mut Option<Draft>,
     line: &[u8],
     next: u64,
@@ -74,6 +102,11 @@ pub(crate) fn add_line(
     if is_blank_line(line) {
         return Ok(());
     }
-    let object = object_in(alloc, line)?;
-    add_object(alloc, draft, &object)
+    match draft {
+        Some(draft) => add_event_line(alloc, scratch, draft, line),
+        None => {
+            *draft = Some(header_line(alloc, line)?);
+            Ok(())
+        }
+    }
 }
