@@ -16,7 +16,8 @@ two_bytes xs from inside =
     let none : from - from ≡ 0 = omega arith in
     let first = range_more xs from from (omega arith) (omega arith) ∙ ap (λ n. take n (drop from xs) ++ get_or xs from 0 ∷ []) none in
     let second = range_more xs from (from + 1) (omega arith) (omega arith) in
-    second ∙ ap (λ l. l ++ get_or xs (from + 1) 0 ∷ []) first
+    let two : from + 2 ≡ from + 1 + 1 = omega arith in
+    ap (slice_range xs from) two ∙ second ∙ ap (λ l. l ++ get_or xs (from + 1) 0 ∷ []) first
 
 value_of : (x : ℕ) → is_ascii_digit x ≡ true → (digit_value x ≡ x - 48) × (x - 48 < 10)
 value_of x is = let range : IsInRange 48 57 x = grind (arith, nat_tests) in (omega (arith, digit_value_digit x range), omega arith)

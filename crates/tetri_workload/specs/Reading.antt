@@ -21,7 +21,7 @@ ComeInTurn s last [] = Unit {0}
 ComeInTurn s last (job ∷ jobs) = (last ≤ job.account.submit) × (is_in_run s job.account ≡ true) × ComeInTurn s job.account.submit jobs
 
 -- no line is read
-pub record IsUnread (r : Reading) : Type 0 where
+pub record HasNoLine (r : Reading) : Type 0 where
   pub tally : so_far r.taken ≡ nothing_taken
   pub marks : HasMarks r.taken
   pub left : r.left.items ≡ []

@@ -7,7 +7,7 @@ ghost use Rattle.tetri_logs.specs.Reading.{entries, facts_in, is_comment, left_i
 ghost use Rattle.tetri_logs.specs.declared.entry.LoggedJob.{LoggedJob};
 ghost use Rattle.tetri_workload.specs.Kinds.{are_mixed, settled_all};
 ghost use Rattle.tetri_workload.specs.Known.{AreKnown};
-ghost use Rattle.tetri_workload.specs.Reading.{ComeInTurn, IsReadOf, IsUnread, jobs_of};
+ghost use Rattle.tetri_workload.specs.Reading.{ComeInTurn, HasNoLine, IsReadOf, jobs_of};
 ghost use Rattle.tetri_workload.specs.Taking.{HasMarks, so_far, with_logged};
 
 use crate::kinds::{Kinds, are_mixed};
@@ -152,7 +152,7 @@ impl Reading {
 
 // No line.
 fn nothing_read(alloc: Global) -> Result<Reading, AllocError>
-    ensures { IfOk result IsUnread }
+    ensures { IfOk result HasNoLine }
 {
     Ok(Reading {
         taken: Taken::new(alloc)?,
