@@ -93,6 +93,14 @@ begun h = do
   closures ← ok_or (closures_at (names_of nodes) h.closures) NoSuchNode
   Ok (without_events h.header nodes closures)
 
+-- the trace with the event that a line is
+abbrev pub event_line : Scenario → List ℕ → Result Scenario TraceWhy
+event_line s line = object_in line >>= add_event s
+
+-- the trace that the header on a line begins
+abbrev pub header_line : List ℕ → Result Scenario TraceWhy
+header_line line = object_in line >>= λ d. header_in d >>= begun
+
 -- The first object is the header, and each later one an event.
 abbrev pub add_object : Option Scenario → Data → Result (Option Scenario) TraceWhy
 add_object None d = header_in d >>= λ h. begun h >>= λ s. Ok (Some s)

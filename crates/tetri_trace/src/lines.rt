@@ -1,14 +1,12 @@
 // A trace, line by line.
-ghost use Rattle.std.specs.Prelude.{◌≡◌, ◌≤◌, IfOk, None, OnOk, Some, option_map};
+ghost use Rattle.std.specs.Prelude.{◌≡◌, ◌≤◌, IfOk, OnOk, option_map};
 ghost use Rattle.std.specs.Option.{ForSome};
 ghost use Rattle.serde_json.specs.View.{view};
-ghost use Rattle.tetri_base.specs.ResultSteps.{◌>>=◌};
 ghost use Rattle.tetri_notice.specs.Answers.{Gives};
-ghost use Rattle.tetri_notice.specs.Fields.{object_in};
 ghost use Rattle.tetri_notice.specs.Notices.{IsGoodNotice};
 ghost use Rattle.tetri_notice.specs.Objects.{notice as notice_said};
 ghost use Rattle.tetri_trace.specs.Draft.{so_far, IsSoundDraft};
-ghost use Rattle.tetri_trace.specs.Lines.{add_event, add_line, add_object, is_blank_line, noticed};
+ghost use Rattle.tetri_trace.specs.Lines.{add_event, add_line, event_line, header_line, is_blank_line, noticed};
 
 use crate::draft::Draft;
 use crate::happen::{happened, next_slot};
@@ -59,7 +57,7 @@ fn add_event_line(
     line: &[u8],
 ) -> Result<(), Stop>
     requires { IsSoundDraft draft.old }
-    ensures gives { Gives (λ _. so_far draft.new) result (object_in line.now >>= add_event (so_far draft.old)) }
+    ensures gives { Gives (λ _. so_far draft.new) result (event_line (so_far draft.old) line.now) }
     ensures sound { OnOk result (IsSoundDraft draft.new) }
 {
     if let Some((at, notice)) = written_event(draft.header.unit, line, scratch) {
@@ -71,7 +69,7 @@ fn add_event_line(
 
 // The trace that the header on a line begins.
 fn header_line(alloc: Global, line: &[u8]) -> Result<Draft, Stop>
-    ensures gives { Gives (λ draft. Some (so_far draft)) result (object_in line.now >>= add_object None) }
+    ensures gives { Gives so_far result (header_line line.now) }
     ensures sound { IfOk result IsSoundDraft }
 {
     let object = object_in(alloc, line)?;
