@@ -97,12 +97,26 @@ fn put_policies(
     Ok(())
 }
 
-// The accounts of the reports and of the runs by policies, and their trace, which is read with each report.
+// The accounts of the reports of a trace, which is read with each.
 fn accounts_of(
+    rt: &HostRuntime,
+    shelf: &mut Shelf<'_>,
+    trace: &str,
+    reports: &[&str],
+    prices: bool,
+) -> Result<Vec<Compared>, u8> {
+    let mut runs = Vec::new(rt.alloc());
+    for report in reports {
+        put_report(rt, shelf, trace, report, prices, &mut runs)?;
+    }
+    Ok(runs)
+}
+
+// The trace, and the accounts of the reports.
+fn reported(
     rt: &HostRuntime,
     trace: &str,
     reports: &[&str],
-    policies: &[&str],
     prices: bool,
 ) -> Result<(Trace, Vec<Compared>), u8>
     ensures { IfOk result (λ r. IsSound (scenario r.0)) }
@@ -110,14 +124,22 @@ fn accounts_of(
     let mut shelf = Shelf::new(rt.alloc(), rt);
     open_trace(rt, &mut shelf, trace)?;
     let kept = kept_trace(rt, &mut shelf, trace)?;
-    let mut runs = Vec::new(rt.alloc());
-    for report in reports {
-        put_report(rt, &mut shelf, trace, report, prices, &mut runs)?;
-    }
-    match put_policies(rt.alloc(), &kept, policies, &mut runs) {
-        Ok(()) => Ok((kept, runs)),
-        Err(AllocError) => Err(no_memory(rt)),
-    }
+    let runs = accounts_of(rt, &mut shelf, trace, reports, prices)?;
+    Ok((kept, runs))
+}
+
+// The text of the accounts and of those of the runs by policies.
+fn text_of(
+    alloc: Global,
+    kept: &Trace,
+    runs: &mut Vec<Compared>,
+    policies: &[&str],
+    words: &ArgMatches<'_>,
+) -> Result<Vec<u8>, AllocError>
+    requires { IsSound (scenario kept.now) }
+{
+    put_policies(alloc, kept, policies, runs)?;
+    compare_text(alloc, kept, runs.as_slice(), format_of(words))
 }
 
 // Tells of the reports and of the policies, as the words ask, and gives the exit number.
@@ -128,9 +150,10 @@ fn tell(
     policies: &[&str],
     words: &ArgMatches<'_>,
 ) -> u8 {
-    match accounts_of(rt, trace, reports, policies, words.get_flag("prices")) {
+    match reported(rt, trace, reports, words.get_flag("prices")) {
         Ok((kept, runs)) => {
-            let text = compare_text(rt.alloc(), &kept, &runs, format_of(words));
+            let mut runs = runs;
+            let text = text_of(rt.alloc(), &kept, &mut runs, policies, words);
             send(rt, text)
         }
         Err(number) => number,

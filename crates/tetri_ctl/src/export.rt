@@ -1,4 +1,7 @@
 // `tetri_ctl export TRACE [REPORT] --cycle N`
+ghost use Rattle.tetri_trace.specs.Scenario.{scenario};
+ghost use Rattle.tetri_trace.specs.Sound.{IsSound};
+
 use crate::advisors::seat;
 use crate::builders::{Built, choice, number, on_trace, report_word, with_word};
 use crate::named::{Shelf, open_both, open_trace};
@@ -13,7 +16,7 @@ use tetri_io::{StdSink, send_all};
 use tetri_notice::TraceFault;
 use tetri_programs::{Exported, export_cycle, export_report};
 use tetri_run::{Status, status_of};
-use tetri_trace::read_trace;
+use tetri_trace::{Trace, read_trace};
 
 // The word that names a report, where its run is exported.
 fn run_word<'a>(alloc: Global) -> Arg<'a> {
@@ -56,8 +59,25 @@ fn format_of(words: &ArgMatches<'_>) -> Format {
     }
 }
 
-// The program of a cycle of a trace, if that can be read. The two shipped advisors are asked in the cycles before it.
+// The program of a cycle of a trace. The two shipped advisors are asked in the cycles before it.
 fn seat_and_export(
+    alloc: Global,
+    trace: &Trace,
+    cycle: u32,
+    format: Format,
+) -> Result<Exported, AllocError>
+    requires { IsSound (scenario trace.now) }
+{
+    let mut panel = Panel::new(alloc);
+    let by_deadline: Box<dyn Advisor> = Box::new(alloc, ByDeadline::new())?;
+    seat(&mut panel, by_deadline)?;
+    let by_worth: Box<dyn Advisor> = Box::new(alloc, ByWorth::new())?;
+    seat(&mut panel, by_worth)?;
+    export_cycle(alloc, trace, cycle, format, &mut panel)
+}
+
+// The same of the trace that a name tells, if that can be read.
+fn read_and_export(
     rt: &HostRuntime,
     shelf: &mut Shelf<'_>,
     name: &str,
@@ -68,12 +88,8 @@ fn seat_and_export(
         Ok(trace) => trace,
         Err(fault) => return Ok(Err(fault)),
     };
-    let mut panel = Panel::new(rt.alloc());
-    let by_deadline: Box<dyn Advisor> = Box::new(rt.alloc(), ByDeadline::new())?;
-    seat(&mut panel, by_deadline)?;
-    let by_worth: Box<dyn Advisor> = Box::new(rt.alloc(), ByWorth::new())?;
-    seat(&mut panel, by_worth)?;
-    Ok(Ok(export_cycle(rt.alloc(), &trace, cycle, format, &mut panel)?))
+    let exported = seat_and_export(rt.alloc(), &trace, cycle, format)?;
+    Ok(Ok(exported))
 }
 
 // The program of a cycle of a plan, or how it ends without one.
@@ -84,7 +100,7 @@ fn planned(
     cycle: u32,
     format: Format,
 ) -> Result<Exported, Status> {
-    match seat_and_export(rt, shelf, name, cycle, format) {
+    match read_and_export(rt, shelf, name, cycle, format) {
         Ok(Ok(exported)) => Ok(exported),
         Ok(Err(fault)) => Err(status_of(fault)),
         Err(AllocError) => Err(Status::NoMemory),

@@ -113,6 +113,19 @@ fn crowd_priced(alloc: Global, jobs: u32) -> Result<String, AllocError> {
     priced_lines(alloc, str::from_utf8(&text).unwrap_or("not text"))
 }
 
+fn policy_told(
+    alloc: Global,
+    shelf: &mut MemShelf,
+    trace: &Trace,
+    policy: Policy,
+    wish: Wish<'_>,
+) -> Result<Vec<u8>, AllocError>
+    requires { IsSound (scenario trace.now) }
+{
+    let account = account_policy(alloc, trace, policy)?;
+    stats_told(alloc, shelf, trace, &account, Bounds::Absent, wish)
+}
+
 // The figures of the run of a trace by a policy.
 fn told_by(
     alloc: Global,
@@ -122,10 +135,7 @@ fn told_by(
 ) -> Result<Vec<u8>, AllocError> {
     let mut shelf = shelf_of(alloc, given)?;
     match answer(alloc, given.trace.as_bytes())? {
-        Ok(trace) => {
-            let account = account_policy(alloc, &trace, policy)?;
-            stats_told(alloc, &mut shelf, &trace, &account, Bounds::Absent, wish)
-        }
+        Ok(trace) => policy_told(alloc, &mut shelf, &trace, policy, wish),
         Err(_) => Vec::from_slice(alloc, b"the trace is not read"),
     }
 }
@@ -171,6 +181,21 @@ fn stats_told(
     stats_text(alloc, trace, account, bounds, wish.by, &tags, wish.format)
 }
 
+fn both_told(
+    alloc: Global,
+    trace: &Trace,
+    first: Account,
+    second: Account,
+    format: Format,
+) -> Result<Vec<u8>, AllocError>
+    requires { IsSound (scenario trace.now) }
+{
+    let mut runs = Vec::new(alloc);
+    put(alloc, "one", first, &mut runs)?;
+    put(alloc, "two", second, &mut runs)?;
+    compare_text(alloc, trace, &runs, format)
+}
+
 // The report beside itself.
 fn compared_told(
     alloc: Global,
@@ -182,12 +207,7 @@ fn compared_told(
     requires { IsSound (scenario trace.now) }
 {
     match account_report(alloc, "trace", "report", shelf) {
-        Ok((_trace, second)) => {
-            let mut runs = Vec::new(alloc);
-            put(alloc, "one", first, &mut runs)?;
-            put(alloc, "two", second, &mut runs)?;
-            compare_text(alloc, trace, &runs, format)
-        }
+        Ok((_trace, second)) => both_told(alloc, trace, first, second, format),
         Err(status) => said(alloc, &status),
     }
 }

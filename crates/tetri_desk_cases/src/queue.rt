@@ -3,8 +3,8 @@ use std::alloc::{AllocError, Global};
 use tetri_hosts::{HostsFault, expand};
 use tetri_io::MemShelf;
 use tetri_queue::{
-    Asked, Launches, OrderForm, QueueTexts, QueueWorth, counts_text, fault_text, orders_text,
-    queue_trace,
+    Asked, Launches, OrderForm, Queue, QueueTexts, QueueWorth, counts_text, fault_text,
+    orders_text, queue_trace,
 };
 use tetri_request::Class;
 use tetri_run::check_seen;
@@ -61,7 +61,15 @@ fn asked_of(words: &str) -> Asked {
     asked
 }
 
-// The trace of a queue with the counts behind it, or why there is none.
+// The trace of a queue with the counts behind it.
+fn told_of(alloc: Global, queue: &Queue) -> Result<String, AllocError> {
+    let mut text = String::from_str(alloc, queue.trace.as_str())?;
+    let counts = counts_text(alloc, queue)?;
+    text.push_str(counts.as_str())?;
+    Ok(text)
+}
+
+// The same, or why there is none.
 fn told(alloc: Global, texts: &Texts, words: &str) -> Result<String, AllocError> {
     let asked = asked_of(words);
     let lines = QueueTexts {
@@ -71,12 +79,7 @@ fn told(alloc: Global, texts: &Texts, words: &str) -> Result<String, AllocError>
         reservations: &texts.reservations,
     };
     match queue_trace(alloc, &asked, lines) {
-        Ok(queue) => {
-            let mut text = String::from_str(alloc, queue.trace.as_str())?;
-            let counts = counts_text(alloc, &queue)?;
-            text.push_str(counts.as_str())?;
-            Ok(text)
-        }
+        Ok(queue) => told_of(alloc, &queue),
         Err(fault) => format!(in alloc; "{}\n", fault_text(fault)),
     }
 }
@@ -111,11 +114,16 @@ fn hosts_rows(alloc: Global, tally: &mut Tally, most: &str, body: &str) -> Resul
     Ok(())
 }
 
+fn shelf_of(alloc: Global, given: &Given) -> Result<MemShelf, AllocError> {
+    let mut shelf = MemShelf::new(alloc, 4096, &[])?;
+    shelf.put("trace", given.trace.as_bytes())?;
+    shelf.put("report", given.report.as_bytes())?;
+    Ok(shelf)
+}
+
 // The orders of the last trace and report.
 fn orders(alloc: Global, texts: &Texts, form: OrderForm) -> Result<String, AllocError> {
-    let mut shelf = MemShelf::new(alloc, 4096, &[])?;
-    shelf.put("trace", texts.given.trace.as_bytes())?;
-    shelf.put("report", texts.given.report.as_bytes())?;
+    let mut shelf = shelf_of(alloc, &texts.given)?;
     let mut launches = Launches::new(alloc);
     match check_seen(alloc, "trace", "report", &mut shelf, &mut launches) {
         Ok(trace) => match orders_text(alloc, form, &trace, &launches) {

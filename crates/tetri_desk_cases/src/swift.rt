@@ -126,6 +126,21 @@ fn searched(
     program_searched(alloc, &c, budget, bytes, beside)
 }
 
+fn searched_first(
+    alloc: Global,
+    trace: &Trace,
+    budget: u32,
+    bytes: usize,
+    beside: bool,
+) -> Result<String, AllocError>
+    requires { IsSound (scenario trace.now) }
+{
+    match first_instance(alloc, trace)? {
+        Some(inst) => searched(alloc, &inst, budget, bytes, beside),
+        None => String::from_str(alloc, "no cycle"),
+    }
+}
+
 fn searched_in(
     alloc: Global,
     content: &str,
@@ -134,10 +149,7 @@ fn searched_in(
     beside: bool,
 ) -> Result<String, AllocError> {
     match answer(alloc, content.as_bytes())? {
-        Ok(trace) => match first_instance(alloc, &trace)? {
-            Some(inst) => searched(alloc, &inst, budget, bytes, beside),
-            None => String::from_str(alloc, "no cycle"),
-        },
+        Ok(trace) => searched_first(alloc, &trace, budget, bytes, beside),
         Err(_) => String::from_str(alloc, "the trace is not read"),
     }
 }

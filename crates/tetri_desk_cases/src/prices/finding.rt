@@ -42,6 +42,22 @@ fn told(alloc: Global, inst: &Instance) -> Result<String, AllocError>
     format!(in alloc; "{kind}, worth {value} of at most {bound}")
 }
 
+fn told_first(alloc: Global, trace: &Trace) -> Result<String, AllocError>
+    requires { IsSound (scenario trace.now) }
+{
+    match first_instance(alloc, trace)? {
+        Some(inst) => told(alloc, &inst),
+        None => String::from_str(alloc, "no slot"),
+    }
+}
+
+fn told_in(alloc: Global, content: &[u8]) -> Result<String, AllocError> {
+    match answer(alloc, content)? {
+        Ok(trace) => told_first(alloc, &trace),
+        Err(_) => String::from_str(alloc, "a bad trace"),
+    }
+}
+
 /// What is found for the first slot of the trace.
 pub fn found(
     alloc: Global,
@@ -49,12 +65,6 @@ pub fn found(
     tally: &mut Tally,
     body: &str,
 ) -> Result<(), AllocError> {
-    let Ok(trace) = answer(alloc, given.trace.as_bytes())? else {
-        return tally.expect("found", "a bad trace", body);
-    };
-    let found = match first_instance(alloc, &trace)? {
-        Some(inst) => told(alloc, &inst)?,
-        None => String::from_str(alloc, "no slot")?,
-    };
+    let found = told_in(alloc, given.trace.as_bytes())?;
     tally.expect("found", found.as_str(), body)
 }

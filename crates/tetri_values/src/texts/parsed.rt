@@ -132,11 +132,11 @@ fn printed(
 {
     let mut reader = ClusterReader::new(alloc, cluster);
     let text = match reader.read_expr(alloc, text, 1, arrival) {
-        Ok(e) => print_expr(alloc, &e, arrival, reader.cluster(), reader.sets())?,
-        Err(_) => Vec::from_slice(alloc, b"not read")?,
+        Ok(e) => print_expr(alloc, &e, arrival, reader.cluster(), reader.sets()),
+        Err(_) => Vec::from_slice(alloc, b"not read"),
     };
     let (cluster, _) = reader.into_parts();
-    Ok((text, cluster))
+    Ok((text?, cluster))
 }
 
 // Notes how a text is printed.
