@@ -3,7 +3,9 @@ mod ReadingLemmas
 mod CommentLemmas
 mod EarlyLemmas
 mod WordLemmas
+mod HeaderLemmas
 mod LineLemmas
 mod GapLemmas
 mod SeparatorLemmas
 mod TimeLemmas
+mod DayLemmas

@@ -1,5 +1,5 @@
 -- The columns that sacct prints, by the names in its header.
-use Rattle.std.specs.Prelude.{ℕ, ◌+◌, ◌-◌, List, [], ◌∷◌, length, Bool, Option, Some, None, is_some, if◌then◌else◌, bytes_eq, codes}
+use Rattle.std.specs.Prelude.{ℕ, ◌+◌, ◌-◌, ◌||◌, List, [], ◌∷◌, length, Bool, Option, Some, None, is_some, if◌then◌else◌, bytes_eq, codes}
 use Rattle.tetri_base.specs.OptionSteps.{◌>>=◌}
 use Rattle.tetri_logs.specs.Lines.{ends_empty}
 use Rattle.tetri_logs.specs.declared.header.Header.{Header}
@@ -21,6 +21,9 @@ either None other = other
 -- the column of a job's identifier, in which arrays are told where it is JobID
 abbrev pub id_column : List (List ℕ) → Option ℕ
 id_column names = either (column (codes "JobID") names) (column (codes "JobIDRaw") names)
+
+abbrev pub is_id : List ℕ → Bool
+is_id name = bytes_eq name (codes "JobID") || bytes_eq name (codes "JobIDRaw")
 
 -- a line with an identifier among its names is a header
 abbrev pub is_header : List (List ℕ) → Bool

@@ -1,5 +1,5 @@
 // The seconds of a date.
-ghost use Rattle.std.specs.Prelude.{◌≡◌, ◌<◌, ◌≤◌, true};
+ghost use Rattle.std.specs.Prelude.{◌≡◌, ◌^◌, ◌<◌, ◌≤◌, true};
 ghost use Rattle.tetri_logs.specs.Calendar.{days_before_month, days_before_year, is_date, is_day, is_leap, is_time, leaps, month_length, seconds_of};
 
 /// A moment of a day.
@@ -98,7 +98,8 @@ fn days_before_month(year: u64, month: u64) -> u64
 /// The seconds from 1970 to a date.
 pub(crate) fn seconds_of(date: Date) -> u64
     requires { is_date date ≡ true }
-    ensures { result ≡ seconds_of date }
+    ensures value { result ≡ seconds_of date }
+    ensures early { result < 2 ^ 40 }
 {
     let days = days_before_year(date.year) + days_before_month(date.year, date.month) + date.day;
     let hours = (days - 1 - BEFORE_1970) * 24 + date.hour;

@@ -88,6 +88,7 @@ pub enum Entries<'a> {
 }
 
 // A job with this name of the log, if it is one.
+#[inline(always)]
 fn with_name<'a>(line: usize, name: &'a [u8], account: Result<Account, Cause>) -> Entry<'a>
     ensures { result ≡ with_name line name.now account }
 {
@@ -189,6 +190,7 @@ fn with_made_id<'a>(
 }
 
 // A job by its identifier in the log.
+#[inline(always)]
 fn with_id<'a>(
     alloc: Global,
     line: usize,
@@ -205,6 +207,7 @@ fn with_id<'a>(
 }
 
 // An entry with the set of its job that the columns say.
+#[inline(always)]
 fn seated_row<'a>(
     alloc: Global,
     seats: &mut Seats<'a>,
@@ -221,6 +224,7 @@ fn seated_row<'a>(
 }
 
 // The job of a line by its identifier.
+#[inline(always)]
 fn row_entry<'a>(
     alloc: Global,
     seats: &mut Seats<'a>,
@@ -274,6 +278,7 @@ fn tasks_if(
 }
 
 // The jobs of a line.
+#[inline(always)]
 fn row_entries<'a>(
     alloc: Global,
     seats: &mut Seats<'a>,
@@ -284,7 +289,7 @@ fn row_entries<'a>(
     ensures entries { IfOk result (λ es. entries_in es ≡ row_entries seats.old header.now line (map (λ w. w.now) row.now)) }
     ensures same { seats.new ≡ seats.old }
 {
-    let account = sacct_account(header, row);
+    let account = sacct_account(&mut seats.last, header, row);
     let id = cell(row, header.id);
     match tasks_if(alloc, account, id)? {
         None => {
@@ -299,6 +304,7 @@ fn row_entries<'a>(
 }
 
 // What the columns of a line are. A header says which columns there are.
+#[inline(always)]
 fn table_entries<'a>(
     alloc: Global,
     seats: &mut Seats<'a>,

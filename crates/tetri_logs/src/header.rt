@@ -1,8 +1,10 @@
 // The columns that sacct prints, by the names in its header.
 ghost use Rattle.std.specs.Prelude.{◌≡◌, map};
-ghost use Rattle.tetri_logs.specs.Header.{column, column_count, either, header_in, id_column, is_header};
+ghost use Rattle.std.specs.List.{list_any};
+ghost use Rattle.tetri_logs.specs.Header.{column, column_count, either, header_in, id_column, is_header, is_id};
 
 use crate::lines::ends_empty;
+use crate::words::is_text;
 
 /// Where the columns stand that are used, each by its number, counted from 1.
 #[derive(Clone, Copy)]
@@ -71,11 +73,29 @@ fn id_column(names: &[&[u8]]) -> Option<usize>
     either(column("JobID", names), column("JobIDRaw", names))
 }
 
+// Whether a name is that of the column of a job's identifier.
+#[inline(always)]
+fn is_id(name: &[u8]) -> bool
+    ensures { result ≡ is_id name.now }
+{
+    is_text(name, "JobID") || is_text(name, "JobIDRaw")
+}
+
+// Whether one of these names is that.
+#[inline(always)]
+fn has_id(names: &[&[u8]]) -> bool
+    ensures { result ≡ list_any (λ name. is_id name.now) names.now }
+{
+    names.iter().any(|name| is_id(name))
+}
+
 /// Whether these are names of columns.
+#[inline(always)]
+#[tactic(auto, using(crate::proofs::HeaderLemmas::header_has_id))]
 pub(crate) fn is_header(names: &[&[u8]]) -> bool
     ensures { result ≡ is_header (map (λ w. w.now) names.now) }
 {
-    id_column(names).is_some()
+    has_id(names)
 }
 
 // A bar at the line's end begins no column.

@@ -1,5 +1,6 @@
 // A line of what `sacct` prints with `--parsable2` or `--parsable`.
 ghost use Rattle.std.specs.Prelude.{◌≡◌, IfOk, OnOk, map};
+ghost use Rattle.tetri_logs.specs.Times.{IsDay};
 ghost use Rattle.tetri_logs.specs.Sacct.{cell, elapsed, exact_count, is_cancelled, is_row, is_step, is_unknown, moment_in, needed_moment, nodes_in, pointed, processors_in, row_of, sacct_account, told_cell, without_return};
 
 use crate::account::{Account, Columns, account_of, positive};
@@ -7,7 +8,7 @@ use crate::entry::Cause;
 use crate::header::Header;
 use crate::limits::limit_in;
 use crate::tasks::before_bracket;
-use crate::times::seconds_in;
+use crate::times::{Day, seconds_by};
 use crate::words::{count_in, is_text, parts_of, word_at};
 use std::alloc::{AllocError, Global};
 use tetri_io::digits_below;
@@ -23,6 +24,7 @@ pub(crate) fn without_return(line: &[u8]) -> &[u8]
 }
 
 /// Puts what stands in a line between its bars in the place of another row. Its only error is want of memory.
+#[inline(always)]
 pub(crate) fn row_of<'a>(row: &mut Vec<&'a [u8]>, line: &'a [u8]) -> Result<(), AllocError>
     ensures { OnOk result (map (λ x. x.now) row.new.items ≡ row_of line.now) }
 {
@@ -47,6 +49,7 @@ pub(crate) fn told_cell<'a>(row: &[&'a [u8]], column: Option<usize>) -> &'a [u8]
 }
 
 // As many columns as the header names; a bar at the line's end may be there.
+#[inline(always)]
 fn is_row(header: &Header, row: &[&[u8]]) -> bool
     ensures { result ≡ is_row header.now (map (λ w. w.now) row.now) }
 {
@@ -55,6 +58,7 @@ fn is_row(header: &Header, row: &[&[u8]]) -> bool
 }
 
 // Whether an identifier is that of a step of a job.
+#[inline(always)]
 fn is_step(id: &[u8]) -> bool
     ensures { result ≡ is_step id.now }
 {
@@ -83,22 +87,27 @@ fn is_unknown(text: &[u8]) -> bool
 }
 
 // The moment that has to be there, in a column.
-fn needed_moment(column: usize, text: &[u8]) -> Result<u32, Cause>
-    ensures { result ≡ needed_moment column text.now }
+fn needed_moment<'a>(last: &mut Day<'a>, column: usize, text: &'a [u8]) -> Result<u32, Cause>
+    requires { IsDay last.old }
+    ensures value { result ≡ needed_moment column text.now }
+    ensures last { IsDay last.new }
 {
-    match seconds_in(text) {
+    match seconds_by(last, text) {
         Some(seconds) => Ok(seconds),
         None => Err(Cause::Unreadable(column)),
     }
 }
 
-fn moment_in(column: usize, text: &[u8]) -> Result<Option<u32>, Cause>
-    ensures { result ≡ moment_in column text.now }
+// A moment in a column, where it is known.
+fn moment_in<'a>(last: &mut Day<'a>, column: usize, text: &'a [u8]) -> Result<Option<u32>, Cause>
+    requires { IsDay last.old }
+    ensures value { result ≡ moment_in column text.now }
+    ensures last { IsDay last.new }
 {
     if is_unknown(text) {
         return Ok(None);
     }
-    let moment = needed_moment(column, text)?;
+    let moment = needed_moment(last, column, text)?;
     Ok(Some(moment))
 }
 
@@ -158,9 +167,16 @@ fn is_cancelled(state: &[u8]) -> bool
 }
 
 /// What the columns of a line say of a job, or why it is left out.
+#[inline(always)]
 #[tactic(auto, unfolding(crate::specs::Sacct::sacct_account))]
-pub(crate) fn sacct_account(header: &Header, row: &[&[u8]]) -> Result<Account, Cause>
-    ensures { result ≡ sacct_account header.now (map (λ w. w.now) row.now) }
+pub(crate) fn sacct_account<'a>(
+    last: &mut Day<'a>,
+    header: &Header,
+    row: &[&'a [u8]],
+) -> Result<Account, Cause>
+    requires { IsDay last.old }
+    ensures value { result ≡ sacct_account header.now (map (λ w. w.now) row.now) }
+    ensures last { IsDay last.new }
 {
     if !is_row(header, row) {
         return Err(Cause::Unreadable(row.len().min(header.count) + 1));
@@ -168,9 +184,9 @@ pub(crate) fn sacct_account(header: &Header, row: &[&[u8]]) -> Result<Account, C
     if is_step(cell(row, header.id)) {
         return Err(Cause::Step);
     }
-    let submit = needed_moment(header.submit, cell(row, header.submit))?;
-    let start = moment_in(header.start, cell(row, header.start))?;
-    let end = moment_in(header.end, cell(row, header.end))?;
+    let submit = needed_moment(last, header.submit, cell(row, header.submit))?;
+    let start = moment_in(last, header.start, cell(row, header.start))?;
+    let end = moment_in(last, header.end, cell(row, header.end))?;
     let limit = limit_in(header.in_minutes, header.limit, cell(row, header.limit))?;
     let nodes = nodes_in(header.nodes, cell(row, header.nodes))?;
     let ran = elapsed(start, end)?;

@@ -1,9 +1,11 @@
-// The sets that lines ask for, of which the first are known.
-ghost use Rattle.std.specs.Prelude.{◌≡◌, ◌↔◌, IfOk, IfSome, IsTrue};
+// The sets that lines ask for, of which the first are known, and the day of the last moment in a line.
+ghost use Rattle.std.specs.Prelude.{◌≡◌, IfOk, IfSome};
 ghost use Rattle.tetri_logs.specs.SetText.{seat_of, seated};
 
 use crate::entry::{Entry, LoggedJob, Reject};
 use crate::set_text::{Seat, seat_of};
+use crate::times::{Day, no_day};
+use crate::words::is_same;
 use std::alloc::{AllocError, Global};
 use std::marker::Model;
 
@@ -18,28 +20,24 @@ struct Known<'a> {
 // As many sets as are looked through.
 const MOST_KNOWN: usize = 16;
 
-/// Whether nodes differ. Then the sets that lines ask for first are known to those behind them.
+/// Whether nodes differ. Then the sets that lines ask for first are known to those behind them. The day of a line's last moment is too.
 #[derive(Drop)]
 pub(crate) struct Seats<'a> {
     mixed: bool,
     known: Vec<Known<'a>>,
+    pub(crate) last: Day<'a>,
 }
 
 impl<'a> Model for Seats<'a> {
     ghost use Rattle.std.specs.Prelude.{Bool};
     ghost use Rattle.tetri_logs.specs.Seats.{AreKnown};
+    ghost use Rattle.tetri_logs.specs.Times.{IsDay};
 
     ghost Value = { Bool };
 
     ghost view = { λ s. s.mixed };
 
-    ghost invariant = { λ s. AreKnown s.known.items };
-}
-
-fn same(one: &[u8], other: &[u8]) -> bool
-    ensures { IsTrue result ↔ (one.now ≡ other.now) }
-{
-    one == other
+    ghost invariant = { λ s. AreKnown s.known.items × IsDay s.last };
 }
 
 fn share_seat(seat: &Seat) -> Result<Seat, AllocError>
@@ -63,7 +61,7 @@ impl Known<'_> {
         ensures { IfSome result (λ seat. seat.now ≡ seat_of partitions.now constraints.now) }
     {
         for one in known {
-            if same(one.partitions, partitions) && same(one.constraints, constraints) {
+            if is_same(one.partitions, partitions) && is_same(one.constraints, constraints) {
                 return Some(&one.seat);
             }
         }
@@ -79,6 +77,7 @@ impl<'a> Seats<'a> {
         Seats {
             mixed,
             known: Vec::new(alloc),
+            last: no_day(),
         }
     }
 

@@ -1,8 +1,9 @@
 // The moment that a text is.
-ghost use Rattle.std.specs.Prelude.{◌≡◌, ◌+◌, ◌≤◌, ◌<◌, length, IfSome};
-ghost use Rattle.tetri_logs.specs.Times.{date_in, has_marks, part, seconds_in};
+ghost use Rattle.std.specs.Prelude.{◌≡◌, ◌+◌, ◌^◌, ◌≤◌, ◌<◌, length, IfSome};
+ghost use Rattle.tetri_logs.specs.Times.{IsDay, day_start, has_marks, midnight, on_clock, on_day, part, seconds_in, small};
 
 use crate::calendar::{Date, is_date, seconds_of};
+use crate::words::is_same;
 use tetri_io::digits_below;
 
 /// The number that the digits of a part of a text are.
@@ -30,7 +31,8 @@ fn has_marks(text: &[u8]) -> bool
 #[tactic(auto, using(crate::proofs::TimeLemmas::is_pair, crate::proofs::TimeLemmas::no_first, crate::proofs::TimeLemmas::no_second))]
 fn pair(text: &[u8], from: usize) -> Option<u64>
     requires { from + 2 ≤ length text.now }
-    ensures { result ≡ part text.now from (from + 2) }
+    ensures value { result ≡ part text.now from (from + 2) }
+    ensures small { IfSome result (λ n. n < 100) }
 {
     let (tens, ones) = (text[from], text[from + 1]);
     if tens.is_ascii_digit() && ones.is_ascii_digit() {
@@ -40,42 +42,125 @@ fn pair(text: &[u8], from: usize) -> Option<u64>
     }
 }
 
-#[tactic(auto, unfolding(crate::specs::Times::date_in))]
-fn date_in(text: &[u8]) -> Option<Date>
-    requires { length text.now ≡ 19 }
-    ensures { result ≡ date_in text.now }
+// The number that the four digits of a year are.
+fn year_in(text: &[u8]) -> Option<u64>
+    requires { 4 ≤ length text.now }
+    ensures { result ≡ part text.now 0 4 }
 {
-    let year = part(text, 0, 4)?;
-    let month = pair(text, 5)?;
-    let day = pair(text, 8)?;
-    let hour = pair(text, 11)?;
-    let minute = pair(text, 14)?;
-    let second = pair(text, 17)?;
-    Some(Date {
+    let century = pair(text, 0)?;
+    let year = pair(text, 2)?;
+    Some(century * 100 + year)
+}
+
+// Seconds, if there are less than 2^32.
+fn small(seconds: u64) -> Option<u32>
+    ensures { result ≡ small seconds }
+{
+    if seconds < 4_294_967_296 {
+        Some(seconds as u32)
+    } else {
+        None
+    }
+}
+
+// The seconds from 1970 to the beginning of a day, if there is such a day.
+fn midnight(year: u64, month: u64, day: u64) -> Option<u64>
+    ensures value { result ≡ midnight year month day }
+    ensures early { IfSome result (λ n. n < 2 ^ 40) }
+{
+    let date = Date {
         year,
         month,
         day,
-        hour,
-        minute,
-        second,
-    })
+        hour: 0,
+        minute: 0,
+        second: 0,
+    };
+    if is_date(date) {
+        Some(seconds_of(date))
+    } else {
+        None
+    }
+}
+
+// The same of a text that is a day, as `2024-05-01`.
+#[tactic(auto, unfolding(crate::specs::Times::day_start))]
+fn day_start(text: &[u8]) -> Option<u64>
+    requires { length text.now ≡ 10 }
+    ensures value { result ≡ day_start text.now }
+    ensures early { IfSome result (λ n. n < 2 ^ 40) }
+{
+    let year = year_in(text)?;
+    let month = pair(text, 5)?;
+    let day = pair(text, 8)?;
+    midnight(year, month, day)
+}
+
+// The seconds from 1970 to a time of the day that begins after so many, if there is such a time and there are less than 2^32.
+fn on_clock(start: u64, hour: u64, minute: u64, second: u64) -> Option<u32>
+    requires { start < 2 ^ 40 }
+    ensures { result ≡ on_clock start hour minute second }
+{
+    if hour < 24 && minute < 60 && second < 60 {
+        small(start + ((hour * 60 + minute) * 60 + second))
+    } else {
+        None
+    }
+}
+
+// The same of the time in a text that is a moment.
+#[tactic(auto, unfolding(crate::specs::Times::on_day))]
+fn on_day(start: u64, text: &[u8]) -> Option<u32>
+    requires early { start < 2 ^ 40 }
+    requires length { length text.now ≡ 19 }
+    ensures { result ≡ on_day start text.now }
+{
+    let hour = pair(text, 11)?;
+    let minute = pair(text, 14)?;
+    let second = pair(text, 17)?;
+    on_clock(start, hour, minute, second)
+}
+
+/// The day of the moment that was read last.
+#[derive(Clone, Copy)]
+pub(crate) struct Day<'a> {
+    // As `2024-05-01`, or empty before the first moment.
+    text: &'a [u8],
+    // The seconds from 1970 to its beginning.
+    start: u64,
+}
+
+/// No moment was read.
+pub(crate) fn no_day<'a>() -> Day<'a>
+    ensures { IsDay result }
+{
+    Day {
+        text: b"",
+        start: 0,
+    }
+}
+
+/// The same as `seconds_in`, quicker where the moment is of the day of the last one. It is the last one then.
+pub(crate) fn seconds_by<'a>(last: &mut Day<'a>, text: &'a [u8]) -> Option<u32>
+    requires { IsDay last.old }
+    ensures value { result ≡ seconds_in text.now }
+    ensures last { IsDay last.new }
+{
+    if !has_marks(text) {
+        return None;
+    }
+    let day = &text[..10];
+    if !is_same(day, last.text) {
+        let start = day_start(day)?;
+        *last = Day { text: day, start };
+    }
+    on_day(last.start, text)
 }
 
 /// The seconds from 1970 to the moment that a text is, as `2024-05-01T12:34:56`, if there are less than 2^32.
 pub fn seconds_in(text: &[u8]) -> Option<u32>
     ensures { result ≡ seconds_in text.now }
 {
-    if !has_marks(text) {
-        return None;
-    }
-    let date = date_in(text)?;
-    if !is_date(date) {
-        return None;
-    }
-    let seconds = seconds_of(date);
-    if seconds < 4_294_967_296 {
-        Some(seconds as u32)
-    } else {
-        None
-    }
+    let mut last = no_day();
+    seconds_by(&mut last, text)
 }

@@ -1,5 +1,5 @@
 // The words of a line, and the numbers that they are.
-ghost use Rattle.std.specs.Prelude.{◌≡◌, OnOk, bytes_eq, map};
+ghost use Rattle.std.specs.Prelude.{◌≡◌, ◌↔◌, IsTrue, OnOk, bytes_eq, map};
 ghost use Rattle.tetri_io.specs.Words.{parts_at};
 ghost use Rattle.tetri_logs.specs.Words.{amount, count_in, is_separator, needed, word_at, words_of};
 
@@ -87,6 +87,13 @@ pub(crate) fn word_at<'a>(words: &[&'a [u8]], place: usize) -> &'a [u8]
         Some(word) => word,
         None => b"",
     }
+}
+
+/// Whether two words are the same.
+pub(crate) fn is_same(one: &[u8], other: &[u8]) -> bool
+    ensures { IsTrue result ↔ (one.now ≡ other.now) }
+{
+    one == other
 }
 
 /// Whether a word is this text.

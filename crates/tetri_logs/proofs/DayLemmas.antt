@@ -1,0 +1,86 @@
+-- A moment by its day and its time.
+use Rattle.std.proofs.Common.{◌≡◌, ℕ, ◌+◌, ◌*◌, ◌-◌, ◌≤◌, Bool, true, false, List, take, drop, length, Option, Some, None, cond, refl, sym, ap, ◌∙◌, arith}
+use Rattle.std.specs.Prelude.{◌==◌, ◌&&◌}
+use Rattle.std.specs.List.{slice_range}
+use Rattle.std.proofs.lemmas.Bool.Decides.{nat_tests}
+use Rattle.std.proofs.lemmas.List.{drop-take}
+use Rattle.std.proofs.Math.Seq.{take-take}
+use Rattle.tetri_base.specs.OptionSteps.{◌>>=◌}
+use Rattle.tetri_io.specs.Numbers.{digits_below}
+use Rattle.tetri_logs.specs.Calendar.{is_day, is_time, seconds_of, days_before_year, days_before_month}
+use Rattle.tetri_logs.specs.declared.calendar.Date.{Date}
+use Rattle.tetri_logs.specs.declared.calendar.TheConstants.{BEFORE_1970}
+use Rattle.tetri_logs.specs.Times.{date_in, date_seconds, day_start, has_marks, midnight, on_clock, on_day, part, seconds_in, small}
+
+abbrev date_of : ℕ → ℕ → ℕ → ℕ → ℕ → ℕ → Date
+date_of year month day hour minute second = record { year = year; month = month; day = day; hour = hour; minute = minute; second = second }
+
+-- the seconds of a date are those to its day and those of its time
+clock_apart : (days hour minute second : ℕ) → ((days * 24 + hour) * 60 + minute) * 60 + second ≡ ((days * 24 + 0) * 60 + 0) * 60 + 0 + ((hour * 60 + minute) * 60 + second)
+clock_apart days hour minute second = omega arith
+
+seconds_apart : (year month day hour minute second : ℕ)
+    → seconds_of (date_of year month day hour minute second) ≡ seconds_of (date_of year month day 0 0 0) + ((hour * 60 + minute) * 60 + second)
+seconds_apart year month day hour minute second = clock_apart (days_before_year year + days_before_month year month + day - 1 - BEFORE_1970) hour minute second
+
+by_tests : (is_day is_time : Bool) (start all clock : ℕ) → all ≡ start + clock
+    → cond (is_day && is_time) (small all) None ≡ (cond (is_day && true) (Some start) None >>= λ n. cond is_time (small (n + clock)) None)
+by_tests true true start all clock e = ap small e
+by_tests true false start all clock e = refl
+by_tests false time start all clock e = refl
+
+date_apart : (year month day hour minute second : ℕ)
+    → date_seconds (date_of year month day hour minute second) ≡ (midnight year month day >>= λ start. on_clock start hour minute second)
+date_apart year month day hour minute second =
+    let d = date_of year month day hour minute second in
+    by_tests (is_day d) (is_time d) (seconds_of (date_of year month day 0 0 0)) (seconds_of d) ((hour * 60 + minute) * 60 + second) (seconds_apart year month day hour minute second)
+
+-- where there is no time, there is no moment
+no_time : (o : Option ℕ) → ◌≡◌ {A = Option ℕ} None (o >>= λ start. None)
+no_time None = refl
+no_time (Some start) = refl
+
+by_parts : (year month day hour minute second : Option ℕ)
+    → ((do y ← year; mo ← month; d ← day; h ← hour; mi ← minute; s ← second; Some (date_of y mo d h mi s)) >>= date_seconds)
+    ≡ ((do y ← year; mo ← month; d ← day; midnight y mo d) >>= λ start. (do h ← hour; mi ← minute; s ← second; on_clock start h mi s))
+by_parts None month day hour minute second = refl
+by_parts (Some y) None day hour minute second = refl
+by_parts (Some y) (Some mo) None hour minute second = refl
+by_parts (Some y) (Some mo) (Some d) None minute second = no_time (midnight y mo d)
+by_parts (Some y) (Some mo) (Some d) (Some h) None second = no_time (midnight y mo d)
+by_parts (Some y) (Some mo) (Some d) (Some h) (Some mi) None = no_time (midnight y mo d)
+by_parts (Some y) (Some mo) (Some d) (Some h) (Some mi) (Some s) = date_apart y mo d h mi s
+
+-- what stands in the first bytes of a text stands in the text
+part_before : (xs : List ℕ) (from count more : ℕ) → count ≤ more → slice_range (take (from + more) xs) from (from + count) ≡ slice_range xs from (from + count)
+part_before xs from count more few =
+    let long : from + count - from ≡ count = omega arith in
+    ap (λ n. take n (drop from (take (from + more) xs))) long
+    ∙ ap (take count) (drop-take from more xs)
+    ∙ take-take count more (drop from xs) few
+    ∙ ap (λ n. take n (drop from xs)) (sym long)
+
+day_before : (xs : List ℕ) → day_start (take 10 xs) ≡ (do y ← part xs 0 4; mo ← part xs 5 7; d ← part xs 8 10; midnight y mo d)
+unfolding day_start
+day_before xs =
+    let digits = digits_below 10000 in
+    let by : List ℕ → List ℕ → List ℕ → Option ℕ = λ a b c. (do y ← digits a; mo ← digits b; d ← digits c; midnight y mo d) in
+    ap (λ a. by a (slice_range (take 10 xs) 5 7) (slice_range (take 10 xs) 8 10)) (part_before xs 0 4 10 (omega arith))
+    ∙ ap (λ b. by (slice_range xs 0 4) b (slice_range (take 10 xs) 8 10)) (part_before xs 5 2 5 (omega arith))
+    ∙ ap (λ c. by (slice_range xs 0 4) (slice_range xs 5 7) c) (part_before xs 8 2 2 (omega arith))
+
+-- the seconds to a moment, by its day
+pub by_day : (xs : List ℕ) → has_marks xs ≡ true → seconds_in xs ≡ (day_start (take 10 xs) >>= λ start. on_day start xs)
+unfolding on_day date_in
+by_day xs marks =
+    ap (λ b. cond b (date_in xs >>= date_seconds) None) marks
+    ∙ by_parts (part xs 0 4) (part xs 5 7) (part xs 8 10) (part xs 11 13) (part xs 14 16) (part xs 17 19)
+    ∙ sym (ap (λ o. o >>= λ start. on_day start xs) (day_before xs))
+
+and_left : (a b : Bool) → (a && b) ≡ true → a ≡ true
+and_left true b e = refl
+and_left false b e = e
+
+-- a moment has 19 bytes
+pub has_length : (xs : List ℕ) → has_marks xs ≡ true → length xs ≡ 19
+has_length xs marks = let front : (length xs == 19) ≡ true = and_left _ _ (and_left _ _ (and_left _ _ (and_left _ _ (and_left _ _ marks)))) in grind (arith, nat_tests)
