@@ -32,7 +32,6 @@ pub record IsMade (s : Scenario) (slots : ℕ) : Type 0 where
   pub sound : IsSound s
   pub header_is : s.header ≡ header
   pub nodes : s.nodes ≡ map node_at (range_with_len 0 8)
-  pub closures : s.closures ≡ []
   pub count : length s.submissions ≡ slots
   pub names : job_names s.submissions ≡ map job_name (range_with_len 0 slots)
   pub events : All (λ e. e.at < slots) s.events
@@ -44,7 +43,6 @@ made_first n = record {
       (omega arith) (omega arith) nodes_named nodes_differ (record { few = omega arith; each = All-nil (IsSoundClosure 8) });
   header_is = refl;
   nodes = refl;
-  closures = refl;
   count = refl;
   names = refl;
   events = All-nil (λ (e : Event). e.at < 0);
@@ -145,7 +143,6 @@ module _ (s : Scenario) (slot : ℕ) (d : Drawn) (made : IsMade s slot) (early :
         good (omega (arith, made.count, early)) different;
     header_is = made.header_is;
     nodes = made.nodes;
-    closures = made.closures;
     count = length-append s.submissions (job ∷ []) ∙ ap (λ n. n + 1) made.count;
     names = map-append (λ (j : Submission). j.name) s.submissions (job ∷ []) ∙ ap (λ (ns : List (List ℕ)). ns ++ job_name slot ∷ []) made.names ∙ sym (map-range_with_len_more job_name 0 slot slot (omega arith));
     events = All-push (λ (e : Event). e.at < slot + 1) s.events (arrival_at slot (length s.submissions)) (All-weaker (λ (e : Event). e.at < slot) (λ (e : Event). e.at < slot + 1) (λ e h. omega (arith, h)) s.events made.events) (omega arith);
@@ -167,21 +164,34 @@ module _ (n slot : ℕ) (d : Drawn) (is : d ≡ draws_in (state_at n slot)) wher
 abbrev pub scenario_of : Header → List NodeText → List (List ℕ) → List Closure → List Submission → List Event → Scenario
 scenario_of header nodes sets closures submissions events = record { header = header; nodes = nodes; sets = sets; closures = closures; submissions = submissions; events = events }
 
+-- the header, the nodes and the closures stay as they are at first
+header_made : (n slot : ℕ) → (made_of n slot).header ≡ header
+unfolding made_of
+header_made n zero = refl
+header_made n (suc slot) = header_made n slot
+
+nodes_made : (n slot : ℕ) → (made_of n slot).nodes ≡ map node_at (range_with_len 0 8)
+unfolding made_of
+nodes_made n zero = refl
+nodes_made n (suc slot) = nodes_made n slot
+
+closures_made : (n slot : ℕ) → (made_of n slot).closures ≡ []
+unfolding made_of
+closures_made n zero = refl
+closures_made n (suc slot) = closures_made n slot
+
 -- the whole trace, by its parts
-module _ (n slot : ℕ) (made : IsMade (made_of n slot) slot) (all : slot ≡ 32) (nodes : List NodeText) (sets : List (List ℕ)) (closures : List Closure) (submissions : List Submission) (events : List Event)
-    (nodes_are : nodes ≡ map node_at (range_with_len 0 8)) (sets_are : sets ≡ (made_of n slot).sets) (closures_are : closures ≡ []) (submissions_are : submissions ≡ (made_of n slot).submissions) (events_are : events ≡ (made_of n slot).events) where
-  as_made : scenario_of header nodes sets closures submissions events ≡ made_of n slot
-  as_made =
-      let s = made_of n slot in
-      ap (λ (h : Header). scenario_of h nodes sets closures submissions events) (sym made.header_is)
-      ∙ ap (λ (ns : List NodeText). scenario_of s.header ns sets closures submissions events) (nodes_are ∙ sym made.nodes)
+module _ (n : ℕ) (nodes : List NodeText) (sets : List (List ℕ)) (closures : List Closure) (submissions : List Submission) (events : List Event)
+    (nodes_are : nodes ≡ map node_at (range_with_len 0 8)) (sets_are : sets ≡ (generated n).sets) (closures_are : closures ≡ []) (submissions_are : submissions ≡ (generated n).submissions) (events_are : events ≡ (generated n).events) where
+  pub whole_is : scenario_of header nodes sets closures submissions events ≡ generated n
+  whole_is =
+      let s = generated n in
+      ap (λ (h : Header). scenario_of h nodes sets closures submissions events) (sym (header_made n 32))
+      ∙ ap (λ (ns : List NodeText). scenario_of s.header ns sets closures submissions events) (nodes_are ∙ sym (nodes_made n 32))
       ∙ ap (λ (ss : List (List ℕ)). scenario_of s.header s.nodes ss closures submissions events) sets_are
-      ∙ ap (λ (cs : List Closure). scenario_of s.header s.nodes s.sets cs submissions events) (closures_are ∙ sym made.closures)
+      ∙ ap (λ (cs : List Closure). scenario_of s.header s.nodes s.sets cs submissions events) (closures_are ∙ sym (closures_made n 32))
       ∙ ap (λ (js : List Submission). scenario_of s.header s.nodes s.sets s.closures js events) submissions_are
       ∙ ap (λ (es : List Event). scenario_of s.header s.nodes s.sets s.closures s.submissions es) events_are
 
-  pub whole_is : scenario_of header nodes sets closures submissions events ≡ generated n
-  whole_is = as_made ∙ ap (made_of n) all
-
-  pub whole_sound : IsSound (scenario_of header nodes sets closures submissions events)
-  whole_sound = subst IsSound (sym as_made) made.sound
+  pub whole_sound : IsSound (generated n) → IsSound (scenario_of header nodes sets closures submissions events)
+  whole_sound sound = subst IsSound (sym whole_is) sound

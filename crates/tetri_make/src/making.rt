@@ -1,5 +1,5 @@
 // The whole trace.
-ghost use Rattle.std.specs.Prelude.{◌≡◌, ◌<◌, ◌≤◌, length, true, IfOk};
+ghost use Rattle.std.specs.Prelude.{◌≡◌, ◌<◌, ◌≤◌, [], length, map, true, IfOk};
 ghost use Rattle.tetri_cluster.specs.Names.{is_name};
 ghost use Rattle.tetri_cluster.specs.Sets.{AreSets};
 ghost use Rattle.tetri_trace.specs.Scenario.{scenario, submission};
@@ -8,7 +8,7 @@ ghost use Rattle.tetri_make.specs.Generated.{arriving, generated, sets_with};
 
 use crate::drawing::{Drawn, Generator};
 use crate::jobs::request;
-use crate::nodes::{cluster, named};
+use crate::nodes::{cluster, numbered};
 use std::alloc::{AllocError, Global};
 use std::rc::Rc;
 use tetri_cluster::Sets;
@@ -23,18 +23,11 @@ pub fn make(alloc: Global, number: u32) -> Result<Trace, AllocError>
     ensures trace { IfOk result (λ t. scenario t ≡ generated number) }
     ensures sound { IfOk result (λ t. IsSound (scenario t)) }
 {
-    let mut generator = Generator { state: number };
-    let mut sets = Sets::new(alloc);
+    let cluster = cluster(alloc)?;
+    let closures = Rc::new(alloc, Closures::new(alloc))?;
     let mut jobs = Jobs::new(alloc);
     let mut events = Vec::new(alloc);
-    for slot in 0..SLOTS {
-        let drawn = generator.draw_job();
-        jobs.push(job(alloc, &mut sets, slot, &drawn)?)?;
-        events.push(Event {
-            at: slot,
-            what: Happening::Arrive(slot),
-        })?;
-    }
+    let sets = add_arrivals(alloc, number, &mut jobs, &mut events)?;
     Ok(Trace {
         header: Header {
             window: 4,
@@ -42,12 +35,59 @@ pub fn make(alloc: Global, number: u32) -> Result<Trace, AllocError>
             until: SLOTS,
             unit: 1,
         },
-        cluster: cluster(alloc)?,
-        sets: Rc::new(alloc, sets)?,
-        closures: Rc::new(alloc, Closures::new(alloc))?,
+        cluster,
+        sets,
+        closures,
         jobs,
         events,
     })
+}
+
+// Adds the jobs and the events of all slots to none, and gives the sets that the jobs' requests name.
+fn add_arrivals(
+    alloc: Global,
+    number: u32,
+    jobs: &mut Jobs,
+    events: &mut Vec<Event>,
+) -> Result<Rc<Sets>, AllocError>
+    requires jobs { jobs.old ≡ [] }
+    requires events { events.old.items ≡ [] }
+    ensures sets { IfOk result (λ sets. sets.value ≡ (generated number).sets) }
+    ensures jobs { IfOk result (λ _. map submission jobs.new ≡ (generated number).submissions) }
+    ensures events { IfOk result (λ _. events.new.items ≡ (generated number).events) }
+    ensures sound { IfOk result (λ _. IsSound (generated number)) }
+{
+    let mut sets = Sets::new(alloc);
+    draw_arrivals(alloc, number, &mut sets, jobs, events)?;
+    Ok(Rc::new(alloc, sets)?)
+}
+
+// Draws the job of each slot, and adds it, its event and the sets that its request names to none.
+fn draw_arrivals(
+    alloc: Global,
+    number: u32,
+    sets: &mut Sets,
+    jobs: &mut Jobs,
+    events: &mut Vec<Event>,
+) -> Result<(), AllocError>
+    requires sets { sets.old ≡ [] }
+    requires jobs { jobs.old ≡ [] }
+    requires events { events.old.items ≡ [] }
+    ensures sets { IfOk result (λ _. sets.new ≡ (generated number).sets) }
+    ensures jobs { IfOk result (λ _. map submission jobs.new ≡ (generated number).submissions) }
+    ensures events { IfOk result (λ _. events.new.items ≡ (generated number).events) }
+    ensures sound { IfOk result (λ _. IsSound (generated number)) }
+{
+    let mut generator = Generator { state: number };
+    for slot in 0..SLOTS {
+        let drawn = generator.draw_job();
+        jobs.push(job(alloc, sets, slot, &drawn)?)?;
+        events.push(Event {
+            at: slot,
+            what: Happening::Arrive(slot),
+        })?;
+    }
+    Ok(())
 }
 
 // The job that arrives at a slot, whose request adds its sets to those that are named.
@@ -63,7 +103,7 @@ fn job(alloc: Global, sets: &mut Sets, slot: u32, drawn: &Drawn) -> Result<Job, 
     ensures are_sets { IfOk result (λ _. AreSets sets.new × (length sets.new ≤ 4096)) }
 {
     Ok(Job {
-        name: named(alloc, format!(in alloc; "j{slot}")?.as_bytes())?,
+        name: numbered(alloc, "j", slot)?,
         arrival: slot,
         late: drawn.late as i32 - 1,
         work: Work::Strl(request(alloc, sets, slot, drawn)?),

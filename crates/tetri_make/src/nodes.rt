@@ -1,5 +1,5 @@
 // The nodes, and sets of them.
-ghost use Rattle.std.specs.Prelude.{◌≡◌, ◌<◌, ◌≤◌, length, map, true, IfOk};
+ghost use Rattle.std.specs.Prelude.{◌≡◌, ◌<◌, ◌≤◌, ◌++◌, [], decimal, length, map, true, IfOk};
 ghost use Rattle.std.specs.List.{range_with_len};
 ghost use Rattle.tetri_cluster.specs.Names.{is_name};
 ghost use Rattle.tetri_cluster.specs.Sets.{AreSets, with_set, number_in};
@@ -10,8 +10,8 @@ use tetri_cluster::{Cluster, Name, NameList, NodeSet, NodeText, Sets};
 
 const NODES: u32 = 8;
 
-/// The name with these bytes, which are one. Its only error is want of memory.
-pub(crate) fn named(alloc: Global, bytes: &[u8]) -> Result<Name, AllocError>
+// The name with these bytes, which are one. Its only error is want of memory.
+fn named(alloc: Global, bytes: &[u8]) -> Result<Name, AllocError>
     ensures value { IfOk result (λ n. n ≡ bytes.now) }
     ensures name { IfOk result (λ _. is_name bytes.now ≡ true) }
 {
@@ -19,6 +19,14 @@ pub(crate) fn named(alloc: Global, bytes: &[u8]) -> Result<Name, AllocError>
         Ok(name) => Ok(name),
         Err(_) => Err(AllocError),
     }
+}
+
+/// The name that is a letter with a number behind it. Its only error is want of memory.
+pub(crate) fn numbered(alloc: Global, letter: &str, number: u32) -> Result<Name, AllocError>
+    ensures value { IfOk result (λ n. n ≡ letter.now ++ decimal number) }
+    ensures name { IfOk result (λ n. is_name n ≡ true) }
+{
+    named(alloc, format!(in alloc; "{letter}{number}")?.as_bytes())
 }
 
 /// The nodes `n0` to `n7`: four with the tag `gpu`, and each with `r0` or `r1`.
@@ -35,17 +43,25 @@ pub(crate) fn cluster(alloc: Global) -> Result<Cluster, AllocError>
     }
 }
 
+// The node of a number.
 fn node(alloc: Global, number: u32) -> Result<NodeText, AllocError>
     ensures { IfOk result (λ n. n ≡ node_at number) }
 {
-    let name = named(alloc, format!(in alloc; "n{number}")?.as_bytes())?;
+    let name = numbered(alloc, "n", number)?;
     let mut tags = NameList::new(alloc);
+    add_tags(alloc, number, &mut tags)?;
+    Ok(NodeText { name, tags })
+}
+
+// Adds the tags of the node of a number to none.
+fn add_tags(alloc: Global, number: u32, tags: &mut NameList) -> Result<(), AllocError>
+    requires { tags.old ≡ [] }
+    ensures { IfOk result (λ _. tags.new ≡ (node_at number).tags) }
+{
     if number < 4 {
         tags.push(named(alloc, b"gpu")?)?;
     }
-    let parity = number % 2;
-    tags.push(named(alloc, format!(in alloc; "r{parity}")?.as_bytes())?)?;
-    Ok(NodeText { name, tags })
+    tags.push(numbered(alloc, "r", number % 2)?)
 }
 
 /// Nodes that are evenly spaced, as a set of nodes.

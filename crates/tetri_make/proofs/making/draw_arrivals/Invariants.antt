@@ -2,7 +2,7 @@ use Rattle.std.proofs.Common.{◌≡◌, map}
 use Rattle.tetri_trace.specs.Scenario.{submission}
 use Rattle.tetri_make.specs.Generated.{made_of, state_at}
 use Rattle.tetri_make.proofs.MadeLemmas.{IsMade}
-use Rattle.tetri_make.proofs.making.make.Given as goal
+use Rattle.tetri_make.proofs.making.draw_arrivals.Given as goal
 
 abbrev pub invariant-loop-slot : goal.invariant-loop-slot
 invariant-loop-slot l = record {
