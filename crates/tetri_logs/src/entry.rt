@@ -14,7 +14,7 @@ use crate::seats::Seats;
 use crate::set_text::SetText;
 use crate::swf::{is_comment, swf_account, swf_partition};
 use crate::tasks::{Ids, task_ids};
-use crate::words::{word_at, words_of};
+use crate::words::{has_byte, word_at, words_of};
 use std::alloc::{AllocError, Global};
 use tetri_base::Items;
 use tetri_cluster::{Name, NameFault};
@@ -181,7 +181,7 @@ fn with_made_id<'a>(
 ) -> Result<Entry<'a>, AllocError>
     ensures { IfOk result (λ e. e ≡ with_name line (id_name id.now) account) }
 {
-    if id.contains(&b'+') {
+    if has_byte(id, b'+') {
         let name = pointed_id(alloc, id)?;
         with_made_name(alloc, line, &name, account)
     } else {
@@ -199,7 +199,7 @@ fn with_id<'a>(
 ) -> Result<Entry<'a>, AllocError>
     ensures { IfOk result (λ e. e ≡ with_name line (id_name id.now) account) }
 {
-    if id.contains(&b'+') {
+    if has_byte(id, b'+') {
         with_made_id(alloc, line, id, account)
     } else {
         Ok(with_name(line, id, account))

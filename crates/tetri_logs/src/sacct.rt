@@ -9,7 +9,7 @@ use crate::header::Header;
 use crate::limits::limit_in;
 use crate::tasks::before_bracket;
 use crate::times::{Day, seconds_by};
-use crate::words::{count_in, is_text, parts_of, word_at};
+use crate::words::{count_in, has_byte, is_text, parts_of, word_at};
 use std::alloc::{AllocError, Global};
 use tetri_io::digits_below;
 
@@ -62,7 +62,7 @@ fn is_row(header: &Header, row: &[&[u8]]) -> bool
 fn is_step(id: &[u8]) -> bool
     ensures { result ≡ is_step id.now }
 {
-    id.contains(&b'.') && before_bracket(id).is_none()
+    has_byte(id, b'.') && before_bracket(id).is_none()
 }
 
 // A point in the place of a plus.

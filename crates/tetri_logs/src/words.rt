@@ -1,5 +1,6 @@
 // The words of a line, and the numbers that they are.
-ghost use Rattle.std.specs.Prelude.{◌≡◌, ◌↔◌, IsTrue, OnOk, bytes_eq, map};
+ghost use Rattle.std.specs.Prelude.{◌≡◌, ◌↔◌, ◌==◌, IsTrue, OnOk, bytes_eq, map};
+ghost use Rattle.std.specs.List.{list_any};
 ghost use Rattle.tetri_io.specs.Words.{parts_at};
 ghost use Rattle.tetri_logs.specs.Words.{amount, count_in, is_separator, needed, word_at, words_of};
 
@@ -94,6 +95,14 @@ pub(crate) fn is_same(one: &[u8], other: &[u8]) -> bool
     ensures { IsTrue result ↔ (one.now ≡ other.now) }
 {
     one == other
+}
+
+/// Whether a byte stands in a word.
+#[inline(always)]
+pub(crate) fn has_byte(word: &[u8], byte: u8) -> bool
+    ensures { result ≡ list_any (λ b. b == byte) word.now }
+{
+    word.iter().any(|b| *b == byte)
 }
 
 /// Whether a word is this text.
