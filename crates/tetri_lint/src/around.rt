@@ -108,12 +108,20 @@ pub(crate) fn header_of(alloc: Global, line: &[u8]) -> Result<Option<HeaderText>
     }
 }
 
-/// The nodes of a header, if they make a cluster.
-pub(crate) fn cluster_of(alloc: Global, header: HeaderText) -> Result<Option<Cluster>, AllocError> {
+// The nodes of a header, if they make a cluster.
+fn cluster_of(alloc: Global, header: HeaderText) -> Result<Option<Cluster>, AllocError> {
     match Cluster::build(alloc, header.nodes) {
         Ok(cluster) => Ok(Some(cluster)),
         Err(ClusterFault::NoMemory) => Err(AllocError),
         Err(_) => Ok(None),
+    }
+}
+
+/// The cluster of the header that a line is, if it is one and its nodes make one.
+pub(crate) fn cluster_in(alloc: Global, line: &[u8]) -> Result<Option<Cluster>, AllocError> {
+    match header_of(alloc, line)? {
+        Some(header) => cluster_of(alloc, header),
+        None => Ok(None),
     }
 }
 

@@ -1,5 +1,5 @@
 // What is told of a refusal.
-use crate::around::{Around, around_line, cluster_of, header_of, near_nodes, object_of, text_at};
+use crate::around::{Around, around_line, cluster_in, header_of, near_nodes, object_of, text_at};
 use crate::expressions::{Phrase, has_fault, tell_fault};
 use crate::fields::{key_of, wanted_of};
 use crate::keys::Place;
@@ -9,6 +9,7 @@ use crate::shown::{excerpt_at, front, shown};
 use crate::told::Told;
 use serde_json::Value;
 use std::alloc::{AllocError, Global};
+use tetri_cluster::{Cluster, NameTable};
 use tetri_io::is_blank;
 use tetri_notice::{Field, TraceWhy};
 use tetri_parse::Fault;
@@ -293,7 +294,7 @@ fn tell_taken_node(alloc: Global, around: &Around<'_>, told: &mut Told) -> Resul
     let Some(header) = header_of(alloc, around.line)? else {
         return Ok(());
     };
-    let mut names = tetri_cluster::NameTable::new(alloc);
+    let mut names = NameTable::new(alloc);
     for (place, node) in header.nodes.iter().enumerate() {
         if !names.add(node.name.bytes())? {
             if let Some(key) = node_key(around, place) {
@@ -358,7 +359,7 @@ fn tell_node(
 fn phrase_of<'v>(
     alloc: Global,
     object: &'v Value,
-    cluster: &tetri_cluster::Cluster,
+    cluster: &Cluster,
     offset: u64,
     fault: Fault,
 ) -> Result<Option<(Phrase<'v>, Place, &'static str)>, AllocError> {
@@ -396,7 +397,7 @@ fn phrase_of<'v>(
     }
 }
 
-// Tells of a fault in a text.
+// Tells of a fault in a text, where its header has a cluster.
 fn tell_text(
     alloc: Global,
     around: &Around<'_>,
@@ -405,25 +406,40 @@ fn tell_text(
     fault: Fault,
     told: &mut Told,
 ) -> Result<(), AllocError> {
+    match cluster_in(alloc, header)? {
+        Some(cluster) => tell_phrase(alloc, around, &cluster, header, offset, fault, told),
+        None => Ok(()),
+    }
+}
+
+// Tells of a fault in a text over the nodes of a cluster, and of the place that is meant.
+fn tell_phrase(
+    alloc: Global,
+    around: &Around<'_>,
+    cluster: &Cluster,
+    header: &[u8],
+    offset: u64,
+    fault: Fault,
+    told: &mut Told,
+) -> Result<(), AllocError> {
     let Some(object) = &around.object else {
         return Ok(());
     };
-    let Some(nodes) = header_of(alloc, header)? else {
+    let Some((phrase, place, name)) = phrase_of(alloc, object, cluster, offset, fault)? else {
         return Ok(());
     };
-    let Some(cluster) = cluster_of(alloc, nodes)? else {
-        return Ok(());
-    };
-    let Some((phrase, place, name)) = phrase_of(alloc, object, &cluster, offset, fault)? else {
-        return Ok(());
-    };
-    let at = tell_fault(alloc, &cluster, header, phrase, offset, fault, told)?;
+    let at = tell_fault(alloc, cluster, header, phrase, offset, fault, told)?;
     if let Some(key) = last_key(around.line, &around.keys, place, name) {
-        let is_plain = !piece(around.line, key.value, key.end).contains(&b'\\');
-        let behind = if is_plain { at.saturating_add(1) } else { 0 };
-        told.column = column_of(key.value.saturating_add(behind));
+        told.column = column_of(offset_in(around.line, key, at));
     }
     Ok(())
+}
+
+// The offset in a line of a place in the text that a key holds: its first where it is written with escapes.
+fn offset_in(line: &[u8], key: Key, at: usize) -> usize {
+    let is_plain = !piece(line, key.value, key.end).contains(&b'\\');
+    let behind = if is_plain { at.saturating_add(1) } else { 0 };
+    key.value.saturating_add(behind)
 }
 
 // Tells of the first object, which has no nodes.
@@ -457,6 +473,51 @@ fn tell_names(
     }
 }
 
+// Tells that a line is no object.
+fn tell_not_object(alloc: Global, line: &[u8], told: &mut Told) -> Result<(), AllocError> {
+    told.column = Some(1);
+    told.found = Some(front(alloc, line)?);
+    told.expected = String::from_str(alloc, "an object")?;
+    Ok(())
+}
+
+// Tells of a cause at a line.
+fn tell_line(
+    alloc: Global,
+    text: &[u8],
+    number: u64,
+    around: &Around<'_>,
+    why: TraceWhy,
+    told: &mut Told,
+) -> Result<(), AllocError> {
+    match why {
+        TraceWhy::NotJson => tell_json(alloc, around.line, told),
+        TraceWhy::NotObject => tell_not_object(alloc, around.line, told),
+        TraceWhy::NoHeader => tell_header(alloc, around, told),
+        TraceWhy::MissingField(field) => {
+            let (place, name) = key_of(field);
+            tell_missing(alloc, around, place, name, told)
+        }
+        TraceWhy::BadField(field) => tell_bad(alloc, around, field, told),
+        TraceWhy::UnknownEvent => tell_event(alloc, around, told),
+        TraceWhy::OutOfOrder => tell_order(alloc, around, told),
+        TraceWhy::PastEnd => tell_end(alloc, around, told),
+        _ => tell_names(alloc, text, number, around, why, told),
+    }
+}
+
+// Tells of a cause at the line of a number.
+fn tell_number(
+    alloc: Global,
+    text: &[u8],
+    number: u64,
+    why: TraceWhy,
+    told: &mut Told,
+) -> Result<(), AllocError> {
+    let around = around_line(alloc, text, number)?;
+    tell_line(alloc, text, number, &around, why, told)
+}
+
 /// What is told of a trace with this text that is refused at a line for a cause.
 pub(crate) fn told_of(
     alloc: Global,
@@ -465,27 +526,8 @@ pub(crate) fn told_of(
     why: TraceWhy,
 ) -> Result<Told, AllocError> {
     let mut told = Told::nothing(alloc);
-    if matches!(why, TraceWhy::LineTooLong | TraceWhy::TraceTooLong) {
-        return Ok(told);
-    }
-    let around = around_line(alloc, text, number)?;
-    match why {
-        TraceWhy::NotJson => tell_json(alloc, around.line, &mut told)?,
-        TraceWhy::NotObject => {
-            told.column = Some(1);
-            told.found = Some(front(alloc, around.line)?);
-            told.expected = String::from_str(alloc, "an object")?;
-        }
-        TraceWhy::NoHeader => tell_header(alloc, &around, &mut told)?,
-        TraceWhy::MissingField(field) => {
-            let (place, name) = key_of(field);
-            tell_missing(alloc, &around, place, name, &mut told)?;
-        }
-        TraceWhy::BadField(field) => tell_bad(alloc, &around, field, &mut told)?,
-        TraceWhy::UnknownEvent => tell_event(alloc, &around, &mut told)?,
-        TraceWhy::OutOfOrder => tell_order(alloc, &around, &mut told)?,
-        TraceWhy::PastEnd => tell_end(alloc, &around, &mut told)?,
-        _ => tell_names(alloc, text, number, &around, why, &mut told)?,
+    if !matches!(why, TraceWhy::LineTooLong | TraceWhy::TraceTooLong) {
+        tell_number(alloc, text, number, why, &mut told)?;
     }
     Ok(told)
 }
