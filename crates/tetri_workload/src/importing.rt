@@ -1,10 +1,16 @@
 // From a log to a trace.
-ghost use Rattle.std.specs.Prelude.{◌≡◌, ◌+◌, ◌++◌, IfErr, IfOk, IfSome, OnOk, length};
+ghost use Rattle.std.specs.Prelude.{◌≡◌, ◌+◌, ◌++◌, All, IfErr, IfOk, IfSome, List, OnOk, length, ℕ};
 ghost use Rattle.tetri_base.specs.Lists.{count};
+ghost use Rattle.tetri_logs.specs.Options.{AreGood};
 ghost use Rattle.tetri_logs.specs.Reading.{entries, facts_in, is_comment, jobs_in, left_in, no_facts};
+ghost use Rattle.tetri_logs.specs.declared.entry.Entry.{Entry};
+ghost use Rattle.tetri_logs.specs.declared.entry.Format.{Format};
+ghost use Rattle.tetri_logs.specs.declared.options.Options.{Options};
 ghost use Rattle.tetri_workload.specs.Import.{IsDrawn, IsImport, IsImportOn, IsRefused};
 ghost use Rattle.tetri_workload.specs.Kinds.{are_mixed, fitted};
 ghost use Rattle.tetri_workload.specs.Known.{AreKnown};
+ghost use Rattle.tetri_workload.specs.Saying.{IsAsked};
+ghost use Rattle.tetri_workload.specs.Taking.{so_far};
 
 use crate::confirming::is_read_as;
 use crate::kinds::{Kinds, are_mixed, fitted};
@@ -13,6 +19,7 @@ use crate::reading::read_in_turn;
 use crate::taking::{Taken, take_all};
 use crate::text::trace_text;
 use std::alloc::{AllocError, Global};
+use std::mem;
 use tetri_cluster::NodeText;
 use tetri_logs::{
     FirstJob, Format, Log, OptionFault, Options, Reject, Settings, begun, begun_with, early_fault,
@@ -196,6 +203,43 @@ fn draw(
     }
 }
 
+// What is told of what is taken of a log: its trace, which is read back, and what was left out.
+fn told(
+    alloc: Global,
+    kinds: &mut Kinds,
+    nodes: &[NodeText],
+    drawn: &mut Drawn,
+) -> Result<Imported, ImportFault>
+    requires good { AreGood drawn.old.settings }
+    requires known { AreKnown nodes.now kinds.old }
+    requires asked { All (λ u. IsAsked u.demand) (so_far drawn.old.taken).jobs }
+    ensures trace { IfOk result (λ i. (format : Format) → (o : Options) → (log : List ℕ)
+        → IsDrawn (entries (are_mixed nodes.now) format log) nodes.now o drawn.old → IsImportOn format o nodes.now log i) }
+    ensures refused { IfErr result (λ fault. (es : List Entry) → (o : Options)
+        → IsDrawn es nodes.now o drawn.old → IsRefused es nodes.now o fault) }
+{
+    by_slot(&mut drawn.taken.events)?;
+    let trace = trace_text(alloc, &drawn.settings, nodes, &drawn.taken)?;
+    let alike = is_read_as(alloc, kinds, &drawn.settings, nodes, &drawn.taken, &trace)?;
+    if !alike {
+        return Err(ImportFault::Unlike);
+    }
+    let first = mem::replace(&mut drawn.left, Vec::new(alloc));
+    let second = mem::replace(&mut drawn.taken.left, Vec::new(alloc));
+    let mut left = together(first, second)?;
+    by_line(&mut left)?;
+    let jobs = drawn.taken.jobs.len();
+    let rounded = drawn.taken.rounded.as_slice().len();
+    Ok(Imported {
+        trace,
+        jobs,
+        rounded,
+        left,
+        comments: drawn.comments,
+        mixed: are_mixed(nodes),
+    })
+}
+
 // The same as `import`, where the options have as many nodes as are given.
 fn import_on(
     alloc: Global,
@@ -208,27 +252,8 @@ fn import_on(
     ensures refused { IfErr result (IsRefused (entries (are_mixed nodes.now) format log.now) nodes.now options.now) }
 {
     let mut kinds = Kinds::new(alloc);
-    let drawn = draw(alloc, &mut kinds, format, options, nodes, log)?;
-    let settings = drawn.settings;
-    let mut taken = drawn.taken;
-    by_slot(&mut taken.events)?;
-    let trace = trace_text(alloc, &settings, nodes, &taken)?;
-    let alike = is_read_as(alloc, &mut kinds, &settings, nodes, &taken, &trace)?;
-    if !alike {
-        return Err(ImportFault::Unlike);
-    }
-    let jobs = taken.jobs.len();
-    let rounded = taken.rounded.as_slice().len();
-    let mut left = together(drawn.left, taken.left)?;
-    by_line(&mut left)?;
-    Ok(Imported {
-        trace,
-        jobs,
-        rounded,
-        left,
-        comments: drawn.comments,
-        mixed: are_mixed(nodes),
-    })
+    let mut drawn = draw(alloc, &mut kinds, format, options, nodes, log)?;
+    told(alloc, &mut kinds, nodes, &mut drawn)
 }
 
 /// The trace of a log, and what was left out. Where nodes are given, these are the trace's, and each job asks for those of its partition that

@@ -148,6 +148,33 @@ impl Reading {
             Entries::Tasks(_) => Ok(false),
         }
     }
+
+    // What all lines of a log say, if none has tasks of an array and their jobs come in their turn.
+    fn add_all(
+        &mut self,
+        alloc: Global,
+        kinds: &mut Kinds,
+        format: Format,
+        settings: &Settings,
+        nodes: &[NodeText],
+        log: &[u8],
+    ) -> Result<bool, AllocError>
+        requires good { AreGood settings.now }
+        requires small { settings.now.origin < 2 ^ 33 }
+        requires known { AreKnown nodes.now kinds.old }
+        requires none { HasNoLine self.old }
+        ensures known { OnOk result (AreKnown nodes.now kinds.new) }
+        ensures read { IfOk result (λ in_turn. in_turn ≡ true
+            → IsReadOf settings.now nodes.now (entries (are_mixed nodes.now) format log.now) self.new) }
+    {
+        let mut walk = Walk::new(alloc, are_mixed(nodes), format, log);
+        while let Some(found) = walk.next(alloc)? {
+            if !self.add(alloc, kinds, settings, nodes, found)? {
+                return Ok(false);
+            }
+        }
+        Ok(true)
+    }
 }
 
 // No line.
@@ -183,11 +210,8 @@ pub(crate) fn read_in_turn(
     ensures read { IfOk result (λ read. IfSome read (IsReadOf settings.now nodes.now (entries (are_mixed nodes.now) format log.now))) }
 {
     let mut read = nothing_read(alloc)?;
-    let mut walk = Walk::new(alloc, are_mixed(nodes), format, log);
-    while let Some(found) = walk.next(alloc)? {
-        if !read.add(alloc, kinds, settings, nodes, found)? {
-            return Ok(None);
-        }
+    if !read.add_all(alloc, kinds, format, settings, nodes, log)? {
+        return Ok(None);
     }
     Ok(Some(read))
 }

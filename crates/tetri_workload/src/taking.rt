@@ -1,10 +1,11 @@
 // The jobs that are taken.
-ghost use Rattle.std.specs.Prelude.{◌≡◌, ◌<◌, ◌++◌, IfOk, OnOk, false, is_some, length, map, slice_get, string_bytes};
+ghost use Rattle.std.specs.Prelude.{◌≡◌, ◌<◌, ◌++◌, ◌∷◌, [], IfOk, OnOk, false, is_some, length, map, slice_get, string_bytes};
 ghost use Rattle.tetri_trace.specs.Scenario.{job_names, submission};
 ghost use Rattle.tetri_cluster.specs.Names.{is_among, number_of};
 ghost use Rattle.tetri_logs.specs.Options.{AreGood};
 ghost use Rattle.tetri_logs.specs.Placing.{IsPlaced};
-ghost use Rattle.tetri_workload.specs.Taking.{HasMarks, again, again_mark, again_name, end_of, is_second, kept, left_out, named, nothing_taken, rounded_of, so_far, taken, taken_all, with_logged};
+ghost use Rattle.tetri_workload.specs.Marks.{AreMarked};
+ghost use Rattle.tetri_workload.specs.Taking.{HasMarks, again, again_mark, again_name, end_of, events_of, is_second, kept, left_out, named, nothing_taken, rounded_of, so_far, submitted, taken, taken_all, with_logged};
 
 use crate::marks::Marks;
 use std::alloc::{AllocError, Global};
@@ -106,26 +107,10 @@ impl Taken {
         ensures marks { OnOk result (HasMarks self.new) }
     {
         let number = self.jobs.len() as u32;
-        let name = name.owned(alloc)?;
-        self.marks.add(name.bytes());
-        self.jobs.push(Job {
-            name,
-            arrival: placing.arrival,
-            late: placing.late,
-            work: Work::Asked(placing.ask),
-        })?;
+        add_job(alloc, &mut self.jobs, &mut self.marks, name, placing)?;
         self.submits.push(submit)?;
         self.sets.push(set)?;
-        self.events.push(Event {
-            at: placing.arrival,
-            what: Happening::Arrive(number),
-        })?;
-        if let Some(slot) = placing.cancel {
-            self.events.push(Event {
-                at: slot,
-                what: Happening::Cancel(number),
-            })?;
-        }
+        add_events(&mut self.events, number, placing)?;
         self.until = self.until.max(end_of(placing));
         add_rounded(&mut self.rounded, line, placing)
     }
@@ -240,6 +225,47 @@ impl Taken {
             Err(cause) => self.leave(job.line, cause),
         }
     }
+}
+
+// A job under a name that no other has, which is marked.
+fn add_job(
+    alloc: Global,
+    jobs: &mut Jobs,
+    marks: &mut Marks,
+    name: JobName<'_>,
+    placing: &Placing,
+) -> Result<(), AllocError>
+    requires few { length jobs.old < 100000 }
+    requires new { is_among name (job_names (map submission jobs.old)) ≡ false }
+    requires marks { AreMarked marks.old (job_names (map submission jobs.old)) }
+    ensures jobs { OnOk result (map submission jobs.new ≡ map submission jobs.old ++ submitted name.entry placing.now ∷ []) }
+    ensures marks { OnOk result (AreMarked marks.new (job_names (map submission jobs.new))) }
+{
+    let name = name.owned(alloc)?;
+    marks.add(name.bytes());
+    jobs.push(Job {
+        name,
+        arrival: placing.arrival,
+        late: placing.late,
+        work: Work::Asked(placing.ask),
+    })
+}
+
+// The arrival of a job with this number and, if it is cancelled while it waits, its cancellation.
+fn add_events(events: &mut Vec<Event>, number: u32, placing: &Placing) -> Result<(), AllocError>
+    ensures { OnOk result (events.new.items ≡ events.old.items ++ events_of number placing.now) }
+{
+    events.push(Event {
+        at: placing.arrival,
+        what: Happening::Arrive(number),
+    })?;
+    if let Some(slot) = placing.cancel {
+        events.push(Event {
+            at: slot,
+            what: Happening::Cancel(number),
+        })?;
+    }
+    Ok(())
 }
 
 // With the line of a job, where it takes a whole node for fewer processors.

@@ -1,70 +1,29 @@
-use Rattle.std.proofs.Common.{◌≡◌, ◌∙◌, ◌++◌, List, length, ap, sym, subst, rules}
-use Rattle.std.specs.Prelude.{All, IsTrue, string_bytes}
-use Rattle.tetri_logs.specs.Origin.{begun}
-use Rattle.tetri_logs.specs.Reading.{entries, left_in}
+use Rattle.std.proofs.Common.{sym, subst}
+use Rattle.std.specs.Prelude.{All}
+use Rattle.std.proofs.lemmas.Result.{IfErr-weaker, IfOk-weaker}
+use Rattle.tetri_logs.specs.Reading.{entries}
+use Rattle.tetri_workload.specs.Import.{IsImportOn, IsRefused}
 use Rattle.tetri_workload.specs.Kinds.{are_mixed}
-use Rattle.tetri_workload.specs.Ordering.{IsOrderBy}
-use Rattle.tetri_workload.specs.Saying.{IsAsked, IsReadAs}
-use Rattle.tetri_trace.specs.declared.trace.Event.{Event}
-use Rattle.tetri_workload.specs.Taking.{Tally, so_far, taken_all}
-use Rattle.tetri_workload.specs.declared.importing.Imported.{Imported}
-use Rattle.tetri_workload.proofs.ImportLemmas.{imported, same_reading}
+use Rattle.tetri_workload.specs.Saying.{IsAsked}
 use Rattle.tetri_workload.proofs.TakingLemmas.{all_asked}
 use Rattle.tetri_workload.proofs.importing.import_on.Goals as goal
 
-pub trace_text-requires : goal.trace_text-requires
-trace_text-requires c = c.in_ok-drawn.ensures.drawn.2.good
-
-pub is_read_as-requires : goal.is_read_as-requires
-is_read_as-requires c =
+pub told-requires : goal.told-requires
+told-requires c =
     let drawn = c.in_ok-drawn.ensures.drawn in
     record {
+      good = drawn.2.good;
       known = c.in_ok-drawn.ensures.known;
       asked = subst (λ t. All (λ u. IsAsked u.demand) t.jobs) (sym drawn.2.tally) (all_asked c.in_ok-drawn.drawn.settings drawn.1);
     }
 
 pub returns-clause-trace : goal.returns-clause-trace
 returns-clause-trace c =
-    let nodes = c.args.nodes.now in
-    let es = entries (are_mixed nodes) c.args.format c.args.log.now in
-    let o = c.args.options.now in
-    let drawn = c.in_ok-drawn.ensures.drawn in
-    let draft = drawn.0 in
-    let order = drawn.1 in
-    let s = c.in_ok-drawn.drawn.settings in
-    let t = c.in_ok-drawn.drawn.taken in
-    let events = c.by_slot.new.events.items in
-    let in_order : IsOrderBy (λ e. e.at) t.events.items events = c.in_ok-by_slot.ensures in
-    let read : IsReadAs s nodes (record (so_far t) { events = events }) (string_bytes c.in_ok-trace.trace) =
-    subst (IsReadAs s nodes (record (so_far t) { events = events })) c.deref.ensures (c.in_ok-alike.ensures.0 (search rules)) in
-    let extended : c.in_ok-left.left.items ≡ left_in es ++ t.left.items = c.in_ok-left.ensures ∙ ap (λ cs. cs ++ t.left.items) drawn.2.left in
-    let left : IsOrderBy (λ r. r.line) (left_in es ++ t.left.items) c.by_line.new.left.items =
-    subst (λ rs. IsOrderBy (λ r. r.line) rs c.by_line.new.left.items) extended c.in_ok-by_line.ensures in
-    let rounded : length c.as_slice-rounded.result.now ≡ length t.rounded.items = ap length c.as_slice-rounded.ensures.value in
-    let i : Imported = record { trace = c.in_ok-trace.trace; jobs = c.len-jobs.result; rounded = length c.as_slice-rounded.result.now; left = c.by_line.new.left; comments = c.in_ok-drawn.drawn.comments; mixed = c.are_mixed.result } in
-    (draft, order, read.0, imported es nodes o i draft s order t events drawn.2.drafted drawn.2.settings drawn.2.together drawn.2.tally in_order read left c.len-jobs.ensures.value rounded drawn.2.comments c.are_mixed.ensures drawn.2.whole)
+    let a = c.args in
+    IfOk-weaker c.told.result _ (IsImportOn a.format a.options.now a.nodes.now a.log.now) (λ i given. given a.format a.options.now a.log.now c.in_ok-drawn.ensures.drawn) c.told.ensures.trace
 
-pub returns-then-not-alike-clause-refused : goal.returns-then-not-alike-clause-refused
-returns-then-not-alike-clause-refused c =
-    let nodes = c.args.nodes.now in
-    let drawn = c.in_ok-drawn.ensures.drawn in
-    let draft = drawn.0 in
-    let order = drawn.1 in
-    let s = c.in_ok-drawn.drawn.settings in
-    let t = c.in_ok-drawn.drawn.taken in
-    let events = c.by_slot.new.events.items in
-    let is : s ≡ begun draft order = drawn.2.settings in
-    let tally : so_far t ≡ taken_all (begun draft order) order = drawn.2.tally ∙ ap (λ b. taken_all b order) is in
-    let turn : Tally → Tally = λ u. record u { events = events } in
-    let happened : Tally → List Event = λ u. u.events in
-    let tallied : turn (so_far t) ≡ turn (taken_all (begun draft order) order) = ap turn tally in
-    let in_order : IsOrderBy (λ e. e.at) t.events.items events = c.in_ok-by_slot.ensures in (
-      draft,
-      order,
-      events,
-      record {
-        drafted = drawn.2.drafted;
-        timed = subst (λ xs. IsOrderBy (λ e. e.at) xs events) (ap happened tally) in_order;
-        unlike = λ read. let wrong = subst IsTrue c.if-not-alike.true (c.in_ok-alike.ensures.1 (same_reading s (begun draft order) nodes (turn (so_far t)) (turn (taken_all (begun draft order) order)) c.deref.result.now is tallied (c.deref.ensures ∙ c.in_ok-trace.ensures) read)) in cc;
-      },
-    )
+pub returns-clause-refused : goal.returns-clause-refused
+returns-clause-refused c =
+    let a = c.args in
+    let es = entries (are_mixed a.nodes.now) a.format a.log.now in
+    IfErr-weaker c.told.result _ (IsRefused es a.nodes.now a.options.now) (λ fault given. given es a.options.now c.in_ok-drawn.ensures.drawn) c.told.ensures.refused

@@ -6,7 +6,7 @@ use Rattle.tetri_workload.specs.Kinds.{are_mixed}
 use Rattle.tetri_workload.specs.Known.{AreKnown}
 use Rattle.tetri_workload.specs.Reading.{ComeInTurn, jobs_of}
 use Rattle.tetri_workload.specs.Taking.{HasMarks, so_far, taken_all, with_logged}
-use Rattle.tetri_workload.proofs.reading.read_in_turn.Given as goal
+use Rattle.tetri_workload.proofs.reading.Reading.add_all.Given as goal
 
 abbrev pub invariant-loop-walk : goal.invariant-loop-walk
 invariant-loop-walk l =
@@ -14,13 +14,13 @@ invariant-loop-walk l =
     let all = entries (are_mixed l.fn.nodes) l.fn.format l.fn.log in
     record {
       known : AreKnown l.nodes l.kinds;
-      tally : fold (with_logged l.settings) (so_far l.read.taken) (jobs_of l.nodes rest) ≡ taken_all l.settings (jobs_of l.nodes all);
-      marks : HasMarks l.read.taken;
-      left : l.read.left.items ++ left_in rest ≡ left_in all;
-      facts : facts_in l.read.facts rest ≡ facts_in no_facts all;
-      comments : l.read.comments + count is_comment rest ≡ count is_comment all;
-      turn : ComeInTurn l.settings l.read.last (jobs_of l.nodes rest) → ComeInTurn l.settings 0 (jobs_of l.nodes all);
-      few : l.read.comments + l.walk.bytes ≤ length l.fn.log;
+      tally : fold (with_logged l.settings) (so_far l.self.taken) (jobs_of l.nodes rest) ≡ taken_all l.settings (jobs_of l.nodes all);
+      marks : HasMarks l.self.taken;
+      left : l.self.left.items ++ left_in rest ≡ left_in all;
+      facts : facts_in l.self.facts rest ≡ facts_in no_facts all;
+      comments : l.self.comments + count is_comment rest ≡ count is_comment all;
+      turn : ComeInTurn l.settings l.self.last (jobs_of l.nodes rest) → ComeInTurn l.settings 0 (jobs_of l.nodes all);
+      few : l.self.comments + l.walk.bytes ≤ length l.fn.log;
     }
 
 abbrev pub decreases-loop-walk : goal.decreases-loop-walk

@@ -7,7 +7,7 @@ use Rattle.tetri_logs.proofs.LogLaws.{comments-append, facts_in-append, left_in-
 use Rattle.tetri_workload.specs.Reading.{ComeInTurn, jobs_of}
 use Rattle.tetri_workload.specs.Taking.{so_far, with_logged}
 use Rattle.tetri_workload.proofs.TurnLemmas.{jobs_of-append, taken-append}
-use Rattle.tetri_workload.proofs.reading.read_in_turn.Goals as goal
+use Rattle.tetri_workload.proofs.reading.Reading.add_all.Goals as goal
 
 pub loop-walk-preserved : goal.loop-walk-preserved
 loop-walk-preserved c =
@@ -18,7 +18,7 @@ loop-walk-preserved c =
     let few : count is_comment es ≤ 1 = search (rules, c.in_ok-found.ensures.few, c.in-Some.is) in
     let shorter : c.next.new.self.bytes < c.loop-walk.walk.bytes = search (rules, c.in_ok-found.ensures.shorter, c.in-Some.is) in
     let step : c.loop-walk.walk.entries ≡ es ++ rest = search (rules, c.in_ok-found.ensures.entries, c.in-Some.is) in
-    let read = c.loop-walk.read in
+    let read = c.loop-walk.self in
     let inv = c.loop-walk.invariant in
     let added = c.in_ok-add.ensures in
     let go = c.if-not-branch.false in
