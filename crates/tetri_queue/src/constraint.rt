@@ -19,6 +19,15 @@ pub(crate) struct Shape {
     pub(crate) nodes: NodeSet,
 }
 
+impl Shape {
+    /// The same once more.
+    pub(crate) fn copied(&self, alloc: Global) -> Result<Shape, AllocError> {
+        let nodes = NodeSet::of_slice(alloc, self.nodes.as_slice())?;
+        let text = String::from_str(alloc, self.text.as_str())?;
+        Ok(Shape { text, nodes })
+    }
+}
+
 /// Features of which a node has to have all, or one.
 #[derive(Drop)]
 struct Features<'a> {

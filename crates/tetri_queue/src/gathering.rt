@@ -1,5 +1,5 @@
 // What is gathered of a queue for one cycle.
-ghost use Rattle.std.specs.Prelude.{◌≡◌, ◌+◌, ◌&&◌, IfOk, OnOk, false, length};
+ghost use Rattle.std.specs.Prelude.{◌≡◌, ◌+◌, ◌&&◌, IfOk, OnOk, false, is_ok, length};
 ghost use Rattle.tetri_base.specs.Lists.{bit};
 ghost use Rattle.tetri_queue.specs.Arrays.{is_full, throttles, with_used_if};
 ghost use Rattle.tetri_queue.specs.Queues.{is_taken};
@@ -182,6 +182,41 @@ impl Gathering {
         Ok(Some(number))
     }
 
+    // The shape of the nodes that a job may use, if it is taken: its name and its array count it then. Else why it is left out.
+    fn shape_for(
+        &mut self,
+        alloc: Global,
+        cluster: &Cluster,
+        job: &Waiting<'_>,
+    ) -> Result<Result<Shape, Cause>, AllocError>
+        ensures jobs { OnOk result (self.new.jobs.items ≡ self.old.jobs.items) }
+        ensures room { IfOk result (λ shape. (is_ok shape && is_full (throttles self.old.limits) job.now.name) ≡ false) }
+        ensures counted { IfOk result (λ shape. throttles self.new.limits ≡ with_used_if (is_ok shape) (throttles self.old.limits) job.now.name) }
+    {
+        let number = match self.shape_number(alloc, cluster, job)? {
+            Some(number) if number < self.shapes.len() => number,
+            _ => return Ok(Err(Cause::Beyond)),
+        };
+        let shape = match &self.shapes[number] {
+            Ok(shape) => shape,
+            Err(cause) => return Ok(Err(*cause)),
+        };
+        if shape.nodes.as_slice().len() < job.width as usize {
+            return Ok(Err(Cause::TooLarge));
+        }
+        if self.limits.is_full(job.name.bytes()) {
+            return Ok(Err(Cause::Throttled));
+        }
+        if MOST_JOBS <= self.jobs.len() {
+            return Ok(Err(Cause::Beyond));
+        }
+        if !self.names.add(job.name.bytes())? {
+            return Ok(Err(Cause::Repeated));
+        }
+        self.limits.count(job.name.bytes());
+        Ok(Ok(shape.copied(alloc)?))
+    }
+
     // What becomes of a job that waits for an order. A task is taken only where its array has room for it, and counts there.
     fn take(
         &mut self,
@@ -193,35 +228,16 @@ impl Gathering {
         ensures room { IfOk result (λ fate. (is_taken fate && is_full (throttles self.old.limits) job.entry.name) ≡ false) }
         ensures counted { IfOk result (λ fate. throttles self.new.limits ≡ with_used_if (is_taken fate) (throttles self.old.limits) job.entry.name) }
     {
-        let number = match self.shape_number(alloc, cluster, &job)? {
-            Some(number) if number < self.shapes.len() => number,
-            _ => return Ok(Fate::Left(Cause::Beyond)),
+        let shape = match self.shape_for(alloc, cluster, &job)? {
+            Ok(shape) => shape,
+            Err(cause) => return Ok(Fate::Left(cause)),
         };
-        let (nodes, set) = match &self.shapes[number] {
-            Ok(shape) => (shape.nodes.as_slice(), shape.text.as_str()),
-            Err(cause) => return Ok(Fate::Left(*cause)),
-        };
-        if nodes.len() < job.width as usize {
-            return Ok(Fate::Left(Cause::TooLarge));
-        }
-        if self.limits.is_full(job.name.bytes()) {
-            return Ok(Fate::Left(Cause::Throttled));
-        }
-        if MOST_JOBS <= self.jobs.len() {
-            return Ok(Fate::Left(Cause::Beyond));
-        }
-        if !self.names.add(job.name.bytes())? {
-            return Ok(Fate::Left(Cause::Repeated));
-        }
-        self.limits.count(job.name.bytes());
         let ask = ask_of(&self.asked, &job);
-        let nodes = NodeSet::of_slice(alloc, nodes)?;
-        let set = String::from_str(alloc, set)?;
         self.jobs.push(TakenJob {
             name: job.name,
             ask,
-            nodes,
-            set,
+            nodes: shape.nodes,
+            set: shape.text,
         })?;
         Ok(Fate::Taken)
     }
@@ -314,40 +330,27 @@ impl Gathering {
         }
     }
 
-    /// What is planned for of all this: the closures, by node those from slot 0 on first, and how many nodes are drained since there are
-    /// more of them than a trace may have; what happens; and the jobs.
-    pub(crate) fn finish(self, alloc: Global) -> Result<Gathered, AllocError>
-        ensures { IfOk result (λ g. g.jobs.items ≡ self.jobs.items) }
+    /// What is planned for of all this but the jobs: the closures, by node those from slot 0 on first, and how many nodes are drained since
+    /// there are more of them than a trace may have; and what happens.
+    pub(crate) fn planned(&mut self, alloc: Global) -> Result<Planned, AllocError>
+        ensures { OnOk result (self.new.jobs.items ≡ self.old.jobs.items) }
     {
-        let Gathering {
-            closed,
-            mut shut,
-            later,
-            jobs,
-            asked: _,
-            keys: _,
-            shapes: _,
-            names: _,
-            limits: _,
-        } = self;
-        let mut closures = closures_of(alloc, &closed)?;
-        let crowded = add_later(&later, &mut closures, &mut shut)?;
-        let events = events_of(alloc, &shut, jobs.len())?;
-        Ok(Gathered {
+        let mut closures = closures_of(alloc, &self.closed)?;
+        let crowded = add_later(&self.later, &mut closures, &mut self.shut)?;
+        let events = events_of(alloc, &self.shut, self.jobs.len())?;
+        Ok(Planned {
             closures,
             events,
-            jobs,
             crowded,
         })
     }
 }
 
-/// What was gathered.
+/// What is planned for but the jobs.
 #[derive(Drop)]
-pub(crate) struct Gathered {
+pub(crate) struct Planned {
     pub(crate) closures: Vec<Closure>,
     pub(crate) events: Vec<Event>,
-    pub(crate) jobs: Vec<TakenJob>,
     pub(crate) crowded: usize,
 }
 

@@ -113,12 +113,11 @@ fn write_happening(text: &mut String, cycle: &Cycle, what: Happening) -> Result<
     }
 }
 
-/// The text of the trace of a cycle, where this is the list of its nodes. Its only error is want of memory.
-pub(crate) fn trace_text(alloc: Global, cycle: &Cycle, nodes: &str) -> Result<String, AllocError> {
-    let mut text = String::new(alloc);
-    write_header(&mut text, cycle, nodes)?;
+/// Writes the trace of a cycle, where this is the list of its nodes. Its only error is want of memory.
+pub(crate) fn write_trace(text: &mut String, cycle: &Cycle, nodes: &str) -> Result<(), AllocError> {
+    write_header(text, cycle, nodes)?;
     for event in &cycle.events {
-        write_happening(&mut text, cycle, event.what)?;
+        write_happening(text, cycle, event.what)?;
     }
-    Ok(text)
+    Ok(())
 }
