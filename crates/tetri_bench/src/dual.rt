@@ -3,7 +3,7 @@ ghost use Rattle.tetri_ip.specs.Points.{IsFit, IsInBox, bounds_of};
 
 use std::alloc::{AllocError, Global};
 use std::io;
-use std::time::{CpuClock, Duration};
+use std::time::CpuClock;
 use tetri_ip::{Program, Region, Weight};
 use tetri_simplex::{Full, Mirrored, Outcome, Sparse, Whole, run_on};
 
@@ -40,20 +40,26 @@ fn tell(rt: &impl Print, outcome: &Outcome) -> io::Result<()> {
     }
 }
 
-// How a run ends, and how long it takes.
-fn timed_outcome(
-    rt: &impl CpuClock,
+// Runs a program over a region, and writes how that ends.
+fn run_in(
+    rt: &(impl CpuClock + Print + Eprint),
     alloc: Global,
     p: &Program,
+    r: &Region,
     kind: &str,
-) -> io::Result<(Outcome, Duration)>
-    requires { IsFit p.now }
+    timed: bool,
+) -> io::Result<()>
+    requires fit { IsFit p.now }
+    requires in_box { IsInBox p.now (bounds_of r.now) }
 {
-    let whole = Region::whole(alloc, p)?;
     let start = rt.thread_cpu_time()?;
-    let outcome = outcome_of(alloc, p, &whole, kind)?;
+    let outcome = outcome_of(alloc, p, r, kind)?;
     let end = rt.thread_cpu_time()?;
-    Ok((outcome, end.saturating_sub(start)))
+    tell(rt, &outcome)?;
+    if timed {
+        eprintln!(rt; "{}", end.saturating_sub(start).as_nanos())?;
+    }
+    Ok(())
 }
 
 /// Runs a program over dictionaries of a kind. It writes the multiplier and the sum of the weights of the best point to standard output,
@@ -67,10 +73,6 @@ pub fn run_one(
 ) -> io::Result<()>
     requires { IsFit p.now }
 {
-    let (outcome, time) = timed_outcome(rt, alloc, p, kind)?;
-    tell(rt, &outcome)?;
-    if timed {
-        eprintln!(rt; "{}", time.as_nanos())?;
-    }
-    Ok(())
+    let whole = Region::whole(alloc, p)?;
+    run_in(rt, alloc, p, &whole, kind, timed)
 }

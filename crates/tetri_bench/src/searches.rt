@@ -4,6 +4,8 @@ ghost use Rattle.tetri_compile.specs.Gain.{most_gain};
 ghost use Rattle.tetri_ip.specs.Points.{IsFit};
 ghost use Rattle.tetri_space.specs.Sound.{IsSound as IsSoundSpace};
 ghost use Rattle.tetri_space.specs.Space.{space};
+ghost use Rattle.tetri_state.specs.Reached as moment;
+ghost use Rattle.tetri_state.specs.Reached.{IsReached};
 ghost use Rattle.tetri_trace.specs.Scenario.{scenario};
 ghost use Rattle.tetri_trace.specs.Sound.{IsSound};
 
@@ -13,7 +15,7 @@ use runs::all_runs;
 use std::alloc::{AllocError, Global};
 use std::io;
 use std::rt::Files;
-use std::time::CpuClock;
+use std::time::{CpuClock, Duration};
 use tetri_cert::print_mark;
 use tetri_compile::{Compiled, compile, size};
 use tetri_io::FileShelf;
@@ -23,17 +25,30 @@ use tetri_space::{Instance, find_partitions};
 use tetri_state::State;
 use tetri_trace::{Trace, read_trace};
 
+// The instance of the slot in which a run stands, if it is one of the trace.
+fn instance_of(
+    alloc: Global,
+    trace: &Trace,
+    state: &mut State,
+) -> Result<Option<Instance>, AllocError>
+    requires sound { IsSound (scenario trace.now) }
+    requires reached { IsReached (scenario trace.now) moment.between state.old }
+    ensures { IfOk result (λ o. IfSome o (λ i. IsSoundSpace (space i))) }
+{
+    if trace.header.until <= state.now() {
+        return Ok(None);
+    }
+    let _happened = state.begin_cycle(alloc, trace)?;
+    Ok(Some(state.instance(alloc, trace)?))
+}
+
 // The instance of a trace at slot 0.
 fn first_instance(alloc: Global, trace: &Trace) -> Result<Option<Instance>, AllocError>
     requires { IsSound (scenario trace.now) }
     ensures { IfOk result (λ o. IfSome o (λ i. IsSoundSpace (space i))) }
 {
     let mut state = State::open(alloc, trace)?;
-    if trace.header.until <= state.now() {
-        return Ok(None);
-    }
-    let _happened = state.begin_cycle(alloc, trace)?;
-    Ok(Some(state.instance(alloc, trace)?))
+    instance_of(alloc, trace, &mut state)
 }
 
 fn tree_lines(alloc: Global, found: &Found) -> Result<String, AllocError> {
@@ -60,12 +75,27 @@ fn search_program(
     let start = rt.thread_cpu_time()?;
     let found = search(alloc, c, 0, budget)?;
     let end = rt.thread_cpu_time()?;
-    tell_found(rt, size, &found)?;
+    let time = end.saturating_sub(start);
+    tell_search(rt, alloc, &c.program, size, &found, time, timed)
+}
+
+// Writes what is found, and the tree's lines or, where it is timed, the time with that of the dual runs.
+fn tell_search(
+    rt: &(impl CpuClock + Print + Eprint),
+    alloc: Global,
+    p: &Program,
+    size: (u64, u64),
+    found: &Found,
+    time: Duration,
+    timed: bool,
+) -> io::Result<()>
+    requires { IsFit p.now }
+{
+    tell_found(rt, size, found)?;
     if timed {
-        let whole = end.saturating_sub(start).as_nanos();
-        return time_runs(rt, alloc, &c.program, &found, whole);
+        return time_runs(rt, alloc, p, found, time.as_nanos());
     }
-    let lines = tree_lines(alloc, &found)?;
+    let lines = tree_lines(alloc, found)?;
     print!(rt; "{lines}")
 }
 
@@ -109,6 +139,21 @@ fn measure(
     search_program(rt, alloc, &c, (columns, rows), budget, timed)
 }
 
+// Searches the program of the instance that a trace has at slot 0.
+fn search_first(
+    rt: &(impl CpuClock + Print + Eprint),
+    alloc: Global,
+    trace: &Trace,
+    timed: bool,
+) -> io::Result<()>
+    requires { IsSound (scenario trace.now) }
+{
+    match first_instance(alloc, trace)? {
+        Some(inst) => measure(rt, alloc, &inst, trace.header.budget, timed),
+        None => Ok(()),
+    }
+}
+
 /// Searches the program of the instance that the trace in a file has at slot 0, within the trace's budget. It writes the program's
 /// columns and rows, the best objective, the bound and the nodes, and then the tree's lines; where it is timed no lines, but three
 /// numbers to standard error: the nanoseconds of the search, those of the dual runs of its nodes alone, made anew, and how many
@@ -120,11 +165,8 @@ pub fn show(
     timed: bool,
 ) -> io::Result<()> {
     let mut shelf = FileShelf::new(rt);
-    let Ok(trace) = read_trace(alloc, &mut shelf, name) else {
-        return eprintln!(rt; "{name}: not a trace");
-    };
-    match first_instance(alloc, &trace)? {
-        Some(inst) => measure(rt, alloc, &inst, trace.header.budget, timed),
-        None => Ok(()),
+    match read_trace(alloc, &mut shelf, name) {
+        Ok(trace) => search_first(rt, alloc, &trace, timed),
+        Err(_) => eprintln!(rt; "{name}: not a trace"),
     }
 }

@@ -70,10 +70,28 @@ fn weigh_by(
 {
     let whole = Region::whole(alloc, p)?;
     let mut factors = vec![in alloc; 0i128; p.costs.len()]?;
+    weigh_in(rt, p, &whole, weights, &mut factors, rounds, timed)
+}
+
+// The same in a region, with room for the columns' factors.
+fn weigh_in(
+    rt: &(impl CpuClock + Print + Eprint),
+    p: &Program,
+    r: &Region,
+    weights: &[Weight],
+    factors: &mut [i128],
+    rounds: u32,
+    timed: bool,
+) -> io::Result<()>
+    requires fit { IsFit p.now }
+    requires in_box { IsInBox p.now (bounds_of r.now) }
+    requires rows { AreOfRows p.now weights.now }
+    requires length { length factors.old ≡ length p.now.costs.items }
+{
     let start = rt.thread_cpu_time()?;
-    let plain = sum(p, &whole, weights, rounds);
+    let plain = sum(p, r, weights, rounds);
     let between = rt.thread_cpu_time()?;
-    let over = sum_over(p, &whole, weights, &mut factors, rounds);
+    let over = sum_over(p, r, weights, factors, rounds);
     let end = rt.thread_cpu_time()?;
     println!(rt; "{plain} {over}")?;
     if !timed {
