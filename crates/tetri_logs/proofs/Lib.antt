@@ -9,3 +9,5 @@ mod GapLemmas
 mod SeparatorLemmas
 mod TimeLemmas
 mod DayLemmas
+mod ScanLemmas
+mod NameLemmas

@@ -1,5 +1,6 @@
 // What a line of a log is.
-ghost use Rattle.std.specs.Prelude.{◌≡◌, ◌∷◌, [], IfOk, OnOk, map, unwrap_or};
+ghost use Rattle.std.specs.Prelude.{◌≡◌, ◌∷◌, [], IfOk, OnOk, map, true, unwrap_or};
+ghost use Rattle.tetri_cluster.specs.Names.{is_name};
 ghost use Rattle.tetri_logs.specs.Entry.{entries_in, header_at, header_entry, ids_if, layout_at, line_entries, row_entries, row_entry, swf_entry, table_entries, with_name};
 ghost use Rattle.tetri_logs.specs.Sacct.{id_name, told_cell};
 ghost use Rattle.tetri_logs.specs.SetText.{seated};
@@ -87,6 +88,23 @@ pub enum Entries<'a> {
     Tasks(Vec<Entry<'a>>),
 }
 
+// A job with a name.
+#[inline(always)]
+fn named<'a>(line: usize, name: JobName<'a>, account: Result<Account, Cause>) -> Entry<'a>
+    requires { is_name name ≡ true }
+    ensures { result ≡ with_name line name.entry account }
+{
+    match account {
+        Ok(account) => Entry::Job(LoggedJob {
+            line,
+            name,
+            account,
+            set: SetText::new(),
+        }),
+        Err(cause) => Entry::Left(Reject { line, cause }),
+    }
+}
+
 // A job with this name of the log, if it is one.
 #[inline(always)]
 fn with_name<'a>(line: usize, name: &'a [u8], account: Result<Account, Cause>) -> Entry<'a>
@@ -97,12 +115,7 @@ fn with_name<'a>(line: usize, name: &'a [u8], account: Result<Account, Cause>) -
         Err(cause) => return Entry::Left(Reject { line, cause }),
     };
     match JobName::lent(name) {
-        Some(name) => Entry::Job(LoggedJob {
-            line,
-            name,
-            account,
-            set: SetText::new(),
-        }),
+        Some(name) => named(line, name, Ok(account)),
         None => Entry::Left(Reject {
             line,
             cause: Cause::Beyond,
@@ -189,8 +202,9 @@ fn with_made_id<'a>(
     }
 }
 
-// A job by its identifier in the log.
+// A job by its identifier in the log, which is a name itself where no plus is in it.
 #[inline(always)]
+#[tactic(auto, using(crate::proofs::NameLemmas::own_name))]
 fn with_id<'a>(
     alloc: Global,
     line: usize,
@@ -199,10 +213,9 @@ fn with_id<'a>(
 ) -> Result<Entry<'a>, AllocError>
     ensures { IfOk result (λ e. e ≡ with_name line (id_name id.now) account) }
 {
-    if has_byte(id, b'+') {
-        with_made_id(alloc, line, id, account)
-    } else {
-        Ok(with_name(line, id, account))
+    match JobName::lent(id) {
+        Some(name) => Ok(named(line, name, account)),
+        None => with_made_id(alloc, line, id, account),
     }
 }
 

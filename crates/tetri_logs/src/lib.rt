@@ -17,6 +17,7 @@ mod placing;
 mod reading;
 mod sacct;
 mod scale;
+mod scan;
 mod seats;
 mod set_text;
 mod swf;

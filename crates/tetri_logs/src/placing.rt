@@ -96,14 +96,15 @@ fn ask_of(settings: &Settings, nodes: u32, slots: u32) -> Result<Ask, Cause>
     ensures deadline { IfOk result (λ a. a.deadline ≤ 20000) }
 {
     let worth = worth_of(settings, nodes, slots);
-    if worth > PEAK / u64::from(settings.unit) {
+    let value = worth.saturating_mul(u64::from(settings.unit));
+    if PEAK < value {
         return Err(Cause::Beyond);
     }
     Ok(Ask {
         k: nodes,
         set: 0,
         dur: slots,
-        value: worth * u64::from(settings.unit),
+        value,
         deadline: slots + settings.slack,
         prefer: None,
         class: settings.class,

@@ -5,6 +5,7 @@ ghost use Rattle.tetri_io.specs.Words.{parts_at};
 ghost use Rattle.tetri_logs.specs.Words.{amount, count_in, is_separator, needed, word_at, words_of};
 
 use crate::entry::Cause;
+use crate::scan::next_place;
 use std::alloc::AllocError;
 use tetri_io::digits_below;
 
@@ -70,11 +71,11 @@ pub(crate) fn parts_of<'a>(
 {
     parts.clear();
     let mut from = 0;
-    for (i, b) in line.iter().enumerate() {
-        if *b == mark {
-            parts.push(&line[from..i])?;
-            from = i + 1;
-        }
+    let mut end = next_place(line, from, mark);
+    while end < line.len() {
+        parts.push(&line[from..end])?;
+        from = end + 1;
+        end = next_place(line, from, mark);
     }
     parts.push(&line[from..])?;
     Ok(())

@@ -1,12 +1,15 @@
-use Rattle.std.proofs.Common.{◌≡◌, ◌≤◌, ◌++◌, drop, map}
+use Rattle.std.proofs.Common.{◌≡◌, ◌+◌, ◌-◌, ◌≤◌, ◌++◌, drop, length, map}
 use Rattle.std.specs.Prelude.{◌==◌}
-use Rattle.std.specs.List.{slice_range}
+use Rattle.std.specs.List.{position_or_len}
 use Rattle.tetri_io.specs.Words.{parts_at}
-use Rattle.tetri_logs.proofs.WordLemmas.{parts_from}
 use Rattle.tetri_logs.proofs.words.parts_of.Given as goal
 
-abbrev pub invariant-loop-i : goal.invariant-loop-i
-invariant-loop-i l = record {
-  order : l.from ≤ l.i;
-  same : map (λ x. x.now) l.parts.items ++ parts_from (λ b. b == l.mark) (slice_range l.line l.from l.i) (drop l.i l.line) ≡ parts_at l.mark l.line;
+abbrev pub invariant-loop-end : goal.invariant-loop-end
+invariant-loop-end l = record {
+  inside : l.from ≤ length l.line;
+  next : l.end ≡ l.from + position_or_len (λ b. b == l.mark) (drop l.from l.line);
+  same : map (λ x. x.now) l.parts.items ++ parts_at l.mark (drop l.from l.line) ≡ parts_at l.mark l.line;
 }
+
+abbrev pub decreases-loop-end : goal.decreases-loop-end
+decreases-loop-end l = length l.line - l.from

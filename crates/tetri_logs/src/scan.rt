@@ -1,0 +1,44 @@
+// Where a byte comes next, found by vectors of 16 bytes.
+ghost use Rattle.std.specs.Prelude.{◌≡◌, ◌+◌, ◌≤◌, ◌==◌, drop, length, map};
+ghost use Rattle.std.specs.List.{position_or_len};
+ghost use Rattle.std.specs.Simd.Lanes.{mask_l};
+
+use std::simd::prelude::*;
+
+// Of each byte whether it is this one: bit k says it of byte k.
+#[inline(always)]
+fn marks(bytes: u8x16, byte: u8) -> u64
+    ensures { result ≡ mask_l (map (λ b. b == byte) bytes) }
+{
+    bytes.simd_eq(u8x16::splat(byte)).to_bitmask()
+}
+
+// The same as `next_place`, byte by byte.
+#[inline(always)]
+fn next_slowly(text: &[u8], from: usize, byte: u8) -> usize
+    requires { from ≤ length text.now }
+    ensures { result ≡ from + position_or_len (λ b. b == byte) (drop from text.now) }
+{
+    let mut i = from;
+    while i < text.len() && text[i] != byte {
+        i += 1;
+    }
+    i
+}
+
+/// The place of the next such byte from one place on, or the length of the text.
+#[inline(always)]
+pub(crate) fn next_place(text: &[u8], from: usize, byte: u8) -> usize
+    requires { from ≤ length text.now }
+    ensures { result ≡ from + position_or_len (λ b. b == byte) (drop from text.now) }
+{
+    let mut i = from;
+    while text.len() - i >= 16 {
+        let found = marks(u8x16::from_slice(&text[i..]), byte);
+        if found != 0 {
+            return i + found.trailing_zeros() as usize;
+        }
+        i += 16;
+    }
+    next_slowly(text, i, byte)
+}
