@@ -1,7 +1,7 @@
 -- Bytes that are sought by vectors.
 use Rattle.std.proofs.Common.{◌≡◌, ◌+◌, ◌<◌, ◌≤◌, ◌^◌, ◌%◌, ◌*◌, ◌-◌, ◌∙◌, ℕ, Bool, true, false, not, cond, eqb, List, [], ◌∷◌, drop, length, map, take, refl, sym, ap, ap₂, arith}
-use Rattle.std.specs.List.{position_or_len, prefix_len, slice_range, slice_split}
-use Rattle.std.proofs.lemmas.Simd.{chunk-drop, length-chunk, leading_from_mask_l, map-map, mask_l-mod, trailing_mask_l}
+use Rattle.std.specs.List.{position_or_len, slice_range, slice_split}
+use Rattle.std.proofs.lemmas.Simd.{chunk-drop, length-chunk, leading_from_mask_l, mask_l-mod, trailing_mask_l}
 use Rattle.std.proofs.lemmas.Bool.{eq-eqb, ne_eqb}
 use Rattle.std.proofs.lemmas.List.{drop-drop, length-drop, length-map, take_rest}
 use Rattle.std.proofs.lemmas.List.Folds.{prefix_len-append}
@@ -52,10 +52,6 @@ module _ (p : ℕ → Bool) where
       let c = chunk i n xs in
       split xs i n ∙ ap (λ t. cond t (length c + position_or_len p (drop (i + n) xs)) (position_or_len p c)) (ne_eqb _ _ (λ (e : position_or_len p c ≡ length c). omega (arith, no_marks c e)))
       ∙ sym (trailing_mask_l p 64 c (omega (arith, length-chunk i n xs room)) some)
-
-  -- all places are within the bytes
-  pub within : (xs : List ℕ) (i : ℕ) → i ≤ length xs → i + position_or_len p (drop i xs) ≤ length xs
-  within xs i inside = omega (arith, prefix_len-le-length (λ x. not (p x)) (drop i xs), length-drop i xs)
 
   -- the next part of what is left
   pub part_next : (xs : List ℕ) (from end : ℕ) → from ≤ length xs → end ≡ from + position_or_len p (drop from xs) → end < length xs

@@ -1,4 +1,4 @@
-use Rattle.std.proofs.Common.{◌≡◌, ℕ, ◌+◌, ◌-◌, ◌*◌, ◌<◌, ◌≤◌, length}
+use Rattle.std.proofs.Common.{◌≡◌, ◌-◌}
 use Rattle.tetri_lint.proofs.jobs.findings_in.Given as goal
 
 abbrev pub invariant-loop-line : goal.invariant-loop-line

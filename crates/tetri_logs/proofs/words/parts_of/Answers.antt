@@ -1,9 +1,9 @@
-use Rattle.std.proofs.Common.{◌+◌, ◌-◌, ◌∙◌, ◌++◌, ◌∷◌, [], List, ℕ, Bor, drop, map, length, take, ap, sym, arith, append_assoc}
+use Rattle.std.proofs.Common.{◌+◌, ◌-◌, ◌∙◌, ◌++◌, ◌∷◌, [], List, ℕ, Bor, drop, map, ap, sym, arith, append_assoc}
 use Rattle.std.specs.Prelude.{◌==◌}
 use Rattle.std.specs.List.{slice_range}
 use Rattle.std.proofs.lemmas.List.{map_push}
 use Rattle.tetri_io.specs.Words.{parts_at}
-use Rattle.tetri_logs.proofs.ScanLemmas.{part_last, part_next, within}
+use Rattle.tetri_logs.proofs.ScanLemmas.{part_last, part_next}
 use Rattle.tetri_logs.proofs.words.parts_of.Goals as goal
 
 abbrev shown : List (Bor (List ℕ)) → List (List ℕ)

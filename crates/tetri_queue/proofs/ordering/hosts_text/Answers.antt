@@ -1,4 +1,4 @@
-use Rattle.std.proofs.Common.{◌≡◌, ◌<◌, ◌∙◌, [], length, take, get_or, ap, sym, arith}
+use Rattle.std.proofs.Common.{◌<◌, ◌∙◌, [], length, take, get_or, ap, sym, arith}
 use Rattle.tetri_cluster.specs.Cluster.{name_at}
 use Rattle.tetri_queue.specs.Orders.{hosts_text, with_host}
 use Rattle.tetri_queue.proofs.MoreLemmas.{all_more, fold_more}
