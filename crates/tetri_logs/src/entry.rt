@@ -277,6 +277,7 @@ fn entries_by<'a>(
 }
 
 // The tasks that an identifier stands for, where a line says a job and they are some.
+#[inline(always)]
 fn tasks_if(
     alloc: Global,
     account: Result<Account, Cause>,

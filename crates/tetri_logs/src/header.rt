@@ -86,7 +86,12 @@ fn is_id(name: &[u8]) -> bool
 fn has_id(names: &[&[u8]]) -> bool
     ensures { result ≡ list_any (λ name. is_id name.now) names.now }
 {
-    names.iter().any(|name| is_id(name))
+    for name in names {
+        if is_id(name) {
+            return true;
+        }
+    }
+    false
 }
 
 /// Whether these are names of columns.

@@ -93,6 +93,7 @@ fn is_unlimited(text: &[u8]) -> bool
 }
 
 /// The seconds of a limit in a column, where it is known.
+#[inline(always)]
 pub(crate) fn limit_in(in_minutes: bool, column: usize, text: &[u8]) -> Result<Option<u32>, Cause>
     ensures { result ≡ limit_in in_minutes column text.now }
 {

@@ -87,6 +87,7 @@ fn is_unknown(text: &[u8]) -> bool
 }
 
 // The moment that has to be there, in a column.
+#[inline(always)]
 fn needed_moment<'a>(last: &mut Day<'a>, column: usize, text: &'a [u8]) -> Result<u32, Cause>
     requires { IsDay last.old }
     ensures value { result ≡ needed_moment column text.now }
@@ -99,6 +100,7 @@ fn needed_moment<'a>(last: &mut Day<'a>, column: usize, text: &'a [u8]) -> Resul
 }
 
 // A moment in a column, where it is known.
+#[inline(always)]
 fn moment_in<'a>(last: &mut Day<'a>, column: usize, text: &'a [u8]) -> Result<Option<u32>, Cause>
     requires { IsDay last.old }
     ensures value { result ≡ moment_in column text.now }
@@ -112,6 +114,7 @@ fn moment_in<'a>(last: &mut Day<'a>, column: usize, text: &'a [u8]) -> Result<Op
 }
 
 // A number, which may be printed as `4K` for 4096.
+#[inline(always)]
 fn exact_count(text: &[u8]) -> Option<u32>
     ensures { result ≡ exact_count text.now }
 {
@@ -125,6 +128,7 @@ fn exact_count(text: &[u8]) -> Option<u32>
 }
 
 // How many nodes a job has, one at least.
+#[inline(always)]
 fn nodes_in(column: usize, text: &[u8]) -> Result<u32, Cause>
     ensures { result ≡ nodes_in column text.now }
 {
@@ -139,6 +143,7 @@ fn nodes_in(column: usize, text: &[u8]) -> Result<u32, Cause>
 }
 
 // How many processors a job asked for, where it is known.
+#[inline(always)]
 fn processors_in(column: Option<usize>, row: &[&[u8]]) -> Option<u32>
     ensures { result ≡ processors_in column (map (λ w. w.now) row.now) }
 {
@@ -163,7 +168,10 @@ fn elapsed(from: Option<u32>, to: Option<u32>) -> Result<Option<u32>, Cause>
 fn is_cancelled(state: &[u8]) -> bool
     ensures { result ≡ is_cancelled state.now }
 {
-    state.starts_with(b"CANCELLED")
+    match state {
+        [b'C', b'A', ..] => state.starts_with(b"CANCELLED"),
+        _ => false,
+    }
 }
 
 /// What the columns of a line say of a job, or why it is left out.

@@ -1,4 +1,4 @@
-// Where a byte comes next, found by vectors of 16 bytes.
+// Where a byte comes next, found by vectors of 16 bytes, and of 8 at the end.
 ghost use Rattle.std.specs.Prelude.{◌≡◌, ◌+◌, ◌≤◌, ◌==◌, drop, length, map};
 ghost use Rattle.std.specs.List.{position_or_len};
 ghost use Rattle.std.specs.Simd.Lanes.{mask_l};
@@ -13,6 +13,14 @@ fn marks(bytes: u8x16, byte: u8) -> u64
     bytes.simd_eq(u8x16::splat(byte)).to_bitmask()
 }
 
+// The same of 8 bytes.
+#[inline(always)]
+fn marks_of_8(bytes: u8x8, byte: u8) -> u64
+    ensures { result ≡ mask_l (map (λ b. b == byte) bytes) }
+{
+    bytes.simd_eq(u8x8::splat(byte)).to_bitmask()
+}
+
 // The same as `next_place`, byte by byte.
 #[inline(always)]
 fn next_slowly(text: &[u8], from: usize, byte: u8) -> usize
@@ -24,6 +32,22 @@ fn next_slowly(text: &[u8], from: usize, byte: u8) -> usize
         i += 1;
     }
     i
+}
+
+// The same, the first 8 bytes at once, where there are as many.
+#[inline(always)]
+fn next_shortly(text: &[u8], from: usize, byte: u8) -> usize
+    requires { from ≤ length text.now }
+    ensures { result ≡ from + position_or_len (λ b. b == byte) (drop from text.now) }
+{
+    if text.len() - from < 8 {
+        return next_slowly(text, from, byte);
+    }
+    let found = marks_of_8(u8x8::from_slice(&text[from..]), byte);
+    if found != 0 {
+        return from + found.trailing_zeros() as usize;
+    }
+    next_slowly(text, from + 8, byte)
 }
 
 /// The place of the next such byte from one place on, or the length of the text.
@@ -40,5 +64,5 @@ pub(crate) fn next_place(text: &[u8], from: usize, byte: u8) -> usize
         }
         i += 16;
     }
-    next_slowly(text, i, byte)
+    next_shortly(text, i, byte)
 }

@@ -84,6 +84,7 @@ fn midnight(year: u64, month: u64, day: u64) -> Option<u64>
 }
 
 // The same of a text that is a day, as `2024-05-01`.
+#[inline(never)]
 #[tactic(auto, unfolding(crate::specs::Times::day_start))]
 fn day_start(text: &[u8]) -> Option<u64>
     requires { length text.now ≡ 10 }
@@ -141,6 +142,7 @@ pub(crate) fn no_day<'a>() -> Day<'a>
 }
 
 /// The same as `seconds_in`, quicker where the moment is of the day of the last one. It is the last one then.
+#[inline(always)]
 pub(crate) fn seconds_by<'a>(last: &mut Day<'a>, text: &'a [u8]) -> Option<u32>
     requires { IsDay last.old }
     ensures value { result ≡ seconds_in text.now }
