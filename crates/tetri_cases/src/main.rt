@@ -4,7 +4,7 @@
 //! section's kind, and the lines below it are its text, blank lines at the end left out. The README lists the kinds. An argument
 //! that ends with `.jsonl` is a trace, and the report beside it is the one that `tetri` plans for it, with its two advisors. One that
 //! ends with `.report` is a report that a check accepts, and one that ends with `.answers` what `tetri admit` writes of the trace.
-//! The argument `pictures` stands for pictures of reports, which are printed as they are.
+//! The table `pictures.txt` asks for pictures of reports, which are printed as they are.
 #![tactic(auto)]
 
 mod devices;
@@ -63,7 +63,7 @@ fn judge(rt: &HostRuntime, name: &str) -> io::Result<()> {
 fn main(rt: HostRuntime) -> io::Result<()> {
     for name in env::args(&rt)?.skip(1) {
         match name.as_str() {
-            "pictures" => pictures::draw_all(&rt)?,
+            "pictures.txt" => pictures::draw_all(&rt, "pictures.txt")?,
             name => judge(&rt, name)?,
         }
     }

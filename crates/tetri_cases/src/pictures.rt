@@ -1,248 +1,76 @@
 // Pictures of reports that are accepted, and answers to those that are not, with their traces in the folder that the program runs in.
+//
+// A row of the table has a trace and one report of it or two, and then what is asked for: `--cycle` for the cycle whose waiting grants
+// are shown, `--from` and `--to` for the slots, and `--colour` with `class` or `tag` for what the colours of bars tell. Behind a bar
+// stand the tags, those of the trace's header in its order.
 use std::alloc::Global;
-use std::io;
+use std::{fs, io};
 use tetri_chart::{Colours, PairStatus, View, chart, chart_pair, clock_of};
 use tetri_cluster::{Name, NameFault, NameList};
 use tetri_io::{FileShelf, StdSink};
 use tetri_run::{Status, conclude};
 
-// What the colours of bars tell. The tags are those of the trace's header, in its order.
+// What a row asks for.
 #[derive(Clone, Copy)]
-enum By {
-    Job,
-    Class,
-    Tag(&'static [&'static str]),
-}
-
-// The slots that a picture shows, and what its colours tell.
-#[derive(Clone, Copy)]
-struct Part {
+struct Row<'a> {
+    trace: &'a str,
+    first: &'a str,
+    // The second report, or a word of what is asked for.
+    next: &'a str,
+    cycle: Option<u32>,
     from: Option<u32>,
     to: Option<u32>,
-    by: By,
+    colour: &'a str,
+    tags: &'a str,
 }
 
-// A trace, its report, the cycle whose waiting grants are shown, if one is, and how the picture shows the run.
-type Case = (&'static str, &'static str, Option<u32>, Part);
-
-// A trace, two reports of it, and how the pictures show their runs.
-type PairCase = (&'static str, &'static str, &'static str, Part);
-
-const ALL: Part = Part {
-    from: None,
-    to: None,
-    by: By::Job,
-};
-
-const CASES: [Case; 24] = [
-    ("all.jsonl", "all.report", None, ALL),
-    ("all.jsonl", "all.report", Some(4), ALL),
-    ("all.jsonl", "all.report", Some(12), ALL),
-    ("day.jsonl", "day.report", None, ALL),
-    ("busy.jsonl", "busy.report", Some(0), ALL),
-    (
-        "all.jsonl",
-        "all.report",
-        Some(4),
-        Part {
-            from: Some(3),
-            to: Some(7),
-            by: By::Job,
-        },
-    ),
-    (
-        "all.jsonl",
-        "all.report",
-        Some(4),
-        Part {
-            from: Some(5),
-            to: Some(5),
-            by: By::Job,
-        },
-    ),
-    (
-        "all.jsonl",
-        "all.report",
-        None,
-        Part {
-            from: Some(0),
-            to: Some(11),
-            by: By::Job,
-        },
-    ),
-    (
-        "all.jsonl",
-        "all.report",
-        None,
-        Part {
-            from: Some(10),
-            to: None,
-            by: By::Job,
-        },
-    ),
-    (
-        "all.jsonl",
-        "all.report",
-        None,
-        Part {
-            from: None,
-            to: Some(2),
-            by: By::Job,
-        },
-    ),
-    (
-        "all.jsonl",
-        "all.report",
-        None,
-        Part {
-            from: Some(7),
-            to: Some(6),
-            by: By::Job,
-        },
-    ),
-    (
-        "all.jsonl",
-        "all.report",
-        None,
-        Part {
-            from: None,
-            to: Some(12),
-            by: By::Job,
-        },
-    ),
-    (
-        "all.jsonl",
-        "all.report",
-        None,
-        Part {
-            from: Some(12),
-            to: None,
-            by: By::Job,
-        },
-    ),
-    ("clock.jsonl", "day.report", None, ALL),
-    ("century.jsonl", "day.report", None, ALL),
-    (
-        "day.jsonl",
-        "day.report",
-        None,
-        Part {
-            from: None,
-            to: None,
-            by: By::Class,
-        },
-    ),
-    (
-        "busy.jsonl",
-        "busy.report",
-        Some(0),
-        Part {
-            from: None,
-            to: None,
-            by: By::Class,
-        },
-    ),
-    (
-        "all.jsonl",
-        "all.report",
-        None,
-        Part {
-            from: None,
-            to: None,
-            by: By::Tag(&["a"]),
-        },
-    ),
-    (
-        "tagged.jsonl",
-        "day.report",
-        None,
-        Part {
-            from: Some(6),
-            to: Some(12),
-            by: By::Tag(&["gpu", "fast", "r1", "r2", "r3", "r4", "r5", "r6"]),
-        },
-    ),
-    ("all.jsonl", "forged.report", None, ALL),
-    ("all.jsonl", "cut.report", None, ALL),
-    ("all.jsonl", "unlawful.report", None, ALL),
-    ("bad.jsonl", "all.report", None, ALL),
-    ("none.jsonl", "all.report", None, ALL),
-];
-
-const PAIRS: [PairCase; 5] = [
-    ("failure.jsonl", "failure.report", "lucky.report", ALL),
-    (
-        "failure.jsonl",
-        "lucky.report",
-        "failure.report",
-        Part {
-            from: Some(1),
-            to: None,
-            by: By::Class,
-        },
-    ),
-    (
-        "failure.jsonl",
-        "failure.report",
-        "lucky.report",
-        Part {
-            from: None,
-            to: Some(5),
-            by: By::Job,
-        },
-    ),
-    ("failure.jsonl", "failure.report", "waiting.report", ALL),
-    ("failure.jsonl", "cut.report", "lucky.report", ALL),
-];
-
-// The word for what the colours tell, but for the usual.
-fn colour_word(by: By) -> Option<&'static str> {
-    match by {
-        By::Job => None,
-        By::Class => Some("class"),
-        By::Tag(_) => Some("tag"),
-    }
+// What stands before a mark, and what stands behind it.
+fn parts_at<'a>(text: &'a str, mark: &str) -> (&'a str, &'a str) {
+    text.split_once(mark).unwrap_or((text, ""))
 }
 
-// Prints what is asked for of the slots and the colours, and ends the line.
-fn print_part(rt: &HostRuntime, part: Part) -> io::Result<()> {
-    if let Some(from) = part.from {
-        print!(rt; " --from {from}")?;
-    }
-    if let Some(to) = part.to {
-        print!(rt; " --to {to}")?;
-    }
-    if let Some(word) = colour_word(part.by) {
-        print!(rt; " --colour {word}")?;
-    }
-    println!(rt; "")
+// The word behind a mark, empty where the mark is not there.
+fn word_behind<'a>(text: &'a str, mark: &str) -> &'a str {
+    let (_, rest) = parts_at(text, mark);
+    let (word, _) = parts_at(rest, " ");
+    word
 }
 
-// Prints what a case asks for.
-fn print_case(rt: &HostRuntime, case: &Case) -> io::Result<()> {
-    let (trace, report, cycle, part) = *case;
-    print!(rt; "== {trace} {report}")?;
-    if let Some(cycle) = cycle {
-        print!(rt; " --cycle {cycle}")?;
+fn number_behind(text: &str, mark: &str) -> Option<u32> {
+    word_behind(text, mark).parse::<u32>().ok()
+}
+
+fn row_of<'a>(asked: &'a str, tags: &'a str) -> Row<'a> {
+    let (trace, rest) = parts_at(asked, " ");
+    let (first, rest) = parts_at(rest, " ");
+    let (next, _) = parts_at(rest, " ");
+    Row {
+        trace,
+        first,
+        next,
+        cycle: number_behind(asked, " --cycle "),
+        from: number_behind(asked, " --from "),
+        to: number_behind(asked, " --to "),
+        colour: word_behind(asked, " --colour "),
+        tags,
     }
-    print_part(rt, part)
 }
 
 // The tags as names.
-fn names_of(alloc: Global, tags: &[&str]) -> Result<NameList, NameFault> {
+fn names_of(alloc: Global, tags: &str) -> Result<NameList, NameFault> {
     let mut names = NameList::new(alloc);
-    for tag in tags {
+    for tag in tags.split(' ') {
         names.push(Name::read(alloc, tag.as_bytes())?)?;
     }
     Ok(names)
 }
 
 // What the colours tell.
-fn colours_of(alloc: Global, by: By) -> Result<Colours, NameFault> {
-    match by {
-        By::Job => Ok(Colours::ByJob),
-        By::Class => Ok(Colours::ByClass),
-        By::Tag(tags) => Ok(Colours::ByTag(names_of(alloc, tags)?)),
+fn colours_of(alloc: Global, row: &Row<'_>) -> Result<Colours, NameFault> {
+    match row.colour {
+        "class" => Ok(Colours::ByClass),
+        "tag" => Ok(Colours::ByTag(names_of(alloc, row.tags)?)),
+        _ => Ok(Colours::ByJob),
     }
 }
 
@@ -250,88 +78,91 @@ fn colours_of(alloc: Global, by: By) -> Result<Colours, NameFault> {
 fn view_of(
     rt: &HostRuntime,
     shelf: &mut FileShelf<'_, HostRuntime>,
-    trace: &str,
-    part: Part,
+    row: &Row<'_>,
 ) -> Result<View, NameFault> {
     Ok(View {
-        from: part.from,
-        to: part.to,
-        clock: clock_of(rt.alloc(), shelf, trace),
-        colours: colours_of(rt.alloc(), part.by)?,
+        from: row.from,
+        to: row.to,
+        clock: clock_of(rt.alloc(), shelf, row.trace),
+        colours: colours_of(rt.alloc(), row)?,
     })
 }
 
-// Draws a report, and prints how the call ended.
-fn try_case(rt: &HostRuntime, case: &Case) -> io::Result<()> {
-    print_case(rt, case)?;
-    let (trace, report, cycle, part) = *case;
-    let mut shelf = FileShelf::new(rt);
-    let Ok(view) = view_of(rt, &mut shelf, trace, part) else {
-        return println!(rt; "no such names");
-    };
-    let mut sink = StdSink::new(rt.stdout());
-    let status = chart(
-        rt.alloc(),
-        trace,
-        report,
-        cycle,
-        &view,
-        &mut shelf,
-        &mut sink,
-    );
-    if let Status::Usage = status {
-        return println!(rt; "no such cycle or slots");
-    }
-    let number = conclude(rt.alloc(), &status, &mut sink);
-    println!(rt; "{number}")
-}
-
-// Prints which check ended so, or how drawing both did.
-fn print_end(rt: &HostRuntime, status: PairStatus) -> io::Result<()> {
-    let mut sink = StdSink::new(rt.stdout());
-    let (whose, status) = match status {
-        PairStatus::First(status) => ("first ", status),
-        PairStatus::Second(status) => ("second ", status),
-        PairStatus::Both(status) => ("", status),
-    };
+// Prints how a call ended.
+fn print_status(rt: &HostRuntime, whose: &str, status: &Status) -> io::Result<()> {
     if let Status::Usage = status {
         return println!(rt; "no such cycle or slots");
     }
     print!(rt; "{whose}")?;
-    let number = conclude(rt.alloc(), &status, &mut sink);
+    let mut sink = StdSink::new(rt.stdout());
+    let number = conclude(rt.alloc(), status, &mut sink);
     println!(rt; "{number}")
 }
 
-// Draws two reports, and prints how the call ended.
-fn try_pair(rt: &HostRuntime, case: &PairCase) -> io::Result<()> {
-    let (trace, first, second, part) = *case;
-    print!(rt; "== {trace} {first} {second}")?;
-    print_part(rt, part)?;
-    let mut shelf = FileShelf::new(rt);
-    let Ok(view) = view_of(rt, &mut shelf, trace, part) else {
-        return println!(rt; "no such names");
-    };
+// Draws a report, and prints how the call ended.
+fn draw_one(
+    rt: &HostRuntime,
+    shelf: &mut FileShelf<'_, HostRuntime>,
+    row: &Row<'_>,
+    view: &View,
+) -> io::Result<()> {
+    let mut sink = StdSink::new(rt.stdout());
+    let status = chart(
+        rt.alloc(),
+        row.trace,
+        row.first,
+        row.cycle,
+        view,
+        shelf,
+        &mut sink,
+    );
+    print_status(rt, "", &status)
+}
+
+// Draws two reports, and prints which check ended so, or how drawing both did.
+fn draw_pair(
+    rt: &HostRuntime,
+    shelf: &mut FileShelf<'_, HostRuntime>,
+    row: &Row<'_>,
+    view: View,
+) -> io::Result<()> {
     let mut sink = StdSink::new(rt.stdout());
     let status = chart_pair(
         rt.alloc(),
-        trace,
-        first,
-        second,
+        row.trace,
+        row.first,
+        row.next,
         None,
         view,
-        &mut shelf,
+        shelf,
         &mut sink,
     );
-    print_end(rt, status)
+    match &status {
+        PairStatus::First(status) => print_status(rt, "first ", status),
+        PairStatus::Second(status) => print_status(rt, "second ", status),
+        PairStatus::Both(status) => print_status(rt, "", status),
+    }
 }
 
-/// Draws the reports of each case, and prints how each call ended.
-pub fn draw_all(rt: &HostRuntime) -> io::Result<()> {
-    for case in &CASES {
-        try_case(rt, case)?;
+fn draw_row(rt: &HostRuntime, row: &Row<'_>) -> io::Result<()> {
+    let mut shelf = FileShelf::new(rt);
+    let Ok(view) = view_of(rt, &mut shelf, row) else {
+        return println!(rt; "no such names");
+    };
+    if row.next.ends_with(".report") {
+        draw_pair(rt, &mut shelf, row, view)
+    } else {
+        draw_one(rt, &mut shelf, row, &view)
     }
-    for case in &PAIRS {
-        try_pair(rt, case)?;
+}
+
+/// Draws what each row of a table asks for, and prints how each call ended.
+pub fn draw_all(rt: &HostRuntime, table: &str) -> io::Result<()> {
+    let table = fs::read_to_string(rt, table)?;
+    for row in table.as_str().lines() {
+        let (asked, tags) = parts_at(row, " | ");
+        println!(rt; "== {asked}")?;
+        draw_row(rt, &row_of(asked, tags))?;
     }
     Ok(())
 }
