@@ -3,4 +3,5 @@ pub mod MemberLemmas
 pub mod NoticeLaws
 pub mod ObjectLemmas
 pub mod Options
+pub mod TokenLemmas
 pub mod WrittenLemmas

@@ -1,18 +1,18 @@
 -- Events as an import writes them: their tokens are read as their members.
-use Rattle.std.proofs.Common.{◌≡◌, ◌==◌, get_or, drop, true, false, ℕ, ℤ, ◌+◌, ◌-◌, ◌<◌, ◌≤◌, List, [], ◌∷◌, length, Ok, Some, None, Option, refl, sym, ap, ◌∙◌, arith, rules}
+use Rattle.std.proofs.Common.{◌≡◌, false, ℕ, ℤ, pos, negsuc, ◌+◌, ◌-◌, ◌<◌, ◌≤◌, List, [], ◌∷◌, length, Ok, Some, None, Option, refl, sym, ap, ◌∙◌, arith}
 use Rattle.std.specs.Prelude.{IfSome, codes, option_map, unwrap_or}
 use Rattle.std.specs.Borrow.{Bor}
 use Rattle.std.specs.Str.{IsUtf8}
-use Rattle.fast_float.specs.Text.{scan}
+use Rattle.std.specs.Fmt.{signed_decimal}
 use Rattle.json.specs.Token.{Token}
 use Rattle.json.specs.Lex.{tokens}
 use Rattle.json.specs.Json.{members, parse_map, value}
 use Rattle.json.proofs.Grammar.{value_is, value-begin_object}
 use Rattle.serde_json.specs.Data.{Data, object, string, Members, no_members, put}
 use Rattle.serde_json.specs.Find.{of_integer}
-use Rattle.serde_json.specs.Read.{number_from, number_of, of_json, of_members, converted, read}
+use Rattle.serde_json.specs.Read.{number_of, of_json, converted, read}
+use Rattle.serde_json.proofs.Numbers.{number_of-decimal, number_of-negative}
 use Rattle.tetri_notice.proofs.MemberLemmas.{member_read, members_over, of_object, whole_read}
-use Rattle.tetri_base.specs.ResultSteps.{◌>>=◌}
 use Rattle.tetri_notice.proofs.ObjectLemmas.{is_json}
 use Rattle.tetri_notice.specs.Asks.{AskText, ask_at, ask_keys, class_named, worth_in}
 use Rattle.tetri_notice.specs.Fields.{late_of, name_in, number_in, object_in, slot_in}
@@ -21,6 +21,7 @@ use Rattle.tetri_notice.specs.declared.event.Notice as code
 use Rattle.tetri_notice.specs.declared.written.WrittenAsk.{WrittenAsk}
 use Rattle.tetri_notice.specs.declared.written.WrittenCancel.{WrittenCancel}
 use Rattle.tetri_notice.specs.declared.written.WrittenJob.{WrittenJob}
+use Rattle.tetri_notice.specs.Tokens.{IsSmall}
 use Rattle.tetri_notice.specs.Written.{ask_members, cancel_members, event_on, job_members, whole, with_due, with_set, AreMembers, IsValue, Puts, SaysAsk, SaysEvent, TextSays}
 use Rattle.tetri_request.specs.declared.ask.Class.{Class}
 
@@ -37,6 +38,10 @@ puts_member low k d old mid new is v =
       omega (arith, v.0),
       λ depth n found deep enough. (n - 1, omega (arith, v.0), member_read (value depth) found n k old mid new d (omega arith) (rw is refl) (v.1 depth)),
     )
+
+-- nothing is put, and nothing is read
+pub puts_none : (low : ℕ) (old new : List Token) → new ≡ old → Puts low (λ ms. ms) old new
+puts_none low old new is = (rw is (omega arith), λ depth n found deep enough. (n, rw is enough, rw is refl))
 
 pub puts_both : (low : ℕ) (f g : Members → Members) (a b c : List Token) → Puts low f a b → Puts low g b c → Puts low (λ ms. g (f ms)) a c
 puts_both low f g a b c p q = (
@@ -76,23 +81,22 @@ puts_object k ms a b c d keyed opened m =
 
 -- ---- what a step finds
 
-pub number_value : (old new : List Token) (s : List ℕ) (found : Option ℤ) → old ≡ Token.number s ∷ new → IfSome found (λ z. number_of s ≡ Some (of_integer z)) → IfSome found (λ z. IsValue (whole z) old new)
-number_value old new s None is h = tt
-number_value old new s (Some z) is h = is_number old new s z is h
+-- the text of a number is read as that number
+pub decimal_number : (z : ℤ) → IsSmall z → number_of (signed_decimal z) ≡ Some (of_integer z)
+decimal_number (pos n) h = number_of-decimal n (omega (arith, h))
+decimal_number (negsuc n) h = number_of-negative n (omega (arith, h))
+
+pub number_value : (old new : List Token) (found : Option ℤ) → IfSome found IsSmall → IfSome found (λ z. old ≡ Token.number (signed_decimal z) ∷ new) → IfSome found (λ z. IsValue (whole z) old new)
+number_value old new None small is = tt
+number_value old new (Some z) small is = is_number old new (signed_decimal z) z is (decimal_number z small)
+
+pub string_value : (old new : List Token) (found : Option (Bor (List ℕ))) → IfSome found (λ s. old ≡ Token.string s.now ∷ new) → IfSome found (λ s. IsValue (string s.now) old new)
+string_value old new None is = tt
+string_value old new (Some s) is = is_string old new s.now is
 
 pub value_member : {X : Type 0} (seen : X → Data) (k : List ℕ) (old mid new : List Token) (found : Option X) → old ≡ Token.key k ∷ mid → IfSome found (λ x. IsValue (seen x) mid new) → IfSome found (λ x. Puts 0 (put k (seen x)) old new)
 value_member seen k old mid new None is h = tt
 value_member seen k old mid new (Some x) is h = puts_member 0 k (seen x) old mid new is h
-
-pub negative_number : (s digits : List ℕ) (found : Option ℤ) → (get_or s 0 0 == 45) ≡ true → digits ≡ drop 1 s → IfSome found (λ z. number_from true (scan digits) ≡ Some (of_integer z)) → IfSome found (λ z. number_of s ≡ Some (of_integer z))
-unfolding number_of
-negative_number s digits None e is h = tt
-negative_number s digits (Some z) e is h = rw e (ap (λ ds. number_from true (scan ds)) (sym is) ∙ h)
-
-pub other_number : (s : List ℕ) (found : Option ℤ) → (get_or s 0 0 == 45) ≡ false → IfSome found (λ z. number_from false (scan s) ≡ Some (of_integer z)) → IfSome found (λ z. number_of s ≡ Some (of_integer z))
-unfolding number_of
-other_number s None e h = tt
-other_number s (Some z) e h = rw e h
 
 pub ask_puts : (a : WrittenAsk) (t0 t1 t2 t3 t4 t5 t6 : List Token) → Puts 0 (put (codes "k") (whole a.k)) t0 t1 → Puts 0 (put (codes "dur") (whole a.dur)) t1 t2 → Puts 0 (put (codes "value") (whole a.value)) t2 t3
     → Puts 0 (with_due a.due) t3 t4 → Puts 0 (put (codes "class") (string a.class.now)) t4 t5 → t5 ≡ Token.end_object ∷ t6 → AreMembers 0 (ask_members a) t0 t6

@@ -7,3 +7,4 @@ pub mod Objects
 pub mod Notices
 pub mod Words
 pub mod Written
+pub mod Tokens

@@ -1,5 +1,5 @@
 -- Events as an import writes them, key by key in one order: their tokens and the data that these are.
-use Rattle.std.specs.Prelude.{◌≡◌, ◌<◌, ◌≤◌, ℕ, ℤ, List, [], ◌∷◌, length, true, is_some, Option, Some, None, option_map, Result, Ok, codes}
+use Rattle.std.specs.Prelude.{◌≡◌, ◌<◌, ◌≤◌, ℕ, ℤ, List, length, true, is_some, Option, Some, None, option_map, Result, Ok, codes}
 use Rattle.json.specs.Token.{Token}
 use Rattle.json.specs.Json.{members, value}
 use Rattle.serde_json.specs.Data.{Data, number, string, object, Members, no_members, put}

@@ -7,6 +7,7 @@ mod event;
 mod fault;
 mod field;
 mod header;
+mod tokens;
 mod words;
 mod written;
 

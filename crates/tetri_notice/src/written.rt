@@ -1,21 +1,19 @@
 // Events as an import writes them, key by key in one order, read from the tokens of a line without a value of its object.
-ghost use Rattle.std.specs.Prelude.{◌≡◌, ◌==◌, ◌≤◌, ◌<◌, ◌≤ℤ◌, ◌∷◌, [], IsTrue, IfSome, Ok, Some, codes, length, negsuc, option_map, pos, slice_index, true, false};
-ghost use Rattle.fast_float.specs.Text.{scan};
-ghost use Rattle.json.specs.Token.{begin_object, end_object, key as key_token};
+ghost use Rattle.std.specs.Prelude.{◌≡◌, ◌≤◌, ◌≤ℤ◌, IfSome, Ok, Some, codes, negsuc, option_map, pos, true};
+ghost use Rattle.std.specs.List.{list_all};
+ghost use Rattle.json.specs.Run.{is_plain};
 ghost use Rattle.serde_json.specs.Data.{object, put, string};
-ghost use Rattle.serde_json.specs.Find.{of_integer};
-ghost use Rattle.serde_json.specs.Read.{number_from, number_of, read};
+ghost use Rattle.serde_json.specs.Read.{read};
 ghost use Rattle.tetri_cluster.specs.Names.{is_name};
 ghost use Rattle.tetri_notice.specs.Asks.{ask_text, IsSoundAskText};
 ghost use Rattle.tetri_notice.specs.Fields.{late_of, name_in, number_in, slot_in};
 ghost use Rattle.tetri_notice.specs.Notices.{IsGoodNotice};
 ghost use Rattle.tetri_notice.specs.Objects.{arrives, asked, cancels, notice};
-ghost use Rattle.tetri_notice.specs.Written.{ask_members, cancel_members, event_on, job_members, whole, with_due, AreMembers, IsValue, Puts, SaysAsk, TextSays};
+ghost use Rattle.tetri_notice.specs.Written.{ask_members, cancel_members, event_on, job_members, whole, with_due, with_set, AreMembers, IsValue, Puts, SaysAsk, TextSays};
 
 use crate::asks::{AskText, class_named, worth_of};
 use crate::event::{Notice, WorkText};
-use fast_float::Numeral;
-use json::{Reader, Scratch, Token};
+use crate::tokens::Tokens;
 use tetri_cluster::is_name;
 
 // The set of an ask, if one is written, and its deadline.
@@ -51,127 +49,55 @@ struct WrittenCancel<'v> {
     name: &'v str,
 }
 
-fn has_minus(text: &[u8]) -> bool
-    ensures value { result ≡ (slice_index text.now 0 == 45) }
-    ensures some { IsTrue result → 0 < length text.now }
-{
-    !text.is_empty() && text[0] == b'-'
-}
-
-fn from_zero(digits: &[u8]) -> Option<i64>
-    ensures { IfSome result (λ z. number_from false (scan digits.now) ≡ Some (of_integer z)) }
-{
-    match Numeral::scan(digits).to_u64() {
-        Some(n) if n <= i64::MAX as u64 => Some(n as i64),
-        _ => None,
-    }
-}
-
-fn below_zero(digits: &[u8]) -> Option<i64>
-    ensures { IfSome result (λ z. number_from true (scan digits.now) ≡ Some (of_integer z)) }
-{
-    match Numeral::scan(digits).to_i64(true) {
-        Some(n) if n < 0 => Some(n),
-        _ => None,
-    }
-}
-
-// The integer that the text of a number is.
-fn integer(text: &str) -> Option<i64>
-    ensures { IfSome result (λ z. number_of text.now ≡ Some (of_integer z)) }
-{
-    let bytes = text.as_bytes();
-    if has_minus(bytes) {
-        below_zero(&bytes[1..])
-    } else {
-        from_zero(bytes)
-    }
-}
-
-fn passes_key(reader: &mut Reader<'_>, key: &str) -> Option<()>
-    ensures { IfSome result (λ _. reader.old ≡ key_token key.now ∷ reader.new) }
-{
-    match reader.next()? {
-        Token::Key(found) if found == key => Some(()),
-        _ => None,
-    }
-}
-
-fn opens(reader: &mut Reader<'_>) -> Option<()>
-    ensures { IfSome result (λ _. reader.old ≡ begin_object ∷ reader.new) }
-{
-    match reader.next()? {
-        Token::BeginObject => Some(()),
-        _ => None,
-    }
-}
-
-fn closes(reader: &mut Reader<'_>) -> Option<()>
-    ensures { IfSome result (λ _. reader.old ≡ end_object ∷ reader.new) }
-{
-    match reader.next()? {
-        Token::EndObject => Some(()),
-        _ => None,
-    }
-}
-
-fn number(reader: &mut Reader<'_>) -> Option<i64>
+fn number(reader: &mut Tokens<'_>) -> Option<i64>
     ensures { IfSome result (λ z. IsValue (whole z) reader.old reader.new) }
 {
-    match reader.next()? {
-        Token::Number(text) => integer(text),
-        _ => None,
-    }
+    reader.number()
 }
 
-fn text<'v>(reader: &mut Reader<'v>) -> Option<&'v str>
+fn text<'v>(reader: &mut Tokens<'v>) -> Option<&'v str>
     ensures { IfSome result (λ s. IsValue (string s.now) reader.old reader.new) }
 {
-    match reader.next()? {
-        Token::String(text) => Some(text),
-        _ => None,
-    }
+    reader.string()
 }
 
-fn number_at(reader: &mut Reader<'_>, key: &str) -> Option<i64>
+fn number_at(reader: &mut Tokens<'_>, key: &str) -> Option<i64>
+    requires { list_all is_plain key.now ≡ true }
     ensures { IfSome result (λ z. Puts 0 (put key.now (whole z)) reader.old reader.new) }
 {
-    passes_key(reader, key)?;
+    reader.passes_key(key)?;
     number(reader)
 }
 
-fn text_at<'v>(reader: &mut Reader<'v>, key: &str) -> Option<&'v str>
+fn text_at<'v>(reader: &mut Tokens<'v>, key: &str) -> Option<&'v str>
+    requires { list_all is_plain key.now ≡ true }
     ensures { IfSome result (λ s. Puts 0 (put key.now (string s.now)) reader.old reader.new) }
 {
-    passes_key(reader, key)?;
+    reader.passes_key(key)?;
     text(reader)
 }
 
-fn due_at<'v>(reader: &mut Reader<'v>) -> Option<Due<'v>>
-    ensures { IfSome result (λ due. Puts 0 (with_due due) reader.old reader.new) }
+fn set_at<'v>(reader: &mut Tokens<'v>) -> Option<Option<&'v str>>
+    ensures { IfSome result (λ set. Puts 0 (with_set (option_map (λ s. s.now) set)) reader.old reader.new) }
 {
-    let Token::Key(key) = reader.next()? else {
-        return None;
-    };
-    if key == "deadline" {
-        let deadline = number(reader)?;
-        return Some(Due {
-            set: None,
-            deadline,
-        });
+    match reader.passes_key("set") {
+        Some(()) => {
+            let set = text(reader)?;
+            Some(Some(set))
+        }
+        None => Some(None),
     }
-    if key != "set" {
-        return None;
-    }
-    let set = text(reader)?;
-    let deadline = number_at(reader, "deadline")?;
-    Some(Due {
-        set: Some(set),
-        deadline,
-    })
 }
 
-fn written_ask<'v>(reader: &mut Reader<'v>) -> Option<WrittenAsk<'v>>
+fn due_at<'v>(reader: &mut Tokens<'v>) -> Option<Due<'v>>
+    ensures { IfSome result (λ due. Puts 0 (with_due due) reader.old reader.new) }
+{
+    let set = set_at(reader)?;
+    let deadline = number_at(reader, "deadline")?;
+    Some(Due { set, deadline })
+}
+
+fn written_ask<'v>(reader: &mut Tokens<'v>) -> Option<WrittenAsk<'v>>
     ensures { IfSome result (λ a. AreMembers 0 (ask_members a) reader.old reader.new) }
 {
     let k = number_at(reader, "k")?;
@@ -179,7 +105,7 @@ fn written_ask<'v>(reader: &mut Reader<'v>) -> Option<WrittenAsk<'v>>
     let value = number_at(reader, "value")?;
     let due = due_at(reader)?;
     let class = text_at(reader, "class")?;
-    closes(reader)?;
+    reader.closes()?;
     Some(WrittenAsk {
         k,
         dur,
@@ -189,22 +115,22 @@ fn written_ask<'v>(reader: &mut Reader<'v>) -> Option<WrittenAsk<'v>>
     })
 }
 
-fn ask_at<'v>(reader: &mut Reader<'v>) -> Option<WrittenAsk<'v>>
+fn ask_at<'v>(reader: &mut Tokens<'v>) -> Option<WrittenAsk<'v>>
     ensures { IfSome result (λ a. Puts 1 (put (codes "ask") (object (ask_members a))) reader.old reader.new) }
 {
-    passes_key(reader, "ask")?;
-    opens(reader)?;
+    reader.passes_key("ask")?;
+    reader.opens()?;
     written_ask(reader)
 }
 
-fn job<'v>(reader: &mut Reader<'v>) -> Option<WrittenJob<'v>>
+fn job<'v>(reader: &mut Tokens<'v>) -> Option<WrittenJob<'v>>
     ensures { IfSome result (λ job. AreMembers 1 (job_members job) reader.old reader.new) }
 {
     let at = number_at(reader, "at")?;
     let name = text_at(reader, "arrive")?;
     let late = number_at(reader, "late")?;
     let ask = ask_at(reader)?;
-    closes(reader)?;
+    reader.closes()?;
     Some(WrittenJob {
         at,
         name,
@@ -213,44 +139,37 @@ fn job<'v>(reader: &mut Reader<'v>) -> Option<WrittenJob<'v>>
     })
 }
 
-fn cancel<'v>(reader: &mut Reader<'v>) -> Option<WrittenCancel<'v>>
+fn cancel<'v>(reader: &mut Tokens<'v>) -> Option<WrittenCancel<'v>>
     ensures { IfSome result (λ cancel. AreMembers 1 (cancel_members cancel) reader.old reader.new) }
 {
     let at = number_at(reader, "at")?;
     let name = text_at(reader, "cancel")?;
-    closes(reader)?;
+    reader.closes()?;
     Some(WrittenCancel { at, name })
 }
 
-fn ends(reader: &mut Reader<'_>) -> Option<()>
-    ensures { IfSome result (λ _. reader.old ≡ []) }
-{
-    match reader.next() {
-        Some(_) => None,
-        None => Some(()),
-    }
-}
-
 // The arrival that a whole text is.
-fn read_job<'v>(text: &'v str, scratch: &'v mut Scratch) -> Option<WrittenJob<'v>>
+fn read_job<'v>(text: &'v str) -> Option<WrittenJob<'v>>
     ensures { IfSome result (λ job. read text.now ≡ Some (object (job_members job))) }
 {
-    let mut reader = Reader::new(text, scratch).ok()?;
-    opens(&mut reader)?;
+    let mut reader = Tokens::new(text);
+    reader.opens()?;
     let job = job(&mut reader)?;
-    ends(&mut reader)?;
-    Some(job)
+    if reader.is_empty() { Some(job) } else { None }
 }
 
 // The cancellation that a whole text is.
-fn read_cancel<'v>(text: &'v str, scratch: &'v mut Scratch) -> Option<WrittenCancel<'v>>
+fn read_cancel<'v>(text: &'v str) -> Option<WrittenCancel<'v>>
     ensures { IfSome result (λ cancel. read text.now ≡ Some (object (cancel_members cancel))) }
 {
-    let mut reader = Reader::new(text, scratch).ok()?;
-    opens(&mut reader)?;
+    let mut reader = Tokens::new(text);
+    reader.opens()?;
     let cancel = cancel(&mut reader)?;
-    ends(&mut reader)?;
-    Some(cancel)
+    if reader.is_empty() {
+        Some(cancel)
+    } else {
+        None
+    }
 }
 
 fn number_within(z: i64, low: u32, high: u32) -> Option<u32>
@@ -330,11 +249,11 @@ fn cancels<'v>(name: &'v str) -> Notice<'v>
     Notice::Cancel(name)
 }
 
-fn arrival<'v>(unit: u64, text: &'v str, scratch: &'v mut Scratch) -> Option<(u64, Notice<'v>)>
+fn arrival<'v>(unit: u64, text: &'v str) -> Option<(u64, Notice<'v>)>
     ensures value { IfSome result (λ e. TextSays unit text.now e.0 (notice e.1)) }
     ensures good { IfSome result (λ e. IsGoodNotice (notice e.1)) }
 {
-    let job = read_job(text, scratch)?;
+    let job = read_job(text)?;
     let at = slot_from(job.at)?;
     let name = name_from(job.name)?;
     let late = late_from(job.late)?;
@@ -343,11 +262,11 @@ fn arrival<'v>(unit: u64, text: &'v str, scratch: &'v mut Scratch) -> Option<(u6
     Some((at, notice))
 }
 
-fn cancellation<'v>(unit: u64, text: &'v str, scratch: &'v mut Scratch) -> Option<(u64, Notice<'v>)>
+fn cancellation<'v>(unit: u64, text: &'v str) -> Option<(u64, Notice<'v>)>
     ensures value { IfSome result (λ e. TextSays unit text.now e.0 (notice e.1)) }
     ensures good { IfSome result (λ e. IsGoodNotice (notice e.1)) }
 {
-    let cancel = read_cancel(text, scratch)?;
+    let cancel = read_cancel(text)?;
     let at = slot_from(cancel.at)?;
     let name = name_from(cancel.name)?;
     let notice = cancels(name);
@@ -356,11 +275,7 @@ fn cancellation<'v>(unit: u64, text: &'v str, scratch: &'v mut Scratch) -> Optio
 
 /// The slot and the notice of a line, where it is an arrival with an ask, or a cancellation, in the order in which an import writes their keys,
 /// and keeps all limits. `None` says nothing of a line: `object_in` and `event_in` read each.
-pub fn written_event<'v>(
-    unit: u64,
-    line: &'v [u8],
-    scratch: &'v mut Scratch,
-) -> Option<(u64, Notice<'v>)>
+pub fn written_event<'v>(unit: u64, line: &'v [u8]) -> Option<(u64, Notice<'v>)>
     ensures value { IfSome result (λ e. event_on unit line.now ≡ Ok (e.0, notice e.1)) }
     ensures good { IfSome result (λ e. IsGoodNotice (notice e.1)) }
 {
@@ -369,8 +284,8 @@ pub fn written_event<'v>(
     };
     // An ask ends where its event does.
     if line.ends_with(b"}}") {
-        arrival(unit, text, scratch)
+        arrival(unit, text)
     } else {
-        cancellation(unit, text, scratch)
+        cancellation(unit, text)
     }
 }

@@ -11,7 +11,6 @@ ghost use Rattle.tetri_trace.specs.Lines.{add_event, add_line, event_line, heade
 use crate::draft::Draft;
 use crate::happen::{happened, next_slot};
 use crate::header::begun;
-use json::Scratch;
 use serde_json::Value;
 use std::alloc::Global;
 use tetri_io::is_blank;
@@ -50,17 +49,12 @@ fn add_event(alloc: Global, draft: &mut Draft, object: &Value) -> Result<(), Sto
 
 // The event that a line is. Lines that an import wrote are read quickly.
 #[tactic(auto, using(crate::proofs::LineLemmas::in_turn))]
-fn add_event_line(
-    alloc: Global,
-    scratch: &mut Scratch,
-    draft: &mut Draft,
-    line: &[u8],
-) -> Result<(), Stop>
+fn add_event_line(alloc: Global, draft: &mut Draft, line: &[u8]) -> Result<(), Stop>
     requires { IsSoundDraft draft.old }
     ensures gives { Gives (λ _. so_far draft.new) result (event_line (so_far draft.old) line.now) }
     ensures sound { OnOk result (IsSoundDraft draft.new) }
 {
-    if let Some((at, notice)) = written_event(draft.header.unit, line, scratch) {
+    if let Some((at, notice)) = written_event(draft.header.unit, line) {
         return add_notice(alloc, draft, at, notice);
     }
     let object = object_in(alloc, line)?;
@@ -81,7 +75,6 @@ fn header_line(alloc: Global, line: &[u8]) -> Result<Draft, Stop>
 #[tactic(auto, unfolding(crate::specs::Lines::add_line))]
 pub(crate) fn add_line(
     alloc: Global,
-    scratch: &mut Scratch,
     draft: &mut Option<Draft>,
     line: &[u8],
     next: u64,
@@ -101,7 +94,7 @@ pub(crate) fn add_line(
         return Ok(());
     }
     match draft {
-        Some(draft) => add_event_line(alloc, scratch, draft, line),
+        Some(draft) => add_event_line(alloc, draft, line),
         None => {
             *draft = Some(header_line(alloc, line)?);
             Ok(())

@@ -12,7 +12,6 @@ ghost use Rattle.tetri_trace.specs.Sound.{IsSound};
 use crate::draft::{Draft, finished};
 use crate::lines::{LINE_MOST, add_line};
 use crate::trace::Trace;
-use json::Scratch;
 use std::alloc::Global;
 use tetri_io::{Line, LineFault, LineReader, Shelf};
 use tetri_notice::{Stop, TraceFault, TraceWhy};
@@ -54,12 +53,11 @@ fn read_lines<S: Shelf>(
     let Ok(mut reader) = LineReader::new(alloc) else {
         return Err(TraceFault::NoMemory);
     };
-    let mut scratch = Scratch::new(alloc);
     let mut line = 1u64;
     'lines: loop {
         match reader.next_line(alloc, shelf, name, LINE_MOST) {
             Ok(Line::Text { bytes, next }) => {
-                if let Err(stop) = add_line(alloc, &mut scratch, draft, &bytes, next) {
+                if let Err(stop) = add_line(alloc, draft, &bytes, next) {
                     return Err(fault_at(line, stop));
                 }
                 line += 1;

@@ -7,4 +7,4 @@ pub returns : goal.returns
 returns c =
     let at : to_z w64 (of_z w64 c.in_ok-at.at) ≡ c.in_ok-at.at = search rules in
     rw at
-    (cancel_puts (record { at = c.in_ok-at.at; name = c.in_ok-name.name }) c.args.reader.now c.number_at.new.reader c.text_at.new.reader c.closes.new.reader c.in_ok-at.ensures c.in_ok-name.ensures c.in_ok-closes.ensures)
+    (cancel_puts (record { at = c.in_ok-at.at; name = c.in_ok-name.name }) c.args.reader.now c.number_at.new.reader c.text_at.new.reader c.closes.new.self c.in_ok-at.ensures c.in_ok-name.ensures c.in_ok-closes.ensures)

@@ -1,10 +1,8 @@
-use Rattle.std.proofs.Common.{◌≡◌, rules}
-use Rattle.json.specs.Lex.{tokens}
+use Rattle.std.proofs.Common.{refl}
 use Rattle.tetri_notice.proofs.WrittenLemmas.{reads_object}
 use Rattle.tetri_notice.specs.Written.{job_members}
 use Rattle.tetri_notice.proofs.written.read_job.Goals as goal
 
-pub returns : goal.returns
-returns c =
-    let all : c.in_ok-reader.reader ≡ tokens c.args.text.now = search rules in
-    reads_object c.args.text.now (job_members c.in_ok-job.job) c.in_ok-reader.reader c.opens.new.reader c.job.new.reader all c.in_ok-opens.ensures c.in_ok-job.ensures c.in_ok-ends.ensures
+pub returns-then-is_empty : goal.returns-then-is_empty
+returns-then-is_empty c =
+    reads_object c.args.text.now (job_members c.in_ok-job.job) c.new-reader.result c.opens.new.self c.job.new.reader c.new-reader.ensures c.in_ok-opens.ensures c.in_ok-job.ensures (c.if-is_empty.ensures refl)

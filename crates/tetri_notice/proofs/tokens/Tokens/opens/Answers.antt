@@ -1,0 +1,6 @@
+use Rattle.std.proofs.Common.{sym, ◌∙◌}
+use Rattle.tetri_notice.proofs.TokenLemmas.{opened}
+use Rattle.tetri_notice.proofs.tokens.Tokens.opens.Goals as goal
+
+pub returns : goal.returns
+returns c = sym c.self.view_is ∙ opened c.self.inside.is_behind_value c.self.inside.rest.now c.in_ok-self-inside.field-0.now c.if-self.false c.in_ok-self-inside.ensures
