@@ -1,16 +1,17 @@
 -- A moment by its day and its time.
-use Rattle.std.proofs.Common.{◌≡◌, ℕ, ◌+◌, ◌*◌, ◌-◌, ◌≤◌, Bool, true, false, List, take, drop, length, Option, Some, None, cond, refl, sym, ap, ◌∙◌, arith}
-use Rattle.std.specs.Prelude.{◌==◌, ◌&&◌}
+use Rattle.std.proofs.Common.{◌≡◌, ℕ, ◌+◌, ◌*◌, ◌-◌, ◌≤◌, Bool, true, false, List, take, drop, length, Option, Some, None, cond, refl, sym, ap, ◌++◌, ap₂, ◌∙◌, arith}
+use Rattle.std.specs.Prelude.{◌==◌, ◌&&◌, nat_lt}
 use Rattle.std.specs.List.{slice_range}
 use Rattle.std.proofs.lemmas.Bool.Decides.{nat_tests}
-use Rattle.std.proofs.lemmas.List.{drop-take}
+use Rattle.std.proofs.lemmas.Bool.{and_parts, le-ltb, ltb-false}
+use Rattle.std.proofs.lemmas.List.{drop-take, take-append-drop, take_rest}
 use Rattle.std.proofs.Math.Seq.{take-take}
 use Rattle.tetri_base.specs.OptionSteps.{◌>>=◌}
 use Rattle.tetri_io.specs.Numbers.{digits_below}
 use Rattle.tetri_logs.specs.Calendar.{is_day, is_time, seconds_of, days_before_year, days_before_month}
 use Rattle.tetri_logs.specs.declared.calendar.Date.{Date}
 use Rattle.tetri_logs.specs.declared.calendar.TheConstants.{BEFORE_1970}
-use Rattle.tetri_logs.specs.Times.{date_in, date_seconds, day_start, has_marks, midnight, on_clock, on_day, part, seconds_in, small}
+use Rattle.tetri_logs.specs.Times.{below_100, date_in, date_seconds, day_start, has_marks, midnight, on_clock, on_day, part, seconds_in, small}
 
 abbrev date_of : ℕ → ℕ → ℕ → ℕ → ℕ → ℕ → Date
 date_of year month day hour minute second = record { year = year; month = month; day = day; hour = hour; minute = minute; second = second }
@@ -77,10 +78,50 @@ by_day xs marks =
     ∙ by_parts (part xs 0 4) (part xs 5 7) (part xs 8 10) (part xs 11 13) (part xs 14 16) (part xs 17 19)
     ∙ sym (ap (λ o. o >>= λ start. on_day start xs) (day_before xs))
 
-and_left : (a b : Bool) → (a && b) ≡ true → a ≡ true
-and_left true b e = refl
-and_left false b e = e
+-- the seconds to a time of a day, where a number is none if it has more than two digits
+abbrev timed : ℕ → Option ℕ → Option ℕ → Option ℕ → Option ℕ
+timed start hour minute second = do h ← hour; mi ← minute; s ← second; on_clock start h mi s
+
+no_minute : (hour second : Bool) (o : Option ℕ) → cond (hour && false && second) o None ≡ None
+no_minute true second o = refl
+no_minute false second o = refl
+
+no_second : (hour minute : Bool) (o : Option ℕ) → cond (hour && minute && false) o None ≡ None
+no_second true true o = refl
+no_second true false o = refl
+no_second false minute o = refl
+
+clock_below : (start hour minute second : ℕ) (h mi s : Bool) → nat_lt hour 100 ≡ h → nat_lt minute 100 ≡ mi → nat_lt second 100 ≡ s
+    → on_clock start hour minute second ≡ timed start (below_100 hour) (below_100 minute) (below_100 second)
+clock_below start hour minute second true true true a b c = rw (a, b, c) refl
+clock_below start hour minute second true true false a b c =
+    let late : nat_lt second 60 ≡ false = le-ltb second 60 (omega (arith, ltb-false second 100 c)) in
+    rw (a, b, c, late) (no_second (nat_lt hour 24) (nat_lt minute 60) _)
+clock_below start hour minute second true false s a b c =
+    let late : nat_lt minute 60 ≡ false = le-ltb minute 60 (omega (arith, ltb-false minute 100 b)) in
+    rw (a, b, late) (no_minute (nat_lt hour 24) (nat_lt second 60) _)
+clock_below start hour minute second false mi s a b c =
+    let late : nat_lt hour 24 ≡ false = le-ltb hour 24 (omega (arith, ltb-false hour 100 a)) in
+    rw (a, late) refl
+
+pub by_clock : (start hour minute second : ℕ) (xs : List ℕ) → below_100 hour ≡ part xs 11 13 → below_100 minute ≡ part xs 14 16 → below_100 second ≡ part xs 17 19
+    → on_clock start hour minute second ≡ on_day start xs
+unfolding on_day
+by_clock start hour minute second xs a b c =
+    clock_below start hour minute second (nat_lt hour 100) (nat_lt minute 100) (nat_lt second 100) refl refl refl
+    ∙ ap (λ o. timed start o (below_100 minute) (below_100 second)) a
+    ∙ ap (λ o. timed start (part xs 11 13) o (below_100 second)) b
+    ∙ ap (timed start (part xs 11 13) (part xs 14 16)) c
+
+-- ten bytes by the first eight and the last two
+whole : (xs : List ℕ) → length xs ≡ 10 → take 8 xs ++ slice_range xs 8 10 ≡ xs
+whole xs ten =
+    let rest : slice_range xs 8 10 ≡ drop 8 xs = ap (λ n. take (n - 8) (drop 8 xs)) (sym ten) ∙ take_rest xs 8 in
+    ap (λ ys. take 8 xs ++ ys) rest ∙ take-append-drop 8 xs
+
+pub same_by_parts : (xs ys : List ℕ) → length xs ≡ 10 → length ys ≡ 10 → take 8 xs ≡ take 8 ys → slice_range xs 8 10 ≡ slice_range ys 8 10 → xs ≡ ys
+same_by_parts xs ys one other front back = sym (whole xs one) ∙ ap₂ (λ a b. a ++ b) front back ∙ whole ys other
 
 -- a moment has 19 bytes
 pub has_length : (xs : List ℕ) → has_marks xs ≡ true → length xs ≡ 19
-has_length xs marks = let front : (length xs == 19) ≡ true = and_left _ _ (and_left _ _ (and_left _ _ (and_left _ _ (and_left _ _ marks)))) in grind (arith, nat_tests)
+has_length xs marks = let front : (length xs == 19) ≡ true = (and_parts _ _ (and_parts _ _ (and_parts _ _ (and_parts _ _ (and_parts _ _ marks).0).0).0).0).0 in grind (arith, nat_tests)

@@ -6,7 +6,7 @@ mod WordLemmas
 mod HeaderLemmas
 mod LineLemmas
 mod GapLemmas
-mod SeparatorLemmas
+mod TableLemmas
 mod TimeLemmas
 mod DayLemmas
 mod ScanLemmas

@@ -2,17 +2,9 @@
 use Rattle.std.proofs.Common.{rules, ◌≡◌, ℕ, Bool, true, false, List, [], ◌∷◌, refl, sym, ap, ◌∙◌}
 use Rattle.std.specs.Prelude.{◌==◌, ◌&&◌, ◌||◌, nat_le, length}
 use Rattle.std.specs.List.{list_all, list_any}
-use Rattle.std.proofs.lemmas.Bool.{eqb-true}
+use Rattle.std.proofs.lemmas.Bool.{and_parts, eqb-true}
 use Rattle.tetri_cluster.specs.Names.{is_name, is_name_byte}
 use Rattle.tetri_logs.specs.Sacct.{id_name}
-
-and_first : (a b : Bool) → (a && b) ≡ true → a ≡ true
-and_first true b e = refl
-and_first false b e = e
-
-and_second : (a b : Bool) → (a && b) ≡ true → b ≡ true
-and_second true b e = e
-and_second false b e = cc
 
 or_none : (a b : Bool) → a ≡ false → b ≡ false → (a || b) ≡ false
 or_none a b first second = ap (λ t. t || b) first ∙ second
@@ -25,9 +17,9 @@ no_plus : (bytes : List ℕ) → list_all is_name_byte bytes ≡ true → list_a
 no_plus [] all = refl
 no_plus (b ∷ bs) all =
     or_none (b == 43) (list_any (λ x. x == 43) bs)
-    (not_both b (b == 43) (and_first (is_name_byte b) (list_all is_name_byte bs) all) refl)
-    (no_plus bs (and_second (is_name_byte b) (list_all is_name_byte bs) all))
+    (not_both b (b == 43) (and_parts (is_name_byte b) (list_all is_name_byte bs) all).0 refl)
+    (no_plus bs (and_parts (is_name_byte b) (list_all is_name_byte bs) all).1)
 
 -- an identifier that is a name has no plus, and is the name that it gives
 pub own_name : (id : List ℕ) → is_name id ≡ true → id_name id ≡ id
-own_name id name = search (rules, no_plus id (and_second (nat_le 1 (length id) && nat_le (length id) 64) (list_all is_name_byte id) name))
+own_name id name = search (rules, no_plus id (and_parts (nat_le 1 (length id) && nat_le (length id) 64) (list_all is_name_byte id) name).1)

@@ -5,11 +5,12 @@ use Rattle.std.specs.Char.{digit_value, is_ascii_digit}
 use Rattle.std.specs.Int.{IsInRange}
 use Rattle.std.specs.List.{slice_range}
 use Rattle.std.specs.Str.Parse.{digits_value}
+use Rattle.std.proofs.lemmas.Bool.{le-ltb}
 use Rattle.std.proofs.lemmas.Bool.Decides.{nat_tests}
 use Rattle.std.proofs.lemmas.Str.{digit_value_digit}
 use Rattle.tetri_io.specs.Numbers.{digits_below}
 use Rattle.tetri_logs.proofs.WordLemmas.{range_more}
-use Rattle.tetri_logs.specs.Times.{part}
+use Rattle.tetri_logs.specs.Times.{below_100, digit_or_100, part}
 
 two_bytes : (xs : List ℕ) (from : ℕ) → from + 2 ≤ length xs → slice_range xs from (from + 2) ≡ get_or xs from 0 ∷ get_or xs (from + 1) 0 ∷ []
 two_bytes xs from inside =
@@ -46,6 +47,27 @@ no_first xs from inside a = ap (digits_below 10000) (two_bytes xs from inside) �
 
 pub no_second : (xs : List ℕ) (from : ℕ) → from + 2 ≤ length xs → is_ascii_digit (get_or xs (from + 1) 0) ≡ false → part xs from (from + 2) ≡ None
 no_second xs from inside b = ap (digits_below 10000) (two_bytes xs from inside) ∙ other_second (get_or xs from 0) (get_or xs (from + 1) 0) (is_ascii_digit (get_or xs from 0)) refl b
+
+-- the same where what is no digit counts as 100
+by_worth : (x y : ℕ) (p q : Bool) → is_ascii_digit x ≡ p → is_ascii_digit y ≡ q → below_100 (digit_or_100 x * 10 + digit_or_100 y) ≡ digits_below 10000 (x ∷ y ∷ [])
+by_worth x y true true a b =
+    let small : (x - 48) * 10 + (y - 48) < 100 = omega (arith, (value_of x a).1, (value_of y b).1) in
+    let known : below_100 (digit_or_100 x * 10 + digit_or_100 y) ≡ Some ((x - 48) * 10 + (y - 48)) = rw (a, b, lt-ltb _ _ small) refl in
+    known ∙ sym (both_digits x y a b)
+by_worth x y false q a b =
+    let large : 100 ≤ 100 * 10 + digit_or_100 y = omega arith in
+    let none : below_100 (digit_or_100 x * 10 + digit_or_100 y) ≡ None = rw (a, le-ltb _ _ large) refl in
+    none ∙ sym (other_first x y a)
+by_worth x y true false a b =
+    let large : 100 ≤ digit_or_100 x * 10 + 100 = omega arith in
+    let none : below_100 (digit_or_100 x * 10 + digit_or_100 y) ≡ None = rw (b, le-ltb _ _ large) refl in
+    none ∙ sym (other_second x y true a b)
+
+pub two_or_more : (xs : List ℕ) (from : ℕ) → from + 2 ≤ length xs → below_100 (digit_or_100 (get_or xs from 0) * 10 + digit_or_100 (get_or xs (from + 1) 0)) ≡ part xs from (from + 2)
+two_or_more xs from inside =
+    let x = get_or xs from 0 in
+    let y = get_or xs (from + 1) 0 in
+    by_worth x y (is_ascii_digit x) (is_ascii_digit y) refl refl ∙ sym (ap (digits_below 10000) (two_bytes xs from inside))
 
 -- what two numbers of two digits are together
 abbrev joined : Option ℕ → Option ℕ → Option ℕ

@@ -1,5 +1,6 @@
 -- The moment that a text is.
-use Rattle.std.specs.Prelude.{◌≡◌, ℕ, ◌+◌, ◌*◌, ◌<◌, ◌==◌, ◌&&◌, ◌^◌, Bool, List, length, slice_index, slice_range, nat_lt, Option, Some, None, if◌then◌else◌}
+use Rattle.std.specs.Prelude.{◌≡◌, ℕ, ◌+◌, ◌-◌, ◌*◌, ◌<◌, ◌==◌, ◌&&◌, ◌^◌, Bool, List, length, slice_index, slice_range, nat_lt, Option, Some, None, if◌then◌else◌}
+use Rattle.std.specs.Char.{is_ascii_digit}
 use Rattle.tetri_base.specs.OptionSteps.{◌>>=◌}
 use Rattle.tetri_io.specs.Numbers.{digits_below}
 use Rattle.tetri_logs.specs.Calendar.{is_date, seconds_of}
@@ -35,6 +36,14 @@ date_seconds d = if is_date d then small (seconds_of d) else None
 
 abbrev pub seconds_in : List ℕ → Option ℕ
 seconds_in text = if has_marks text then date_in text >>= date_seconds else None
+
+-- what a byte is as a digit, or 100
+abbrev pub digit_or_100 : ℕ → ℕ
+digit_or_100 b = if is_ascii_digit b then b - 48 else 100
+
+-- a number, if it has no more than two digits
+abbrev pub below_100 : ℕ → Option ℕ
+below_100 n = if nat_lt n 100 then Some n else None
 
 -- the seconds from 1970 to the beginning of a day, if there is such a day
 abbrev pub midnight : ℕ → ℕ → ℕ → Option ℕ

@@ -75,6 +75,7 @@ fn clock_in(text: &[u8]) -> Option<u64>
 }
 
 // The seconds of so many minutes.
+#[inline(always)]
 fn minutes_in(text: &[u8]) -> Option<u64>
     ensures value { result ≡ minutes_in text.now }
     ensures small { IfSome result (λ n. n < 2 ^ 32) }
@@ -86,6 +87,7 @@ fn minutes_in(text: &[u8]) -> Option<u64>
 }
 
 // Whether there is no limit that is known.
+#[inline(always)]
 fn is_unlimited(text: &[u8]) -> bool
     ensures { result ≡ is_unlimited text.now }
 {

@@ -32,6 +32,7 @@ pub(crate) fn row_of<'a>(row: &mut Vec<&'a [u8]>, line: &'a [u8]) -> Result<(), 
 }
 
 /// What stands in a column, counted from 1.
+#[inline(always)]
 pub(crate) fn cell<'a>(row: &[&'a [u8]], column: usize) -> &'a [u8]
     ensures { result.now ≡ cell (map (λ w. w.now) row.now) column }
 {
@@ -39,6 +40,7 @@ pub(crate) fn cell<'a>(row: &[&'a [u8]], column: usize) -> &'a [u8]
 }
 
 /// What stands in a column, where it is told.
+#[inline(always)]
 pub(crate) fn told_cell<'a>(row: &[&'a [u8]], column: Option<usize>) -> &'a [u8]
     ensures { result.now ≡ told_cell (map (λ w. w.now) row.now) column }
 {
@@ -80,6 +82,7 @@ pub(crate) fn pointed_id(alloc: Global, id: &[u8]) -> Result<Vec<u8>, AllocError
 }
 
 // Whether a moment is not known.
+#[inline(always)]
 fn is_unknown(text: &[u8]) -> bool
     ensures { result ≡ is_unknown text.now }
 {
@@ -165,6 +168,7 @@ fn elapsed(from: Option<u32>, to: Option<u32>) -> Result<Option<u32>, Cause>
 }
 
 // A reason may stand behind the state.
+#[inline(always)]
 fn is_cancelled(state: &[u8]) -> bool
     ensures { result ≡ is_cancelled state.now }
 {

@@ -1,10 +1,29 @@
 // The moment that a text is.
-ghost use Rattle.std.specs.Prelude.{◌≡◌, ◌+◌, ◌^◌, ◌≤◌, ◌<◌, length, IfSome};
-ghost use Rattle.tetri_logs.specs.Times.{IsDay, day_start, has_marks, midnight, on_clock, on_day, part, seconds_in, small};
+ghost use Rattle.std.specs.Prelude.{◌≡◌, ◌↔◌, ◌+◌, ◌^◌, ◌≤◌, ◌<◌, length, take, IfSome, IsTrue};
+ghost use Rattle.std.specs.Int.{from_le_bytes, to_le_bytes, w16, w64};
+ghost use Rattle.std.specs.List.{slice_range};
+ghost use Rattle.tetri_logs.specs.Times.{IsDay, below_100, day_start, digit_or_100, has_marks, midnight, on_clock, on_day, part, seconds_in, small};
 
 use crate::calendar::{Date, is_date, seconds_of};
-use crate::words::is_same;
 use tetri_io::digits_below;
+
+// Of each byte what it is as a digit, or 100.
+static DIGITS: [u8; 256] = [
+    100, 100, 100, 100, 100, 100, 100, 100, 100, 100, 100, 100, 100, 100, 100, 100, 100, 100, 100,
+    100, 100, 100, 100, 100, 100, 100, 100, 100, 100, 100, 100, 100, 100, 100, 100, 100, 100, 100,
+    100, 100, 100, 100, 100, 100, 100, 100, 100, 100, 0, 1, 2, 3, 4, 5, 6, 7, 8, 9, 100, 100, 100,
+    100, 100, 100, 100, 100, 100, 100, 100, 100, 100, 100, 100, 100, 100, 100, 100, 100, 100, 100,
+    100, 100, 100, 100, 100, 100, 100, 100, 100, 100, 100, 100, 100, 100, 100, 100, 100, 100, 100,
+    100, 100, 100, 100, 100, 100, 100, 100, 100, 100, 100, 100, 100, 100, 100, 100, 100, 100, 100,
+    100, 100, 100, 100, 100, 100, 100, 100, 100, 100, 100, 100, 100, 100, 100, 100, 100, 100, 100,
+    100, 100, 100, 100, 100, 100, 100, 100, 100, 100, 100, 100, 100, 100, 100, 100, 100, 100, 100,
+    100, 100, 100, 100, 100, 100, 100, 100, 100, 100, 100, 100, 100, 100, 100, 100, 100, 100, 100,
+    100, 100, 100, 100, 100, 100, 100, 100, 100, 100, 100, 100, 100, 100, 100, 100, 100, 100, 100,
+    100, 100, 100, 100, 100, 100, 100, 100, 100, 100, 100, 100, 100, 100, 100, 100, 100, 100, 100,
+    100, 100, 100, 100, 100, 100, 100, 100, 100, 100, 100, 100, 100, 100, 100, 100, 100, 100, 100,
+    100, 100, 100, 100, 100, 100, 100, 100, 100, 100, 100, 100, 100, 100, 100, 100, 100, 100, 100,
+    100, 100, 100, 100, 100,
+];
 
 /// The number that the digits of a part of a text are.
 pub(crate) fn part(text: &[u8], from: usize, to: usize) -> Option<u64>
@@ -16,6 +35,7 @@ pub(crate) fn part(text: &[u8], from: usize, to: usize) -> Option<u64>
 }
 
 // Whether the marks of `2024-05-01T12:34:56` stand where they belong.
+#[inline(always)]
 fn has_marks(text: &[u8]) -> bool
     ensures { result ≡ has_marks text.now }
 {
@@ -28,6 +48,7 @@ fn has_marks(text: &[u8]) -> bool
 }
 
 // The number that two digits are.
+#[inline(always)]
 #[tactic(auto, using(crate::proofs::TimeLemmas::is_pair, crate::proofs::TimeLemmas::no_first, crate::proofs::TimeLemmas::no_second))]
 fn pair(text: &[u8], from: usize) -> Option<u64>
     requires { from + 2 ≤ length text.now }
@@ -53,6 +74,7 @@ fn year_in(text: &[u8]) -> Option<u64>
 }
 
 // Seconds, if there are less than 2^32.
+#[inline(always)]
 fn small(seconds: u64) -> Option<u32>
     ensures { result ≡ small seconds }
 {
@@ -98,6 +120,7 @@ fn day_start(text: &[u8]) -> Option<u64>
 }
 
 // The seconds from 1970 to a time of the day that begins after so many, if there is such a time and there are less than 2^32.
+#[inline(always)]
 fn on_clock(start: u64, hour: u64, minute: u64, second: u64) -> Option<u32>
     requires { start < 2 ^ 40 }
     ensures { result ≡ on_clock start hour minute second }
@@ -109,17 +132,72 @@ fn on_clock(start: u64, hour: u64, minute: u64, second: u64) -> Option<u32>
     }
 }
 
+// What a byte is as a digit, or 100 where it is none.
+#[inline(always)]
+fn digit_or_100(byte: u8) -> u8
+    ensures { result ≡ digit_or_100 byte }
+{
+    DIGITS[byte as usize]
+}
+
+// The number that two digits are, or one from 100 on where a byte is no digit.
+#[inline(always)]
+#[tactic(auto, using(crate::proofs::TimeLemmas::two_or_more))]
+fn two_digits(text: &[u8], from: usize) -> u64
+    requires { from + 2 ≤ length text.now }
+    ensures { below_100 result ≡ part text.now from (from + 2) }
+{
+    let tens = u64::from(digit_or_100(text[from]));
+    let ones = u64::from(digit_or_100(text[from + 1]));
+    tens * 10 + ones
+}
+
 // The same of the time in a text that is a moment.
-#[tactic(auto, unfolding(crate::specs::Times::on_day))]
+#[inline(always)]
+#[tactic(auto, using(crate::proofs::DayLemmas::by_clock))]
 fn on_day(start: u64, text: &[u8]) -> Option<u32>
     requires early { start < 2 ^ 40 }
     requires length { length text.now ≡ 19 }
     ensures { result ≡ on_day start text.now }
 {
-    let hour = pair(text, 11)?;
-    let minute = pair(text, 14)?;
-    let second = pair(text, 17)?;
+    let hour = two_digits(text, 11);
+    let minute = two_digits(text, 14);
+    let second = two_digits(text, 17);
     on_clock(start, hour, minute, second)
+}
+
+// The first eight bytes of a text as one number.
+#[inline(always)]
+fn front(text: &[u8]) -> u64
+    requires { 8 ≤ length text.now }
+    ensures value { result ≡ from_le_bytes w64 (take 8 text.now) }
+    ensures bytes { to_le_bytes w64 result ≡ take 8 text.now }
+{
+    u64::from_le_bytes([
+        text[0], text[1], text[2], text[3], text[4], text[5], text[6], text[7],
+    ])
+}
+
+// The two bytes behind them as one number.
+#[inline(always)]
+fn back(text: &[u8]) -> u16
+    requires { 10 ≤ length text.now }
+    ensures value { result ≡ from_le_bytes w16 (slice_range text.now 8 10) }
+    ensures bytes { to_le_bytes w16 result ≡ slice_range text.now 8 10 }
+{
+    u16::from_le_bytes([text[8], text[9]])
+}
+
+// Whether a text is the same as a day.
+#[inline(always)]
+fn is_same_day(day: &[u8], text: &[u8]) -> bool
+    requires { length day.now ≡ 10 }
+    ensures { IsTrue result ↔ (day.now ≡ text.now) }
+{
+    if text.len() != 10 {
+        return false;
+    }
+    front(day) == front(text) && back(day) == back(text)
 }
 
 /// The day of the moment that was read last.
@@ -152,7 +230,7 @@ pub(crate) fn seconds_by<'a>(last: &mut Day<'a>, text: &'a [u8]) -> Option<u32>
         return None;
     }
     let day = &text[..10];
-    if !is_same(day, last.text) {
+    if !is_same_day(day, last.text) {
         let start = day_start(day)?;
         *last = Day { text: day, start };
     }

@@ -82,6 +82,7 @@ pub(crate) fn parts_of<'a>(
 }
 
 /// A word by its place, or nothing.
+#[inline(always)]
 pub(crate) fn word_at<'a>(words: &[&'a [u8]], place: usize) -> &'a [u8]
     ensures { result.now ≡ word_at (map (λ w. w.now) words.now) place }
 {
@@ -107,6 +108,7 @@ pub(crate) fn has_byte(word: &[u8], byte: u8) -> bool
 }
 
 /// Whether a word is this text.
+#[inline(always)]
 pub(crate) fn is_text(word: &[u8], text: &str) -> bool
     ensures { result ≡ bytes_eq word.now text.now }
 {
