@@ -1,7 +1,7 @@
 // What a line of a log is.
-ghost use Rattle.std.specs.Prelude.{◌≡◌, ◌∷◌, [], IfOk, OnOk, map, true, unwrap_or};
+ghost use Rattle.std.specs.Prelude.{◌≡◌, IfOk, Ok, OnOk, map, true};
 ghost use Rattle.tetri_cluster.specs.Names.{is_name};
-ghost use Rattle.tetri_logs.specs.Entry.{entries_in, header_at, header_entry, ids_if, layout_at, line_entries, row_entries, row_entry, swf_entry, table_entries, with_name};
+ghost use Rattle.tetri_logs.specs.Entry.{entries_in, header_at, header_entry, layout_at, line_entries, row_entries, row_entry, swf_entry, table_entries, with_name};
 ghost use Rattle.tetri_logs.specs.Sacct.{id_name, told_cell};
 ghost use Rattle.tetri_logs.specs.SetText.{seated};
 
@@ -14,7 +14,7 @@ use crate::sacct::{cell, pointed_id, row_of, sacct_account, told_cell, without_r
 use crate::seats::Seats;
 use crate::set_text::SetText;
 use crate::swf::{is_comment, swf_account, swf_partition};
-use crate::tasks::{Ids, task_ids};
+use crate::tasks::task_ids;
 use crate::words::{has_byte, word_at, words_of};
 use std::alloc::{AllocError, Global};
 use tetri_base::Items;
@@ -90,19 +90,16 @@ pub enum Entries<'a> {
 
 // A job with a name.
 #[inline(always)]
-fn named<'a>(line: usize, name: JobName<'a>, account: Result<Account, Cause>) -> Entry<'a>
+fn named<'a>(line: usize, name: JobName<'a>, account: Account) -> Entry<'a>
     requires { is_name name ≡ true }
-    ensures { result ≡ with_name line name.entry account }
+    ensures { result ≡ with_name line name.entry (Ok account) }
 {
-    match account {
-        Ok(account) => Entry::Job(LoggedJob {
-            line,
-            name,
-            account,
-            set: SetText::new(),
-        }),
-        Err(cause) => Entry::Left(Reject { line, cause }),
-    }
+    Entry::Job(LoggedJob {
+        line,
+        name,
+        account,
+        set: SetText::new(),
+    })
 }
 
 // A job with this name of the log, if it is one.
@@ -115,7 +112,7 @@ fn with_name<'a>(line: usize, name: &'a [u8], account: Result<Account, Cause>) -
         Err(cause) => return Entry::Left(Reject { line, cause }),
     };
     match JobName::lent(name) {
-        Some(name) => named(line, name, Ok(account)),
+        Some(name) => named(line, name, account),
         None => Entry::Left(Reject {
             line,
             cause: Cause::Beyond,
@@ -128,14 +125,10 @@ fn with_made_name<'a>(
     alloc: Global,
     line: usize,
     name: &[u8],
-    account: Result<Account, Cause>,
+    account: Account,
 ) -> Result<Entry<'a>, AllocError>
-    ensures { IfOk result (λ e. e ≡ with_name line name.now account) }
+    ensures { IfOk result (λ e. e ≡ with_name line name.now (Ok account)) }
 {
-    let account = match account {
-        Ok(account) => account,
-        Err(cause) => return Ok(Entry::Left(Reject { line, cause })),
-    };
     match Name::read(alloc, name) {
         Ok(name) => Ok(Entry::Job(LoggedJob {
             line,
@@ -190,32 +183,15 @@ fn with_made_id<'a>(
     alloc: Global,
     line: usize,
     id: &[u8],
-    account: Result<Account, Cause>,
+    account: Account,
 ) -> Result<Entry<'a>, AllocError>
-    ensures { IfOk result (λ e. e ≡ with_name line (id_name id.now) account) }
+    ensures { IfOk result (λ e. e ≡ with_name line (id_name id.now) (Ok account)) }
 {
     if has_byte(id, b'+') {
         let name = pointed_id(alloc, id)?;
         with_made_name(alloc, line, &name, account)
     } else {
         with_made_name(alloc, line, id, account)
-    }
-}
-
-// A job by its identifier in the log, which is a name itself where no plus is in it.
-#[inline(always)]
-#[tactic(auto, using(crate::proofs::NameLemmas::own_name))]
-fn with_id<'a>(
-    alloc: Global,
-    line: usize,
-    id: &'a [u8],
-    account: Result<Account, Cause>,
-) -> Result<Entry<'a>, AllocError>
-    ensures { IfOk result (λ e. e ≡ with_name line (id_name id.now) account) }
-{
-    match JobName::lent(id) {
-        Some(name) => Ok(named(line, name, account)),
-        None => with_made_id(alloc, line, id, account),
     }
 }
 
@@ -236,22 +212,28 @@ fn seated_row<'a>(
     seats.seated(alloc, found, partitions, constraints)
 }
 
-// The job of a line by its identifier.
+// The job of a line by its identifier in the log, which is a name itself where no plus is in it.
 #[inline(always)]
+#[tactic(auto, using(crate::proofs::NameLemmas::own_name))]
 fn row_entry<'a>(
     alloc: Global,
     seats: &mut Seats<'a>,
     header: &Header,
     line: usize,
     row: &[&'a [u8]],
-    account: Result<Account, Cause>,
+    account: Account,
     id: &'a [u8],
 ) -> Result<Entry<'a>, AllocError>
-    ensures entry { IfOk result (λ e. e ≡ row_entry seats.old header.now line (map (λ w. w.now) row.now) account id.now) }
+    ensures entry { IfOk result (λ e. e ≡ row_entry seats.old header.now line (map (λ w. w.now) row.now) (Ok account) id.now) }
     ensures same { seats.new ≡ seats.old }
 {
-    let entry = with_id(alloc, line, id, account)?;
-    seated_row(alloc, seats, header, row, entry)
+    match JobName::lent(id) {
+        Some(name) => seated_row(alloc, seats, header, row, named(line, name, account)),
+        None => {
+            let entry = with_made_id(alloc, line, id, account)?;
+            seated_row(alloc, seats, header, row, entry)
+        }
+    }
 }
 
 // The jobs of a line by their identifiers.
@@ -261,10 +243,10 @@ fn entries_by<'a>(
     header: &Header,
     line: usize,
     row: &[&'a [u8]],
-    account: Result<Account, Cause>,
+    account: Account,
     ids: &[Items<u8>],
 ) -> Result<Vec<Entry<'a>>, AllocError>
-    ensures entries { IfOk result (λ es. es.items ≡ map (row_entry seats.old header.now line (map (λ w. w.now) row.now) account) ids.now) }
+    ensures entries { IfOk result (λ es. es.items ≡ map (row_entry seats.old header.now line (map (λ w. w.now) row.now) (Ok account)) ids.now) }
     ensures same { seats.new ≡ seats.old }
 {
     let mut entries = Vec::new(alloc);
@@ -274,21 +256,6 @@ fn entries_by<'a>(
         entries.push(entry)?;
     }
     Ok(entries)
-}
-
-// The tasks that an identifier stands for, where a line says a job and they are some.
-#[inline(always)]
-fn tasks_if(
-    alloc: Global,
-    account: Result<Account, Cause>,
-    id: &[u8],
-) -> Result<Option<Ids>, AllocError>
-    ensures { IfOk result (λ ids. unwrap_or ids (id.now ∷ []) ≡ ids_if account id.now) }
-{
-    match account {
-        Ok(_) => task_ids(alloc, id),
-        Err(_) => Ok(None),
-    }
 }
 
 // The jobs of a line.
@@ -303,9 +270,12 @@ fn row_entries<'a>(
     ensures entries { IfOk result (λ es. entries_in es ≡ row_entries seats.old header.now line (map (λ w. w.now) row.now)) }
     ensures same { seats.new ≡ seats.old }
 {
-    let account = sacct_account(&mut seats.last, header, row);
+    let account = match sacct_account(&mut seats.last, header, row) {
+        Ok(account) => account,
+        Err(cause) => return Ok(Entries::One(Entry::Left(Reject { line, cause }))),
+    };
     let id = cell(row, header.id);
-    match tasks_if(alloc, account, id)? {
+    match task_ids(alloc, id)? {
         None => {
             let entry = row_entry(alloc, seats, header, line, row, account, id)?;
             Ok(Entries::One(entry))
