@@ -1,16 +1,18 @@
 -- A moment by its day and its time.
 use Rattle.std.proofs.Common.{◌≡◌, ℕ, ◌+◌, ◌*◌, ◌-◌, ◌≤◌, Bool, true, false, List, take, drop, length, Option, Some, None, cond, refl, sym, ap, ◌++◌, ap₂, ◌∙◌, arith}
-use Rattle.std.specs.Prelude.{◌==◌, ◌&&◌, nat_lt}
+use Rattle.std.specs.Prelude.{◌==◌, ◌&&◌, bytes_eq, codes, nat_lt}
 use Rattle.std.specs.List.{slice_range}
 use Rattle.std.proofs.lemmas.Bool.Decides.{nat_tests}
 use Rattle.std.proofs.lemmas.Bool.{and_parts, le-ltb, ltb-false}
 use Rattle.std.proofs.lemmas.List.{drop-take, take-append-drop, take_rest}
 use Rattle.std.proofs.Math.Seq.{take-take}
+use Rattle.std.proofs.lemmas.Slice.Eq.{bytes_eq-Decides}
 use Rattle.tetri_base.specs.OptionSteps.{◌>>=◌}
 use Rattle.tetri_io.specs.Numbers.{digits_below}
 use Rattle.tetri_logs.specs.Calendar.{is_day, is_time, seconds_of, days_before_year, days_before_month}
 use Rattle.tetri_logs.specs.declared.calendar.Date.{Date}
 use Rattle.tetri_logs.specs.declared.calendar.TheConstants.{BEFORE_1970}
+use Rattle.tetri_logs.specs.Sacct.{is_unknown}
 use Rattle.tetri_logs.specs.Times.{below_100, date_in, date_seconds, day_start, has_marks, midnight, on_clock, on_day, part, seconds_in, small}
 
 abbrev date_of : ℕ → ℕ → ℕ → ℕ → ℕ → ℕ → Date
@@ -125,3 +127,21 @@ same_by_parts xs ys one other front back = sym (whole xs one) ∙ ap₂ (λ a b.
 -- a moment has 19 bytes
 pub has_length : (xs : List ℕ) → has_marks xs ≡ true → length xs ≡ 19
 has_length xs marks = let front : (length xs == 19) ≡ true = (and_parts _ _ (and_parts _ _ (and_parts _ _ (and_parts _ _ (and_parts _ _ marks).0).0).0).0).0 in grind (arith, nat_tests)
+
+-- what stands for no moment is none
+other_text : (xs ys : List ℕ) (b : Bool) → bytes_eq xs ys ≡ b → (length xs ≡ length ys → ⊥) → bytes_eq xs ys ≡ false
+other_text xs ys true e apart = absurd (apart (ap length ((bytes_eq-Decides xs ys).0 e)))
+other_text xs ys false e apart = e
+
+known : (xs : List ℕ) → length xs ≡ 19 → is_unknown xs ≡ false
+known xs long =
+    let unknown = other_text xs (codes "Unknown") (bytes_eq xs (codes "Unknown")) refl (λ same. let seven : length xs ≡ 7 = same in omega arith) in
+    let none = other_text xs (codes "None") (bytes_eq xs (codes "None")) refl (λ same. let four : length xs ≡ 4 = same in omega arith) in
+    rw (unknown, none, long) refl
+
+by_marks : (xs : List ℕ) (n : ℕ) (marks : Bool) → has_marks xs ≡ marks → seconds_in xs ≡ Some n → is_unknown xs ≡ false
+by_marks xs n true marks is = known xs (has_length xs marks)
+by_marks xs n false marks is = let none : ◌≡◌ {A = Option ℕ} None (Some n) = sym (ap (λ b. cond b (date_in xs >>= date_seconds) None) marks) ∙ is in cc
+
+pub known_moment : (xs : List ℕ) (n : ℕ) → seconds_in xs ≡ Some n → is_unknown xs ≡ false
+known_moment xs n is = by_marks xs n (has_marks xs) refl is

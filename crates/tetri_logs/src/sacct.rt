@@ -102,18 +102,19 @@ fn needed_moment<'a>(last: &mut Day<'a>, column: usize, text: &'a [u8]) -> Resul
     }
 }
 
-// A moment in a column, where it is known.
+// A moment in a column, where it is known. What stands for none is no moment, so that it is looked at last.
 #[inline(always)]
+#[tactic(auto, using(crate::proofs::DayLemmas::known_moment))]
 fn moment_in<'a>(last: &mut Day<'a>, column: usize, text: &'a [u8]) -> Result<Option<u32>, Cause>
     requires { IsDay last.old }
     ensures value { result ≡ moment_in column text.now }
     ensures last { IsDay last.new }
 {
-    if is_unknown(text) {
-        return Ok(None);
+    match seconds_by(last, text) {
+        Some(seconds) => Ok(Some(seconds)),
+        None if is_unknown(text) => Ok(None),
+        None => Err(Cause::Unreadable(column)),
     }
-    let moment = needed_moment(last, column, text)?;
-    Ok(Some(moment))
 }
 
 // A number, which may be printed as `4K` for 4096.
