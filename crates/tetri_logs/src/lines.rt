@@ -2,7 +2,7 @@
 ghost use Rattle.std.specs.Prelude.{◌≡◌, ◌<◌, ◌∷◌, [], IfOk, IfSome, MatchOption, length, map};
 ghost use Rattle.tetri_logs.specs.Lines.{ends_empty, log_lines};
 
-use memchr::memchr;
+use crate::scan::next_far;
 use std::alloc::{AllocError, Global};
 use tetri_io::parts_at;
 
@@ -25,9 +25,11 @@ pub fn next_line(log: &[u8]) -> Option<(&[u8], &[u8])>
     if log.is_empty() {
         return None;
     }
-    match memchr(b'\n', log) {
-        Some(end) => Some((&log[..end], &log[end + 1..])),
-        None => Some((log, b"")),
+    let end = next_far(log, 0, b'\n');
+    if end < log.len() {
+        Some((&log[..end], &log[end + 1..]))
+    } else {
+        Some((log, b""))
     }
 }
 

@@ -1,4 +1,4 @@
-// Where a byte comes next, found by vectors of 16 bytes, and of 8 at the end.
+// Where a byte comes next, found by vectors of 64 bytes or of 16, and of 8 at the end.
 ghost use Rattle.std.specs.Prelude.{◌≡◌, ◌+◌, ◌≤◌, ◌==◌, drop, length, map};
 ghost use Rattle.std.specs.List.{position_or_len};
 ghost use Rattle.std.specs.Simd.Lanes.{mask_l};
@@ -11,6 +11,14 @@ fn marks(bytes: u8x16, byte: u8) -> u64
     ensures { result ≡ mask_l (map (λ b. b == byte) bytes) }
 {
     bytes.simd_eq(u8x16::splat(byte)).to_bitmask()
+}
+
+// The same of 64 bytes.
+#[inline(always)]
+fn marks_of_64(bytes: u8x64, byte: u8) -> u64
+    ensures { result ≡ mask_l (map (λ b. b == byte) bytes) }
+{
+    bytes.simd_eq(u8x64::splat(byte)).to_bitmask()
 }
 
 // The same of 8 bytes.
@@ -65,4 +73,21 @@ pub(crate) fn next_place(text: &[u8], from: usize, byte: u8) -> usize
         i += 16;
     }
     next_shortly(text, i, byte)
+}
+
+/// The same where the byte is some way off: 64 bytes at once, as long as there are as many.
+#[inline(always)]
+pub(crate) fn next_far(text: &[u8], from: usize, byte: u8) -> usize
+    requires { from ≤ length text.now }
+    ensures { result ≡ from + position_or_len (λ b. b == byte) (drop from text.now) }
+{
+    let mut i = from;
+    while text.len() - i >= 64 {
+        let found = marks_of_64(u8x64::from_slice(&text[i..]), byte);
+        if found != 0 {
+            return i + found.trailing_zeros() as usize;
+        }
+        i += 64;
+    }
+    next_place(text, i, byte)
 }
