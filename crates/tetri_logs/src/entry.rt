@@ -207,6 +207,9 @@ fn seated_row<'a>(
     ensures entry { IfOk result (λ e. e ≡ seated seats.old found.entry (told_cell (map (λ w. w.now) row.now) header.now.partitions) (told_cell (map (λ w. w.now) row.now) header.now.constraints)) }
     ensures same { seats.new ≡ seats.old }
 {
+    if !seats.are_mixed() {
+        return Ok(found);
+    }
     let partitions = told_cell(row, header.partitions);
     let constraints = told_cell(row, header.constraints);
     seats.seated(alloc, found, partitions, constraints)

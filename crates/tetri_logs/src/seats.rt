@@ -106,6 +106,13 @@ impl<'a> Seats<'a> {
         Ok(seat)
     }
 
+    /// Whether nodes differ.
+    pub(crate) fn are_mixed(&self) -> bool
+        ensures { result ≡ self.now }
+    {
+        self.mixed
+    }
+
     /// An entry with the set of its job, where nodes differ. Its only error is want of memory.
     #[inline(always)]
     pub(crate) fn seated(
