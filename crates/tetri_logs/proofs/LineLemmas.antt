@@ -1,8 +1,8 @@
 -- The first line of a log.
-use Rattle.std.proofs.Common.{◌≡◌, ◌+◌, ◌-◌, ◌<◌, ◌≤◌, ◌∙◌, ℕ, suc, List, Bool, true, false, [], ◌∷◌, ◌++◌, length, take, drop, get_or, cond, refl, ap, sym, arith, tests}
-use Rattle.std.specs.Prelude.{All, Some, None, ◌==◌}
+use Rattle.std.proofs.Common.{◌≡◌, ◌+◌, ◌-◌, ◌<◌, ◌≤◌, ◌∙◌, ℕ, suc, List, Bool, true, false, [], ◌∷◌, length, take, drop, get_or, cond, refl, ap, sym, arith, tests}
+use Rattle.std.specs.Prelude.{◌==◌}
 use Rattle.std.specs.List.{position_or_len, slice_split}
-use Rattle.std.proofs.lemmas.List.{drop_more, get_or-take, get_or_default, length-take-le, take-append-drop, take_rest}
+use Rattle.std.proofs.lemmas.List.{take_rest}
 use Rattle.std.proofs.lemmas.List.Sums.{fails_before_first}
 use Rattle.std.proofs.lemmas.List.Splits.{length-slice_split, slice_split_first, slice_split_none}
 use Rattle.tetri_logs.specs.Lines.{log_lines}
