@@ -1,26 +1,31 @@
 -- What follows of a trace that is read as what was taken.
-use Rattle.std.proofs.Common.{◌≡◌, ◌+◌, ◌∙◌, ◌++◌, ℕ, Bool, true, false, cond, List, length, map, ap, refl, sym, subst, arith, length-append}
+use Rattle.std.proofs.Common.{◌≡◌, ◌+◌, ◌∙◌, ◌++◌, ℕ, Bool, true, false, cond, List, [], length, map, ap, refl, sym, subst, arith, length-append}
 use Rattle.std.specs.Prelude.{string_bytes, None}
-use Rattle.std.proofs.lemmas.List.{length-map}
+use Rattle.std.proofs.lemmas.List.{append-nil, length-map}
 use Rattle.std.proofs.lemmas.List.Sorted.{length_permutation}
 use Rattle.tetri_base.specs.Lists.{count}
 use Rattle.tetri_cluster.specs.declared.cluster.NodeText.{NodeText}
 use Rattle.tetri_logs.specs.declared.entry.Entry.{Entry}
 use Rattle.tetri_logs.specs.declared.entry.LoggedJob.{LoggedJob}
 use Rattle.tetri_logs.specs.Origin.{begun, gap_of}
-use Rattle.tetri_logs.specs.Reading.{is_comment, jobs_in, left_in}
+use Rattle.tetri_logs.specs.Reading.{entries, facts_in, is_comment, jobs_in, left_in, no_facts}
+use Rattle.tetri_logs.specs.declared.entry.Format.{Format}
+use Rattle.tetri_logs.specs.declared.reading.Log.{Log}
+use Rattle.tetri_workload.specs.First.{IsFirstOf}
+use Rattle.tetri_logs.specs.declared.entry.Reject.{Reject}
 use Rattle.tetri_logs.specs.declared.options.Options.{Options}
 use Rattle.tetri_logs.specs.declared.options.Settings.{Settings}
 use Rattle.tetri_trace.specs.Scenario.{submission}
 use Rattle.tetri_trace.specs.declared.trace.Event.{Event}
 use Rattle.tetri_workload.specs.Import.{IsDraft, IsImportOf}
 use Rattle.tetri_workload.specs.Kinds.{are_mixed, settled, settled_all}
-use Rattle.tetri_workload.specs.Ordering.{IsOrderBy}
+use Rattle.tetri_workload.specs.Ordering.{IsMoveBy, IsOrderBy}
 use Rattle.tetri_workload.specs.Saying.{AreSeated, IsReadAs, header_of}
-use Rattle.tetri_workload.specs.Taking.{Tally, so_far, taken_all}
+use Rattle.tetri_workload.specs.Taking.{Tally, so_far, taken_all, with_left}
 use Rattle.tetri_workload.specs.Text.{text_of}
 use Rattle.tetri_workload.specs.declared.importing.Imported.{Imported}
 use Rattle.tetri_workload.specs.declared.taking.Taken.{Taken}
+use Rattle.tetri_workload.proofs.OrderLemmas.{IsMoveBy-append, IsOrderBy-moved}
 use Rattle.tetri_workload.proofs.TakingLemmas.{all_taken_or_left}
 
 -- as many jobs as before
@@ -35,7 +40,8 @@ pub imported : (es : List Entry) (nodes : List NodeText) (o : Options) (i : Impo
     → IsDraft es nodes o draft order
     → s ≡ begun draft order
     → gap_of o s order ≡ None
-    → so_far t ≡ taken_all s order
+    → so_far t ≡ with_left (taken_all s order) t.left.items
+    → IsMoveBy (λ r. r.line) (taken_all s order).left t.left.items
     → IsOrderBy (λ e. e.at) t.events.items events
     → (read : IsReadAs s nodes (record (so_far t) { events = events }) (string_bytes i.trace))
     → IsOrderBy (λ r. r.line) (left_in es ++ t.left.items) i.left.items
@@ -45,10 +51,13 @@ pub imported : (es : List Entry) (nodes : List NodeText) (o : Options) (i : Impo
     → i.mixed ≡ are_mixed nodes
     → length (jobs_in es) + length (left_in es) + i.comments ≡ length es
     → IsImportOf es nodes o i draft order read.0
-imported es nodes o i draft s order t events drafted is gap tally in_order read left jobs rounded comments mixed whole =
-    let tallied : so_far t ≡ taken_all (begun draft order) order = tally ∙ ap (λ b. taken_all b order) is in
-    let lefts : IsOrderBy (λ r. r.line) (left_in es ++ (taken_all (begun draft order) order).left) i.left.items =
-    subst (λ rs. IsOrderBy (λ r. r.line) (left_in es ++ rs) i.left.items) (ap (λ u. u.left) tallied) left in
+imported es nodes o i draft s order t events drafted is gap tally moves in_order read left jobs rounded comments mixed whole =
+    let b = begun draft order in
+    let tallied : so_far t ≡ with_left (taken_all b order) t.left.items = tally ∙ ap (λ r. with_left (taken_all r order) t.left.items) is in
+    let same : IsMoveBy (λ r. r.line) (left_in es ++ (taken_all b order).left) (left_in es ++ t.left.items) =
+    IsMoveBy-append (λ r. r.line) (left_in es) (taken_all b order).left t.left.items (subst (λ r. IsMoveBy (λ x. x.line) (taken_all r order).left t.left.items) is moves) in
+    let lefts : IsOrderBy (λ r. r.line) (left_in es ++ (taken_all b order).left) i.left.items =
+    IsOrderBy-moved (λ r. r.line) (left_in es ++ (taken_all b order).left) (left_in es ++ t.left.items) i.left.items same left in
     let taken : i.jobs ≡ length (taken_all (begun draft order) order).jobs = jobs ∙ sym (length-map t.jobs submission) ∙ ap (λ u. length u.jobs) tallied in
     let moved = length_permutation (left_in es ++ (taken_all (begun draft order) order).left) i.left.items lefts.moved in
     let number = length-append (left_in es) (taken_all (begun draft order) order).left in
@@ -74,7 +83,35 @@ imported es nodes o i draft s order t events drafted is gap tally in_order read 
       };
     }
 
--- what is read as what was taken is so by any names of the same settings, the same tally and the same text
-pub same_reading : (s r : Settings) (nodes : List NodeText) (t u : Tally) (text : List ℕ) → s ≡ r → t ≡ u → text ≡ text_of s nodes t → IsReadAs r nodes u (text_of r nodes u) → IsReadAs s nodes t text
+-- what is read as what was taken is so whatever is left out
+with_others : (s : Settings) (nodes : List NodeText) (t : Tally) (left : List Reject) (text : List ℕ) → IsReadAs s nodes t text → IsReadAs s nodes (with_left t left) text
+with_others s nodes t left text read = (
+  read.0,
+  read.1,
+  record {
+    most = record { header = read.2.most.header; count = read.2.most.count; jobs = read.2.most.jobs; events = read.2.most.events };
+    seated = read.2.seated;
+  },
+)
+
+-- and by any names of the same settings, the same tally and the same text
+pub same_reading : (s r : Settings) (nodes : List NodeText) (t u : Tally) (text : List ℕ) → s ≡ r → t ≡ with_left u t.left → text ≡ text_of s nodes t → IsReadAs r nodes u (text_of r nodes u) → IsReadAs s nodes t text
 same_reading s r nodes t u text p q e read =
-    subst (λ x. IsReadAs s nodes t x) (sym e) (subst (λ b. IsReadAs b nodes t (text_of b nodes t)) (sym p) (subst (λ v. IsReadAs r nodes v (text_of r nodes v)) (sym q) read))
+    subst (λ x. IsReadAs s nodes t x) (sym e)
+    (subst (λ b. IsReadAs b nodes t (text_of b nodes t)) (sym p)
+    (subst (λ v. IsReadAs r nodes v (text_of r nodes v)) (sym q) (with_others r nodes u t.left (text_of r nodes u) read)))
+
+-- what all lines of a log say
+pub all_lines : (mixed differ : Bool) (format : Format) (log : List ℕ) (l : Log) → differ ≡ mixed → l.jobs.items ≡ jobs_in (entries differ format log) → l.left.items ≡ left_in (entries differ format log)
+    → l.facts ≡ facts_in no_facts (entries differ format log) → l.comments ≡ count is_comment (entries differ format log) → IsFirstOf (entries mixed format log) [] l
+all_lines mixed differ format log l same jobs left facts comments =
+    subst (λ b. IsFirstOf (entries b format log) [] l) same
+    (record { jobs = append-nil l.jobs.items ∙ jobs; left = append-nil l.left.items ∙ left; facts = facts; comments = omega (arith, comments) })
+
+-- ---- what is taken in one order and another
+-- the tally but for what was left out, and that
+pub whole-of : (t : Taken) (u v : Tally) → so_far t ≡ v → v ≡ with_left u v.left → so_far t ≡ with_left u t.left.items
+whole-of t u v is same = is ∙ same ∙ ap (with_left u) (sym (ap (λ x. x.left) is))
+
+pub moved-of : (t : Taken) (u v : Tally) → so_far t ≡ v → IsMoveBy (λ r. r.line) u.left v.left → IsMoveBy (λ r. r.line) u.left t.left.items
+moved-of t u v is moved = subst (λ x. IsMoveBy (λ r. r.line) u.left x.left) (sym is) moved

@@ -9,12 +9,12 @@ use Rattle.tetri_trace.specs.Scenario.{Scenario}
 use Rattle.tetri_logs.specs.Options.{AreGood, settings_of}
 use Rattle.tetri_cluster.specs.declared.cluster.NodeText.{NodeText}
 use Rattle.tetri_workload.specs.Kinds.{are_mixed, fitted, settled_all}
-use Rattle.tetri_workload.specs.Ordering.{IsOrderBy}
+use Rattle.tetri_workload.specs.Ordering.{IsMoveBy, IsOrderBy}
 use Rattle.tetri_logs.specs.Origin.{begun, gap_of}
 use Rattle.tetri_logs.specs.Reading.{entries, facts_in, is_comment, jobs_in, left_in, no_facts}
 use Rattle.tetri_trace.specs.declared.trace.Event.{Event}
 use Rattle.tetri_workload.specs.Saying.{AreSeated, IsReadAs, bare, header_of}
-use Rattle.tetri_workload.specs.Taking.{Tally, so_far, taken_all}
+use Rattle.tetri_workload.specs.Taking.{Tally, so_far, taken_all, with_left}
 use Rattle.tetri_workload.specs.Text.{text_of}
 use Rattle.tetri_workload.specs.declared.importing.Drawn.{Drawn}
 use Rattle.tetri_workload.specs.declared.importing.Imported.{Imported}
@@ -51,13 +51,14 @@ pub record IsDraft (es : List Entry) (nodes : List NodeText) (o : Options) (draf
   pub settings : settings_of o (facts_in no_facts es) ≡ Ok draft
   pub ordered : IsOrderBy (λ j. j.account.submit) (settled_all nodes (jobs_in es)) order
 
--- What is taken of a log with these entries, in this order.
+-- What is taken of a log with these entries, in this order, but for the order in which jobs were left out.
 pub record IsDrawnIn (es : List Entry) (nodes : List NodeText) (o : Options) (d : Drawn) (draft : Settings) (order : List LoggedJob) : Type 0 where
   pub drafted : IsDraft es nodes o draft order
   pub settings : d.settings ≡ begun draft order
   pub good : AreGood d.settings
   pub together : gap_of o d.settings order ≡ None
-  pub tally : so_far d.taken ≡ taken_all d.settings order
+  pub tally : so_far d.taken ≡ with_left (taken_all d.settings order) d.taken.left.items
+  pub moved : IsMoveBy (λ r. r.line) (taken_all d.settings order).left d.taken.left.items
   pub left : d.left.items ≡ left_in es
   pub comments : d.comments ≡ count is_comment es
   pub whole : length (jobs_in es) + length (left_in es) + d.comments ≡ length es

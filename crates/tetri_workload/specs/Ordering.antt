@@ -8,3 +8,8 @@ pub record IsOrderBy {X : Type 0} (key : X → ℕ) (xs ys : List X) : Type 0 wh
   pub moved : IsPermutation xs ys
   pub sorted : IsSortedByKey key nat_cmp ys
   pub stable : IsStableByKey key nat_cmp xs ys
+
+-- the second list is the first in some order, in which what has one number stays in its order
+pub record IsMoveBy {X : Type 0} (key : X → ℕ) (xs ys : List X) : Type 0 where
+  pub moved : IsPermutation xs ys
+  pub stable : IsStableByKey key nat_cmp xs ys

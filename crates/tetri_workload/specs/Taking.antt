@@ -1,5 +1,5 @@
 -- The jobs that are taken.
-use Rattle.std.specs.Prelude.{ℕ, ◌+◌, ◌==◌, Bool, false, min, max, nat_le, List, [], ◌∷◌, ◌++◌, length, map, fold, slice_get, codes, decimal, Option, Some, None, Result, Ok, Err, if◌then◌else◌}
+use Rattle.std.specs.Prelude.{ℕ, ◌+◌, ◌==◌, ◌||◌, Bool, false, min, max, nat_le, List, [], ◌∷◌, ◌++◌, length, map, fold, slice_get, codes, decimal, Option, Some, None, Result, Ok, Err, if◌then◌else◌}
 use Rattle.tetri_cluster.specs.Names.{is_among, is_name, number_of}
 use Rattle.tetri_logs.specs.declared.entry.Cause.{Cause}
 use Rattle.tetri_logs.specs.declared.entry.Cause.TheVariants.{Outside, Repeated, Beyond}
@@ -38,6 +38,10 @@ nothing_taken = record { jobs = []; submits = []; events = []; left = []; until 
 abbrev pub left_out : Tally → ℕ → Cause → Tally
 left_out t line cause = record t { left = t.left ++ (record { line = line; cause = cause }) ∷ [] }
 
+-- with these left out
+abbrev pub with_left : Tally → List Reject → Tally
+with_left t left = record t { left = left }
+
 -- a job with this name at its place
 abbrev pub submitted : List ℕ → Placing → Submission
 submitted name p = record { name = name; arrival = p.arrival; late = p.late; demand = asks p.ask }
@@ -72,6 +76,10 @@ taken t line submit name set p = record {
   rounded = t.rounded ++ rounded_of line p;
   sets = t.sets ++ set ∷ [];
 }
+
+-- whether so many jobs are there as are wanted or possible
+abbrev pub is_full : Settings → Tally → Bool
+is_full s t = nat_le s.most (length t.jobs) || nat_le 100000 (length t.jobs)
 
 -- a job is taken under a name unless so many are there as are wanted or possible
 abbrev pub kept : Settings → Tally → ℕ → ℕ → List ℕ → List ℕ → Placing → Tally

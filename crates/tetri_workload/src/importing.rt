@@ -1,11 +1,12 @@
 // From a log to a trace.
-ghost use Rattle.std.specs.Prelude.{◌≡◌, ◌+◌, ◌++◌, All, IfErr, IfOk, IfSome, List, OnOk, length, ℕ};
+ghost use Rattle.std.specs.Prelude.{◌≡◌, ◌+◌, ◌<◌, ◌^◌, ◌++◌, [], All, IfErr, IfOk, IfSome, IsTrue, List, OnOk, length, ℕ};
 ghost use Rattle.tetri_base.specs.Lists.{count};
 ghost use Rattle.tetri_logs.specs.Options.{AreGood};
 ghost use Rattle.tetri_logs.specs.Reading.{entries, facts_in, is_comment, jobs_in, left_in, no_facts};
 ghost use Rattle.tetri_logs.specs.declared.entry.Entry.{Entry};
 ghost use Rattle.tetri_logs.specs.declared.entry.Format.{Format};
 ghost use Rattle.tetri_logs.specs.declared.options.Options.{Options};
+ghost use Rattle.tetri_workload.specs.First.{IsFirstOf};
 ghost use Rattle.tetri_workload.specs.Import.{IsDrawn, IsImport, IsImportOn, IsRefused};
 ghost use Rattle.tetri_workload.specs.Kinds.{are_mixed, fitted};
 ghost use Rattle.tetri_workload.specs.Known.{AreKnown};
@@ -13,17 +14,18 @@ ghost use Rattle.tetri_workload.specs.Saying.{IsAsked};
 ghost use Rattle.tetri_workload.specs.Taking.{so_far};
 
 use crate::confirming::is_read_as;
+use crate::first::{First, first_lines};
 use crate::kinds::{Kinds, are_mixed, fitted};
 use crate::ordering::{by_line, by_slot, by_submission};
-use crate::reading::read_in_turn;
+use crate::reading::Reading;
 use crate::taking::{Taken, take_all};
 use crate::text::trace_text;
 use std::alloc::{AllocError, Global};
 use std::mem;
 use tetri_cluster::NodeText;
 use tetri_logs::{
-    FirstJob, Format, Log, OptionFault, Options, Reject, Settings, begun, begun_with, early_fault,
-    first_job, gap_of, read_log, settings_of,
+    Facts, Format, Log, OptionFault, Options, Reject, Settings, Walk, begun, begun_with,
+    early_fault, gap_of, read_log, settings_of,
 };
 
 /// Why a log is not imported.
@@ -85,22 +87,6 @@ pub struct Drawn {
     pub comments: usize,
 }
 
-// What a log says, with the set of each job where nodes differ.
-fn read_on<'a>(
-    alloc: Global,
-    format: Format,
-    nodes: &[NodeText],
-    log: &'a [u8],
-) -> Result<Log<'a>, AllocError>
-    ensures jobs { IfOk result (λ l. l.jobs.items ≡ jobs_in (entries (are_mixed nodes.now) format log.now)) }
-    ensures left { IfOk result (λ l. l.left.items ≡ left_in (entries (are_mixed nodes.now) format log.now)) }
-    ensures facts { IfOk result (λ l. l.facts ≡ facts_in no_facts (entries (are_mixed nodes.now) format log.now)) }
-    ensures comments { IfOk result (λ l. l.comments ≡ count is_comment (entries (are_mixed nodes.now) format log.now)) }
-    ensures whole { IfOk result (λ l. length l.jobs.items + length l.left.items + l.comments ≡ length (entries (are_mixed nodes.now) format log.now)) }
-{
-    read_log(alloc, are_mixed(nodes), format, log)
-}
-
 // Both, one behind the other.
 fn together(first: Vec<Reject>, second: Vec<Reject>) -> Result<Vec<Reject>, AllocError>
     ensures { IfOk result (λ all. all.items ≡ first.items ++ second.items) }
@@ -113,21 +99,19 @@ fn together(first: Vec<Reject>, second: Vec<Reject>) -> Result<Vec<Reject>, Allo
     Ok(all)
 }
 
-// What is taken of a log, with its jobs put in order of submission.
-fn draw_sorted(
+// What is taken of a log by the list of its jobs, which are put in order of submission.
+fn draw_listed(
     alloc: Global,
     kinds: &mut Kinds,
-    format: Format,
     options: &Options,
     nodes: &[NodeText],
-    log: &[u8],
+    log: Log<'_>,
 ) -> Result<Drawn, ImportFault>
     requires { AreKnown nodes.now kinds.old }
     ensures known { OnOk result (AreKnown nodes.now kinds.new) }
-    ensures drawn { IfOk result (IsDrawn (entries (are_mixed nodes.now) format log.now) nodes.now options.now) }
-    ensures refused { IfErr result (IsRefused (entries (are_mixed nodes.now) format log.now) nodes.now options.now) }
+    ensures drawn { IfOk result (λ drawn. (es : List Entry) → IsFirstOf es [] log.entry → IsDrawn es nodes.now options.now drawn) }
+    ensures refused { IfErr result (λ fault. (es : List Entry) → IsFirstOf es [] log.entry → IsRefused es nodes.now options.now fault) }
 {
-    let log = read_on(alloc, format, nodes, log)?;
     let draft = settings_of(options, log.facts)?;
     let mut jobs = kinds.settle(alloc, nodes, log.jobs)?;
     by_submission(&mut jobs)?;
@@ -145,34 +129,63 @@ fn draw_sorted(
     })
 }
 
-// The same without a list of its jobs: nothing where they do not come in their turn, a line has tasks of an array, the first job does not
-// begin the trace, or a comment behind it says something of the cluster.
-fn draw_in_turn(
+// The same of a log that is read for it.
+fn draw_sorted(
     alloc: Global,
     kinds: &mut Kinds,
     format: Format,
     options: &Options,
     nodes: &[NodeText],
     log: &[u8],
-) -> Result<Option<Drawn>, AllocError>
+) -> Result<Drawn, ImportFault>
     requires { AreKnown nodes.now kinds.old }
     ensures known { OnOk result (AreKnown nodes.now kinds.new) }
-    ensures drawn { IfOk result (λ drawn. IfSome drawn (IsDrawn (entries (are_mixed nodes.now) format log.now) nodes.now options.now)) }
+    ensures drawn { IfOk result (IsDrawn (entries (are_mixed nodes.now) format log.now) nodes.now options.now) }
+    ensures refused { IfErr result (IsRefused (entries (are_mixed nodes.now) format log.now) nodes.now options.now) }
 {
-    let Some(FirstJob { job, facts }) = first_job(alloc, are_mixed(nodes), format, log)? else {
-        return Ok(None);
-    };
+    let log = read_log(alloc, are_mixed(nodes), format, log)?;
+    draw_listed(alloc, kinds, options, nodes, log)
+}
+
+fn are_same(one: Facts, other: Facts) -> bool
+    ensures { IsTrue result → one ≡ other }
+{
+    one == other
+}
+
+// What is taken of a log by a list of its first jobs alone. Nothing where a job behind them comes out of its turn, a line there has tasks of an
+// array, a comment there says something of the cluster, or the first job does not begin the trace.
+fn draw_in_turn(
+    alloc: Global,
+    kinds: &mut Kinds,
+    options: &Options,
+    nodes: &[NodeText],
+    first: Log<'_>,
+    walk: &mut Walk<'_>,
+) -> Result<Option<Drawn>, AllocError>
+    requires known { AreKnown nodes.now kinds.old }
+    requires few { first.comments + walk.old.bytes < 2 ^ 64 }
+    ensures known { OnOk result (AreKnown nodes.now kinds.new) }
+    ensures drawn { IfOk result (λ drawn. IfSome drawn (λ d. (es : List Entry) → IsFirstOf es walk.old.entries first.entry → IsDrawn es nodes.now options.now d)) }
+{
+    let facts = first.facts;
     let Ok(draft) = settings_of(options, facts) else {
         return Ok(None);
     };
-    let first = kinds.settle_one(alloc, nodes, job)?;
-    let Some(settings) = begun_with(&draft, first.account) else {
+    let mut first_jobs = kinds.settle(alloc, nodes, first.jobs)?;
+    by_submission(&mut first_jobs)?;
+    let Some(job) = first_jobs.first() else {
         return Ok(None);
     };
-    let Some(read) = read_in_turn(alloc, kinds, format, &settings, nodes, log)? else {
+    let account = job.account;
+    let Some(settings) = begun_with(&draft, account) else {
         return Ok(None);
     };
-    if read.facts != facts {
+    let mut read = Reading::new(alloc, first.left, facts, first.comments, account.submit)?;
+    if !read.add_in_turn(alloc, kinds, &settings, nodes, first_jobs, walk)? {
+        return Ok(None);
+    }
+    if !are_same(read.facts, facts) {
         return Ok(None);
     }
     Ok(Some(Drawn {
@@ -197,7 +210,14 @@ fn draw(
     ensures drawn { IfOk result (IsDrawn (entries (are_mixed nodes.now) format log.now) nodes.now options.now) }
     ensures refused { IfErr result (IsRefused (entries (are_mixed nodes.now) format log.now) nodes.now options.now) }
 {
-    match draw_in_turn(alloc, kinds, format, options, nodes, log)? {
+    let mut walk = Walk::new(alloc, are_mixed(nodes), format, log);
+    let Some(First { log: first, ended }) = first_lines(alloc, &mut walk)? else {
+        return draw_sorted(alloc, kinds, format, options, nodes, log);
+    };
+    if ended {
+        return draw_listed(alloc, kinds, options, nodes, first);
+    }
+    match draw_in_turn(alloc, kinds, options, nodes, first, &mut walk)? {
         Some(drawn) => Ok(drawn),
         None => draw_sorted(alloc, kinds, format, options, nodes, log),
     }

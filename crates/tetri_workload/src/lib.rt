@@ -2,6 +2,7 @@
 #![tactic(auto)]
 
 mod confirming;
+mod first;
 mod importing;
 mod kinds;
 mod marks;

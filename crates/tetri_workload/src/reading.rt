@@ -1,22 +1,59 @@
-// What is taken of a log line by line, where its jobs stand in order of submission.
-ghost use Rattle.std.specs.Prelude.{◌≡◌, ◌+◌, ◌<◌, ◌^◌, ◌++◌, ◌∷◌, [], List, IfOk, IfSome, OnOk, fold, true};
+// What is taken of a log line by line, where its jobs stand in order of submission until the trace is full.
+ghost use Rattle.std.specs.Prelude.{◌≡◌, ◌+◌, ◌<◌, ◌≤◌, ◌^◌, ◌++◌, ◌∷◌, [], List, IfOk, IfSome, IsTrue, OnOk, fold, true};
 ghost use Rattle.tetri_base.specs.Lists.{count};
 ghost use Rattle.tetri_logs.specs.Entry.{entries_in};
 ghost use Rattle.tetri_logs.specs.Options.{AreGood};
-ghost use Rattle.tetri_logs.specs.Reading.{entries, facts_in, is_comment, left_in};
+ghost use Rattle.tetri_logs.specs.Reading.{facts_in, is_comment, left_in};
 ghost use Rattle.tetri_logs.specs.declared.entry.LoggedJob.{LoggedJob};
 ghost use Rattle.tetri_workload.specs.Kinds.{are_mixed, settled_all};
 ghost use Rattle.tetri_workload.specs.Known.{AreKnown};
-ghost use Rattle.tetri_workload.specs.Reading.{ComeInTurn, HasNoLine, IsReadOf, jobs_of};
-ghost use Rattle.tetri_workload.specs.Taking.{HasMarks, so_far, with_logged};
+ghost use Rattle.tetri_workload.specs.Reading.{ComeInTurn, IsInTurn, first_turn, jobs_of, turn_behind};
+ghost use Rattle.tetri_workload.specs.Taking.{HasMarks, nothing_taken, so_far, with_logged};
 
 use crate::kinds::{Kinds, are_mixed};
 use crate::taking::Taken;
 use std::alloc::{AllocError, Global};
 use tetri_cluster::NodeText;
-use tetri_logs::{
-    Entries, Entry, Facts, Format, LoggedJob, Reject, Settings, Walk, is_in_run, with_fact,
-};
+use tetri_logs::{Entries, Entry, Facts, LoggedJob, Reject, Settings, Walk, is_in_run, with_fact};
+
+/// Which jobs come in their turn, by the seconds of the log's clock.
+#[derive(Clone, Copy)]
+pub struct Turn {
+    /// When the last job was submitted that found the trace not full yet.
+    pub last: u32,
+    /// The latest submission so far.
+    pub high: u32,
+    /// The last line of a job so far.
+    pub line: usize,
+}
+
+impl Turn {
+    // Whether a job comes in its turn.
+    #[inline(always)]
+    fn is_of(&self, settings: &Settings, job: &LoggedJob<'_>) -> bool
+        requires small { settings.now.origin < 2 ^ 33 }
+        requires good { AreGood settings.now }
+        ensures { IsTrue result → IsInTurn settings.now self.now job.now }
+    {
+        let submit = job.account.submit;
+        self.last <= submit
+            && (self.high <= submit || self.line < job.line)
+            && is_in_run(settings, job.account)
+    }
+
+    // The turn of the job behind this one.
+    #[inline(always)]
+    fn pass(&mut self, settings: &Settings, taken: &Taken, job: &LoggedJob<'_>)
+        ensures { self.new ≡ turn_behind settings.now (so_far taken.now) self.old job.now }
+    {
+        let submit = job.account.submit;
+        if !taken.is_full(settings) {
+            self.last = submit;
+        }
+        self.high = self.high.max(submit);
+        self.line = self.line.max(job.line);
+    }
+}
 
 /// What is taken of the lines so far, and what they say besides.
 #[derive(Drop)]
@@ -25,12 +62,12 @@ pub struct Reading {
     pub left: Vec<Reject>,
     pub facts: Facts,
     pub comments: usize,
-    /// When the last job was submitted, by the log's clock.
-    pub last: u32,
+    /// The turn of the next job.
+    pub turn: Turn,
 }
 
 impl Reading {
-    // A job, if it comes in its turn: not before the last one, and early enough for the trace.
+    // A job, if it comes in its turn.
     #[inline(always)]
     fn add_settled(
         &mut self,
@@ -46,13 +83,12 @@ impl Reading {
         ensures left { IfOk result (λ in_turn. in_turn ≡ true → self.new.left ≡ self.old.left) }
         ensures facts { IfOk result (λ in_turn. in_turn ≡ true → self.new.facts ≡ self.old.facts) }
         ensures comments { IfOk result (λ in_turn. in_turn ≡ true → self.new.comments ≡ self.old.comments) }
-        ensures turn { IfOk result (λ in_turn. in_turn ≡ true → (jobs : List LoggedJob) → ComeInTurn settings.now self.new.last jobs → ComeInTurn settings.now self.old.last (job.entry ∷ jobs)) }
+        ensures turn { IfOk result (λ in_turn. in_turn ≡ true → (jobs : List LoggedJob) → ComeInTurn settings.now (so_far self.new.taken) self.new.turn jobs → ComeInTurn settings.now (so_far self.old.taken) self.old.turn (job.entry ∷ jobs)) }
     {
-        let submit = job.account.submit;
-        if submit < self.last || !is_in_run(settings, job.account) {
+        if !self.turn.is_of(settings, &job) {
             return Ok(false);
         }
-        self.last = submit;
+        self.turn.pass(settings, &self.taken, &job);
         self.taken.add(alloc, settings, job)?;
         Ok(true)
     }
@@ -77,7 +113,7 @@ impl Reading {
         ensures left { IfOk result (λ in_turn. in_turn ≡ true → self.new.left ≡ self.old.left) }
         ensures facts { IfOk result (λ in_turn. in_turn ≡ true → self.new.facts ≡ self.old.facts) }
         ensures comments { IfOk result (λ in_turn. in_turn ≡ true → self.new.comments ≡ self.old.comments) }
-        ensures turn { IfOk result (λ in_turn. in_turn ≡ true → (jobs : List LoggedJob) → ComeInTurn settings.now self.new.last jobs → ComeInTurn settings.now self.old.last (settled_all nodes.now (job.entry ∷ []) ++ jobs)) }
+        ensures turn { IfOk result (λ in_turn. in_turn ≡ true → (jobs : List LoggedJob) → ComeInTurn settings.now (so_far self.new.taken) self.new.turn jobs → ComeInTurn settings.now (so_far self.old.taken) self.old.turn (settled_all nodes.now (job.entry ∷ []) ++ jobs)) }
     {
         let job = kinds.settle_one(alloc, nodes, job)?;
         self.add_settled(alloc, settings, job)
@@ -104,7 +140,7 @@ impl Reading {
         ensures left { IfOk result (λ in_turn. in_turn ≡ true → self.new.left.items ≡ self.old.left.items ++ left_in (found.entry ∷ [])) }
         ensures facts { IfOk result (λ in_turn. in_turn ≡ true → self.new.facts ≡ facts_in self.old.facts (found.entry ∷ [])) }
         ensures comments { IfOk result (λ in_turn. in_turn ≡ true → self.new.comments ≡ self.old.comments + count is_comment (found.entry ∷ [])) }
-        ensures turn { IfOk result (λ in_turn. in_turn ≡ true → (jobs : List LoggedJob) → ComeInTurn settings.now self.new.last jobs → ComeInTurn settings.now self.old.last (jobs_of nodes.now (found.entry ∷ []) ++ jobs)) }
+        ensures turn { IfOk result (λ in_turn. in_turn ≡ true → (jobs : List LoggedJob) → ComeInTurn settings.now (so_far self.new.taken) self.new.turn jobs → ComeInTurn settings.now (so_far self.old.taken) self.old.turn (jobs_of nodes.now (found.entry ∷ []) ++ jobs)) }
     {
         match found {
             Entry::Job(job) => self.add_job(alloc, kinds, settings, nodes, job),
@@ -141,7 +177,7 @@ impl Reading {
         ensures left { IfOk result (λ in_turn. in_turn ≡ true → self.new.left.items ≡ self.old.left.items ++ left_in (entries_in found.entry)) }
         ensures facts { IfOk result (λ in_turn. in_turn ≡ true → self.new.facts ≡ facts_in self.old.facts (entries_in found.entry)) }
         ensures comments { IfOk result (λ in_turn. in_turn ≡ true → self.new.comments ≡ self.old.comments + count is_comment (entries_in found.entry)) }
-        ensures turn { IfOk result (λ in_turn. in_turn ≡ true → (jobs : List LoggedJob) → ComeInTurn settings.now self.new.last jobs → ComeInTurn settings.now self.old.last (jobs_of nodes.now (entries_in found.entry) ++ jobs)) }
+        ensures turn { IfOk result (λ in_turn. in_turn ≡ true → (jobs : List LoggedJob) → ComeInTurn settings.now (so_far self.new.taken) self.new.turn jobs → ComeInTurn settings.now (so_far self.old.taken) self.old.turn (jobs_of nodes.now (entries_in found.entry) ++ jobs)) }
     {
         match found {
             Entries::One(entry) => self.add_entry(alloc, kinds, settings, nodes, entry),
@@ -149,25 +185,27 @@ impl Reading {
         }
     }
 
-    // What all lines of a log say, if none has tasks of an array and their jobs come in their turn.
+    // What the lines say that are not read yet, if none has tasks of an array and their jobs come in their turn.
     fn add_all(
         &mut self,
         alloc: Global,
         kinds: &mut Kinds,
-        format: Format,
         settings: &Settings,
         nodes: &[NodeText],
-        log: &[u8],
+        walk: &mut Walk<'_>,
     ) -> Result<bool, AllocError>
         requires good { AreGood settings.now }
         requires small { settings.now.origin < 2 ^ 33 }
+        requires marks { HasMarks self.old.taken }
         requires known { AreKnown nodes.now kinds.old }
-        requires none { HasNoLine self.old }
+        requires few { self.old.comments + walk.old.bytes < 2 ^ 64 }
         ensures known { OnOk result (AreKnown nodes.now kinds.new) }
-        ensures read { IfOk result (λ in_turn. in_turn ≡ true
-            → IsReadOf settings.now nodes.now (entries (are_mixed nodes.now) format log.now) self.new) }
+        ensures tally { IfOk result (λ in_turn. in_turn ≡ true → so_far self.new.taken ≡ fold (with_logged settings.now) (so_far self.old.taken) (jobs_of nodes.now walk.old.entries)) }
+        ensures left { IfOk result (λ in_turn. in_turn ≡ true → self.new.left.items ≡ self.old.left.items ++ left_in walk.old.entries) }
+        ensures facts { IfOk result (λ in_turn. in_turn ≡ true → self.new.facts ≡ facts_in self.old.facts walk.old.entries) }
+        ensures comments { IfOk result (λ in_turn. in_turn ≡ true → self.new.comments ≡ self.old.comments + count is_comment walk.old.entries) }
+        ensures turns { IfOk result (λ in_turn. in_turn ≡ true → ComeInTurn settings.now (so_far self.old.taken) self.old.turn (jobs_of nodes.now walk.old.entries)) }
     {
-        let mut walk = Walk::new(alloc, are_mixed(nodes), format, log);
         while let Some(found) = walk.next(alloc)? {
             if !self.add(alloc, kinds, settings, nodes, found)? {
                 return Ok(false);
@@ -175,43 +213,86 @@ impl Reading {
         }
         Ok(true)
     }
-}
 
-// No line.
-fn nothing_read(alloc: Global) -> Result<Reading, AllocError>
-    ensures { IfOk result HasNoLine }
-{
-    Ok(Reading {
-        taken: Taken::new(alloc)?,
-        left: Vec::new(alloc),
-        facts: Facts {
-            nodes: None,
-            processors: None,
-            start: 0,
-        },
-        comments: 0,
-        last: 0,
-    })
-}
-
-/// What is taken of a log, if its jobs come in their turn and no line has tasks of an array. Its only error is want of memory.
-pub(crate) fn read_in_turn(
-    alloc: Global,
-    kinds: &mut Kinds,
-    format: Format,
-    settings: &Settings,
-    nodes: &[NodeText],
-    log: &[u8],
-) -> Result<Option<Reading>, AllocError>
-    requires good { AreGood settings.now }
-    requires small { settings.now.origin < 2 ^ 33 }
-    requires known { AreKnown nodes.now kinds.old }
-    ensures known { OnOk result (AreKnown nodes.now kinds.new) }
-    ensures read { IfOk result (λ read. IfSome read (IsReadOf settings.now nodes.now (entries (are_mixed nodes.now) format log.now))) }
-{
-    let mut read = nothing_read(alloc)?;
-    if !read.add_all(alloc, kinds, format, settings, nodes, log)? {
-        return Ok(None);
+    // These jobs, if they come in their turn.
+    fn add_jobs(
+        &mut self,
+        alloc: Global,
+        settings: &Settings,
+        jobs: Vec<LoggedJob<'_>>,
+    ) -> Result<bool, AllocError>
+        requires good { AreGood settings.now }
+        requires small { settings.now.origin < 2 ^ 33 }
+        requires marks { HasMarks self.old.taken }
+        ensures tally { IfOk result (λ in_turn. in_turn ≡ true → so_far self.new.taken ≡ fold (with_logged settings.now) (so_far self.old.taken) jobs.entry.items) }
+        ensures marks { IfOk result (λ in_turn. in_turn ≡ true → HasMarks self.new.taken) }
+        ensures left { IfOk result (λ in_turn. in_turn ≡ true → self.new.left ≡ self.old.left) }
+        ensures facts { IfOk result (λ in_turn. in_turn ≡ true → self.new.facts ≡ self.old.facts) }
+        ensures comments { IfOk result (λ in_turn. in_turn ≡ true → self.new.comments ≡ self.old.comments) }
+        ensures turns { IfOk result (λ in_turn. in_turn ≡ true → (later : List LoggedJob) → ComeInTurn settings.now (so_far self.new.taken) self.new.turn later → ComeInTurn settings.now (so_far self.old.taken) self.old.turn (jobs.entry.items ++ later)) }
+    {
+        for job in jobs {
+            if !self.add_settled(alloc, settings, job)? {
+                return Ok(false);
+            }
+        }
+        Ok(true)
     }
-    Ok(Some(read))
+
+    /// These jobs, which are in order of submission, and what the lines behind them say, if all jobs come in their turn and no line has tasks of
+    /// an array.
+    pub(crate) fn add_in_turn(
+        &mut self,
+        alloc: Global,
+        kinds: &mut Kinds,
+        settings: &Settings,
+        nodes: &[NodeText],
+        jobs: Vec<LoggedJob<'_>>,
+        walk: &mut Walk<'_>,
+    ) -> Result<bool, AllocError>
+        requires good { AreGood settings.now }
+        requires small { settings.now.origin < 2 ^ 33 }
+        requires marks { HasMarks self.old.taken }
+        requires known { AreKnown nodes.now kinds.old }
+        requires few { self.old.comments + walk.old.bytes < 2 ^ 64 }
+        ensures known { OnOk result (AreKnown nodes.now kinds.new) }
+        ensures tally { IfOk result (λ in_turn. in_turn ≡ true → so_far self.new.taken ≡ fold (with_logged settings.now) (so_far self.old.taken) (jobs.entry.items ++ jobs_of nodes.now walk.old.entries)) }
+        ensures left { IfOk result (λ in_turn. in_turn ≡ true → self.new.left.items ≡ self.old.left.items ++ left_in walk.old.entries) }
+        ensures facts { IfOk result (λ in_turn. in_turn ≡ true → self.new.facts ≡ facts_in self.old.facts walk.old.entries) }
+        ensures comments { IfOk result (λ in_turn. in_turn ≡ true → self.new.comments ≡ self.old.comments + count is_comment walk.old.entries) }
+        ensures turns { IfOk result (λ in_turn. in_turn ≡ true → ComeInTurn settings.now (so_far self.old.taken) self.old.turn (jobs.entry.items ++ jobs_of nodes.now walk.old.entries)) }
+    {
+        if !self.add_jobs(alloc, settings, jobs)? {
+            return Ok(false);
+        }
+        self.add_all(alloc, kinds, settings, nodes, walk)
+    }
+
+    /// What lines say of which no job is taken yet, where the first job that is to be taken was submitted then.
+    pub(crate) fn new(
+        alloc: Global,
+        left: Vec<Reject>,
+        facts: Facts,
+        comments: usize,
+        submit: u32,
+    ) -> Result<Reading, AllocError>
+        ensures tally { IfOk result (λ r. so_far r.taken ≡ nothing_taken) }
+        ensures marks { IfOk result (λ r. HasMarks r.taken) }
+        ensures left { IfOk result (λ r. r.left ≡ left) }
+        ensures facts { IfOk result (λ r. r.facts ≡ facts) }
+        ensures comments { IfOk result (λ r. r.comments ≡ comments) }
+        ensures turn { IfOk result (λ r. r.turn ≡ first_turn submit) }
+    {
+        Ok(Reading {
+            taken: Taken::new(alloc)?,
+            left,
+            facts,
+            comments,
+            turn: Turn {
+                last: submit,
+                high: 0,
+                line: 0,
+            },
+        })
+    }
 }

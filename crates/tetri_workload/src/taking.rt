@@ -5,7 +5,7 @@ ghost use Rattle.tetri_cluster.specs.Names.{is_among, number_of};
 ghost use Rattle.tetri_logs.specs.Options.{AreGood};
 ghost use Rattle.tetri_logs.specs.Placing.{IsPlaced};
 ghost use Rattle.tetri_workload.specs.Marks.{AreMarked};
-ghost use Rattle.tetri_workload.specs.Taking.{HasMarks, again, again_mark, again_name, end_of, events_of, is_second, kept, left_out, named, nothing_taken, rounded_of, so_far, submitted, taken, taken_all, with_logged};
+ghost use Rattle.tetri_workload.specs.Taking.{HasMarks, again, again_mark, again_name, end_of, events_of, is_full, is_second, kept, left_out, named, nothing_taken, rounded_of, so_far, submitted, taken, taken_all, with_logged};
 
 use crate::marks::Marks;
 use std::alloc::{AllocError, Global};
@@ -78,6 +78,13 @@ impl Taken {
             return None;
         }
         self.jobs.find(name)
+    }
+
+    /// Whether so many jobs are there as are wanted or possible.
+    pub(crate) fn is_full(&self, settings: &Settings) -> bool
+        ensures { result ≡ is_full settings.now (so_far self.now) }
+    {
+        settings.most as usize <= self.jobs.len() || MOST_JOBS <= self.jobs.len()
     }
 
     // A job that is left out.

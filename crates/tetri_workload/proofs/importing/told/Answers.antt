@@ -6,7 +6,7 @@ use Rattle.tetri_workload.specs.Kinds.{are_mixed}
 use Rattle.tetri_workload.specs.Ordering.{IsOrderBy}
 use Rattle.tetri_workload.specs.Saying.{IsReadAs}
 use Rattle.tetri_trace.specs.declared.trace.Event.{Event}
-use Rattle.tetri_workload.specs.Taking.{Tally, so_far, taken_all}
+use Rattle.tetri_workload.specs.Taking.{Tally, so_far, taken_all, with_left}
 use Rattle.tetri_workload.specs.declared.importing.Imported.{Imported}
 use Rattle.tetri_workload.proofs.ImportLemmas.{imported, same_reading}
 use Rattle.tetri_workload.proofs.importing.told.Goals as goal
@@ -30,7 +30,7 @@ returns-clause-trace c = λ format o log drawn.
     subst (λ rs. IsOrderBy (λ r. r.line) rs c.by_line.new.left.items) extended c.in_ok-by_line.ensures in
     let rounded : length c.as_slice-rounded.result.now ≡ length t.rounded.items = ap length c.as_slice-rounded.ensures.value in
     let i : Imported = record { trace = c.in_ok-trace.trace; jobs = c.len-jobs.result; rounded = length c.as_slice-rounded.result.now; left = c.by_line.new.left; comments = d.comments; mixed = c.are_mixed.result } in
-    (draft, order, read.0, imported es nodes o i draft s order t events drawn.2.drafted drawn.2.settings drawn.2.together drawn.2.tally in_order read left c.len-jobs.ensures.value rounded drawn.2.comments c.are_mixed.ensures drawn.2.whole)
+    (draft, order, read.0, imported es nodes o i draft s order t events drawn.2.drafted drawn.2.settings drawn.2.together drawn.2.tally drawn.2.moved in_order read left c.len-jobs.ensures.value rounded drawn.2.comments c.are_mixed.ensures drawn.2.whole)
 
 pub returns-then-not-alike-clause-refused : goal.returns-then-not-alike-clause-refused
 returns-then-not-alike-clause-refused c = λ es o drawn.
@@ -41,10 +41,10 @@ returns-then-not-alike-clause-refused c = λ es o drawn.
     let t = c.args.drawn.now.taken in
     let events = c.by_slot.new.events.items in
     let is : s ≡ begun draft order = drawn.2.settings in
-    let tally : so_far t ≡ taken_all (begun draft order) order = drawn.2.tally ∙ ap (λ b. taken_all b order) is in
+    let tally : so_far t ≡ with_left (taken_all (begun draft order) order) t.left.items = drawn.2.tally ∙ ap (λ b. with_left (taken_all b order) t.left.items) is in
     let turn : Tally → Tally = λ u. record u { events = events } in
     let happened : Tally → List Event = λ u. u.events in
-    let tallied : turn (so_far t) ≡ turn (taken_all (begun draft order) order) = ap turn tally in
+    let tallied : turn (so_far t) ≡ with_left (turn (taken_all (begun draft order) order)) t.left.items = ap turn tally in
     let in_order : IsOrderBy (λ e. e.at) t.events.items events = c.in_ok-by_slot.ensures in (
       draft,
       order,
