@@ -1,5 +1,5 @@
 // The first lines of a log.
-ghost use Rattle.std.specs.Prelude.{◌≡◌, ◌+◌, ◌<◌, ◌≤◌, ◌^◌, ◌++◌, ◌∷◌, [], IfOk, IfSome, List, OnOk, false};
+ghost use Rattle.std.specs.Prelude.{◌≡◌, ◌+◌, ◌<◌, ◌≤◌, ◌^◌, ◌++◌, ◌∷◌, [], IfOk, IfSome, List, OnOk, false, true};
 ghost use Rattle.tetri_base.specs.Lists.{count};
 ghost use Rattle.tetri_logs.specs.Reading.{facts_in, is_comment, jobs_in, left_in};
 ghost use Rattle.tetri_logs.specs.declared.entry.Entry.{Entry};
@@ -56,7 +56,33 @@ fn add<'a>(log: &mut Log<'a>, found: Entry<'a>) -> Result<(), AllocError>
     Ok(())
 }
 
-/// What the first lines of a log say, with a list of their jobs. Nothing where one of them has tasks of an array. Its only error is want of memory.
+/// Whether an entry is a comment.
+#[inline(always)]
+pub(crate) fn is_comment(entry: &Entry<'_>) -> bool
+    ensures { result ≡ is_comment entry.now }
+{
+    matches!(entry, Entry::Comment(_))
+}
+
+// With what the tasks of a line say, of which none is a comment, as is answered.
+fn add_tasks<'a>(log: &mut Log<'a>, tasks: Vec<Entry<'a>>) -> Result<bool, AllocError>
+    requires few { log.old.comments + 1 < 2 ^ 64 }
+    ensures jobs { IfOk result (λ all. all ≡ true → log.new.jobs.items ≡ log.old.jobs.items ++ jobs_in tasks.entry.items) }
+    ensures left { IfOk result (λ all. all ≡ true → log.new.left.items ≡ log.old.left.items ++ left_in tasks.entry.items) }
+    ensures facts { IfOk result (λ all. all ≡ true → log.new.facts ≡ facts_in log.old.facts tasks.entry.items) }
+    ensures comments { IfOk result (λ all. all ≡ true → log.new.comments ≡ log.old.comments + count is_comment tasks.entry.items) }
+{
+    for entry in tasks {
+        if is_comment(&entry) {
+            return Ok(false);
+        }
+        add(log, entry)?;
+    }
+    Ok(true)
+}
+
+/// What the first lines of a log say, with a list of their jobs. Nothing where a task of an array is a comment, which none is. Its only error is
+/// want of memory.
 pub(crate) fn first_lines<'a>(
     alloc: Global,
     walk: &mut Walk<'a>,
@@ -69,7 +95,11 @@ pub(crate) fn first_lines<'a>(
     while log.jobs.len() < FIRST_JOBS {
         match walk.next(alloc)? {
             Some(Entries::One(entry)) => add(&mut log, entry)?,
-            Some(Entries::Tasks(_)) => return Ok(None),
+            Some(Entries::Tasks(tasks)) => {
+                if !add_tasks(&mut log, tasks)? {
+                    return Ok(None);
+                }
+            }
             None => return Ok(Some(First { log, ended: true })),
         }
     }

@@ -153,8 +153,8 @@ fn are_same(one: Facts, other: Facts) -> bool
     one == other
 }
 
-// What is taken of a log by a list of its first jobs alone. Nothing where a job behind them comes out of its turn, a line there has tasks of an
-// array, a comment there says something of the cluster, or the first job does not begin the trace.
+// What is taken of a log by a list of its first jobs alone. Nothing where a job behind them comes out of its turn, a comment there says
+// something of the cluster, or the first job does not begin the trace.
 fn draw_in_turn(
     alloc: Global,
     kinds: &mut Kinds,

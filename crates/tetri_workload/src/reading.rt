@@ -10,6 +10,7 @@ ghost use Rattle.tetri_workload.specs.Known.{AreKnown};
 ghost use Rattle.tetri_workload.specs.Reading.{ComeInTurn, IsInTurn, first_turn, jobs_of, turn_behind};
 ghost use Rattle.tetri_workload.specs.Taking.{HasMarks, nothing_taken, so_far, with_logged};
 
+use crate::first::is_comment;
 use crate::kinds::{Kinds, are_mixed};
 use crate::taking::Taken;
 use std::alloc::{AllocError, Global};
@@ -156,7 +157,40 @@ impl Reading {
         }
     }
 
-    // What a line says, if it has no tasks of an array and its job comes in its turn.
+    // What the tasks of a line say, if none is a comment and their jobs come in their turn.
+    fn add_tasks(
+        &mut self,
+        alloc: Global,
+        kinds: &mut Kinds,
+        settings: &Settings,
+        nodes: &[NodeText],
+        tasks: Vec<Entry<'_>>,
+    ) -> Result<bool, AllocError>
+        requires good { AreGood settings.now }
+        requires small { settings.now.origin < 2 ^ 33 }
+        requires marks { HasMarks self.old.taken }
+        requires known { AreKnown nodes.now kinds.old }
+        requires few { self.old.comments + 1 < 2 ^ 64 }
+        ensures known { OnOk result (AreKnown nodes.now kinds.new) }
+        ensures tally { IfOk result (λ in_turn. in_turn ≡ true → so_far self.new.taken ≡ fold (with_logged settings.now) (so_far self.old.taken) (jobs_of nodes.now tasks.entry.items)) }
+        ensures marks { IfOk result (λ in_turn. in_turn ≡ true → HasMarks self.new.taken) }
+        ensures left { IfOk result (λ in_turn. in_turn ≡ true → self.new.left.items ≡ self.old.left.items ++ left_in tasks.entry.items) }
+        ensures facts { IfOk result (λ in_turn. in_turn ≡ true → self.new.facts ≡ facts_in self.old.facts tasks.entry.items) }
+        ensures comments { IfOk result (λ in_turn. in_turn ≡ true → self.new.comments ≡ self.old.comments + count is_comment tasks.entry.items) }
+        ensures turn { IfOk result (λ in_turn. in_turn ≡ true → (jobs : List LoggedJob) → ComeInTurn settings.now (so_far self.new.taken) self.new.turn jobs → ComeInTurn settings.now (so_far self.old.taken) self.old.turn (jobs_of nodes.now tasks.entry.items ++ jobs)) }
+    {
+        for entry in tasks {
+            if is_comment(&entry) {
+                return Ok(false);
+            }
+            if !self.add_entry(alloc, kinds, settings, nodes, entry)? {
+                return Ok(false);
+            }
+        }
+        Ok(true)
+    }
+
+    // What a line says, if its jobs come in their turn.
     #[inline(always)]
     fn add(
         &mut self,
@@ -181,11 +215,11 @@ impl Reading {
     {
         match found {
             Entries::One(entry) => self.add_entry(alloc, kinds, settings, nodes, entry),
-            Entries::Tasks(_) => Ok(false),
+            Entries::Tasks(tasks) => self.add_tasks(alloc, kinds, settings, nodes, tasks),
         }
     }
 
-    // What the lines say that are not read yet, if none has tasks of an array and their jobs come in their turn.
+    // What the lines say that are not read yet, if their jobs come in their turn.
     fn add_all(
         &mut self,
         alloc: Global,
@@ -239,8 +273,7 @@ impl Reading {
         Ok(true)
     }
 
-    /// These jobs, which are in order of submission, and what the lines behind them say, if all jobs come in their turn and no line has tasks of
-    /// an array.
+    /// These jobs, which are in order of submission, and what the lines behind them say, if all jobs come in their turn.
     pub(crate) fn add_in_turn(
         &mut self,
         alloc: Global,
