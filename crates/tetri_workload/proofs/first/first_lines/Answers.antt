@@ -2,7 +2,6 @@ use Rattle.std.proofs.Common.{◌≡◌, ◌≤◌, ◌<◌, ◌++◌, ◌∙◌
 use Rattle.tetri_base.specs.Lists.{count}
 use Rattle.tetri_logs.specs.Reading.{facts_in, is_comment, jobs_in, left_in}
 use Rattle.tetri_logs.proofs.LogLaws.{comments-append, facts_in-append, jobs_in-more, left_in-more}
-use Rattle.tetri_workload.specs.First.{IsFirstOf}
 use Rattle.tetri_workload.proofs.first.first_lines.Goals as goal
 
 pub loop-alloc-init : goal.loop-alloc-init
