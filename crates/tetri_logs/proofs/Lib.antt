@@ -1,4 +1,6 @@
 pub mod LogLaws
+pub mod LineTimes
+pub mod PlaceLaws
 mod ReadingLemmas
 mod CommentLemmas
 mod EarlyLemmas

@@ -1,5 +1,5 @@
 -- What a log says.
-use Rattle.std.specs.Prelude.{ℕ, ◌+◌, List, [], ◌∷◌, ◌++◌, Bool, true, false, Option, Some, None}
+use Rattle.std.specs.Prelude.{◌≡◌, ℕ, ◌+◌, List, [], ◌∷◌, ◌++◌, All, Bool, true, false, Option, Some, None}
 use Rattle.tetri_logs.specs.Entry.{layout_at, line_entries}
 use Rattle.tetri_logs.specs.Layout.{first_layout}
 use Rattle.tetri_logs.specs.Lines.{log_lines}
@@ -31,6 +31,10 @@ jobs_in [] = []
 jobs_in (Job job ∷ es) = job ∷ jobs_in es
 jobs_in (Comment fact ∷ es) = jobs_in es
 jobs_in (Left reject ∷ es) = jobs_in es
+
+-- jobs that stand on one line were submitted in one second
+abbrev pub AreTimedByLine : List LoggedJob → Type 0
+AreTimedByLine jobs = All (λ a. All (λ b. a.line ≡ b.line → a.account.submit ≡ b.account.submit) jobs) jobs
 
 -- the lines that bring no job, and the tasks of an array that bring none
 abbrev pub left_in : List Entry → List Reject

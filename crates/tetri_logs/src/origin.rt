@@ -21,8 +21,8 @@ fn begun_at(settings: &Settings, second: u64) -> Settings
     }
 }
 
-// Whether a job would have a place if slot 0 began with it.
-fn may_begin(settings: &Settings, account: Account) -> bool
+/// Whether a job would have a place if slot 0 began with it.
+pub fn may_begin(settings: &Settings, account: Account) -> bool
     requires { AreGood settings.now }
     ensures { result ≡ may_begin settings.now account }
 {

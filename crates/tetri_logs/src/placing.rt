@@ -25,8 +25,8 @@ pub struct Placing {
     pub part_node: bool,
 }
 
-// Whether a job is outside the part of the log that is wanted.
-fn is_outside(settings: &Settings, moment: u64) -> bool
+/// Whether a job that was submitted at this second is outside the part of the log that is wanted.
+pub fn is_outside(settings: &Settings, moment: u64) -> bool
     ensures { result ≡ is_outside settings.now moment }
 {
     moment < settings.from || settings.to <= moment

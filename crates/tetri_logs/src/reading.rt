@@ -1,5 +1,5 @@
 // What a log says.
-ghost use Rattle.std.specs.Prelude.{◌≡◌, ◌+◌, ◌++◌, ◌∷◌, [], IfOk, OnOk, length, option_map, slice_get};
+ghost use Rattle.std.specs.Prelude.{◌≡◌, ◌+◌, ◌++◌, ◌∷◌, [], IfOk, OnOk, length};
 ghost use Rattle.tetri_base.specs.Lists.{count};
 ghost use Rattle.tetri_logs.specs.Entry.{entries_in};
 ghost use Rattle.tetri_logs.specs.Reading.{entries, facts_in, is_comment, jobs_in, left_in, no_facts, with_fact};
@@ -149,60 +149,6 @@ fn read_lines<'a>(
         add_all(&mut read, found)?;
     }
     Ok(read)
-}
-
-/// The first job of a log, and what the comments before it say.
-#[derive(Drop)]
-pub struct FirstJob<'a> {
-    pub job: LoggedJob<'a>,
-    pub facts: Facts,
-}
-
-// The first job of these.
-fn first_of(entries: Vec<Entry<'_>>) -> Option<LoggedJob<'_>>
-    ensures { result ≡ slice_get (jobs_in entries.entry.items) 0 }
-{
-    for entry in entries {
-        if let Entry::Job(job) = entry {
-            return Some(job);
-        }
-    }
-    None
-}
-
-// The first job of a line.
-fn first_in(found: Entries<'_>) -> Option<LoggedJob<'_>>
-    ensures { result ≡ slice_get (jobs_in (entries_in found.entry)) 0 }
-{
-    match found {
-        Entries::One(Entry::Job(job)) => Some(job),
-        Entries::One(_) => None,
-        Entries::Tasks(entries) => first_of(entries),
-    }
-}
-
-/// The first job of a log, if there is one; with its set, where nodes differ. Its only error is want of memory.
-pub fn first_job<'a>(
-    alloc: Global,
-    mixed: bool,
-    format: Format,
-    log: &'a [u8],
-) -> Result<Option<FirstJob<'a>>, AllocError>
-    ensures { IfOk result (λ first. option_map (λ f. f.job) first ≡ slice_get (jobs_in (entries mixed format log.now)) 0) }
-{
-    let mut facts = NO_FACTS;
-    let mut walk = Walk::new(alloc, mixed, format, log);
-    while let Some(found) = walk.next(alloc)? {
-        match found {
-            Entries::One(Entry::Comment(fact)) => facts = with_fact(facts, fact),
-            found => {
-                if let Some(job) = first_in(found) {
-                    return Ok(Some(FirstJob { job, facts }));
-                }
-            }
-        }
-    }
-    Ok(None)
 }
 
 /// What a log says; the set of each job too, where nodes differ. Its only error is want of memory.

@@ -7,7 +7,7 @@ use crate::account::Account;
 use crate::options::{Settings, Worth};
 
 /// The second since 1970 at which a job was submitted.
-pub(crate) fn moment_of(settings: &Settings, account: Account) -> u64
+pub fn moment_of(settings: &Settings, account: Account) -> u64
     ensures value { result ≡ moment_of settings.now account }
     ensures small { result < 2 ^ 33 }
 {
