@@ -1,5 +1,6 @@
 // The text of a trace. What it says is read back before it is handed out.
-ghost use Rattle.std.specs.Prelude.{◌≡◌, ◌≤◌, ◌<◌, ◌++◌, [], IfOk, OnOk, map, slice_index_or, string_bytes};
+ghost use Rattle.std.specs.Prelude.{◌≡◌, ◌≤◌, ◌<◌, ◌++◌, [], IfOk, OnOk, decimal, map, slice_index_or, string_bytes};
+ghost use Rattle.std.specs.Fmt.{signed_decimal};
 ghost use Rattle.tetri_logs.specs.Options.{AreGood};
 ghost use Rattle.tetri_trace.specs.Scenario.{demand_of, submission};
 ghost use Rattle.tetri_workload.specs.Taking.{so_far};
@@ -7,6 +8,7 @@ ghost use Rattle.tetri_workload.specs.Text.{all_given_text, any_nodes_text, arri
 
 use crate::kinds::are_mixed;
 use crate::taking::Taken;
+use itoa::Buffer;
 use std::alloc::{AllocError, Global};
 use tetri_cluster::{Name, NodeText};
 use tetri_logs::{SetText, Settings};
@@ -179,25 +181,53 @@ fn class_name(class: Class) -> &'static str
     }
 }
 
+// A number in decimal digits.
+fn write_number(text: &mut String, number: u64) -> Result<(), AllocError>
+    ensures { OnOk result (string_bytes text.new ≡ string_bytes text.old ++ decimal number) }
+{
+    text.push_str(Buffer::new().format(number))
+}
+
+// A number in decimal digits, with its sign where it is below zero.
+fn write_signed_number(text: &mut String, number: i32) -> Result<(), AllocError>
+    ensures { OnOk result (string_bytes text.new ≡ string_bytes text.old ++ signed_decimal number) }
+{
+    text.push_str(Buffer::new().format(number))
+}
+
+// The first words of what a job asks for: on how many nodes, for how long, and its worth.
 #[tactic(auto, unfolding(crate::specs::Text::wanted_text))]
 fn write_wanted(text: &mut String, k: u32, dur: u32, value: u64) -> Result<(), AllocError>
     ensures { OnOk result (string_bytes text.new ≡ string_bytes text.old ++ wanted_text k dur value) }
 {
-    write!(text, "{{\"k\":{k},\"dur\":{dur},\"value\":{value}")
+    text.push_str("{\"k\":")?;
+    write_number(text, u64::from(k))?;
+    text.push_str(",\"dur\":")?;
+    write_number(text, u64::from(dur))?;
+    text.push_str(",\"value\":")?;
+    write_number(text, value)
 }
 
+// The last words of what a job asks for: its deadline and its class.
 #[tactic(auto, unfolding(crate::specs::Text::due_text))]
 fn write_due(text: &mut String, deadline: u32, class: &str) -> Result<(), AllocError>
     ensures { OnOk result (string_bytes text.new ≡ string_bytes text.old ++ due_text deadline class.now) }
 {
-    write!(text, ",\"deadline\":{deadline},\"class\":\"{class}\"}}")
+    text.push_str(",\"deadline\":")?;
+    write_number(text, u64::from(deadline))?;
+    text.push_str(",\"class\":\"")?;
+    text.push_str(class)?;
+    text.push_str("\"}")
 }
 
+// The set of nodes that may serve.
 #[tactic(auto, unfolding(crate::specs::Text::named_set_text))]
 fn write_named_set(text: &mut String, set: &str) -> Result<(), AllocError>
     ensures { OnOk result (string_bytes text.new ≡ string_bytes text.old ++ named_set_text set.now) }
 {
-    write!(text, ",\"set\":\"{set}\"")
+    text.push_str(",\"set\":\"")?;
+    text.push_str(set)?;
+    text.push_str("\"")
 }
 
 // A set is written unless all nodes may serve.
@@ -235,18 +265,26 @@ fn write_work(
     }
 }
 
+// When a job arrives, and its name.
 #[tactic(auto, unfolding(crate::specs::Text::named_arrival_text))]
 fn write_named_arrival(text: &mut String, at: u32, name: &str) -> Result<(), AllocError>
     ensures { OnOk result (string_bytes text.new ≡ string_bytes text.old ++ named_arrival_text at name.now) }
 {
-    write!(text, "{{\"at\":{at},\"arrive\":\"{name}\"")
+    text.push_str("{\"at\":")?;
+    write_number(text, u64::from(at))?;
+    text.push_str(",\"arrive\":\"")?;
+    text.push_str(name)?;
+    text.push_str("\"")
 }
 
+// How many slots longer than asked for a job runs, and the key of what it asks for.
 #[tactic(auto, unfolding(crate::specs::Text::late_text))]
 fn write_late(text: &mut String, late: i32) -> Result<(), AllocError>
     ensures { OnOk result (string_bytes text.new ≡ string_bytes text.old ++ late_text late) }
 {
-    write!(text, ",\"late\":{late},\"ask\":")
+    text.push_str(",\"late\":")?;
+    write_signed_number(text, late)?;
+    text.push_str(",\"ask\":")
 }
 
 #[tactic(auto, unfolding(crate::specs::Text::closing_text))]
@@ -271,11 +309,16 @@ fn write_arrival(
     write_closing(text)
 }
 
+// When a job is cancelled, and its name.
 #[tactic(auto, unfolding(crate::specs::Text::named_cancel_text))]
 fn write_named_cancel(text: &mut String, at: u32, name: &str) -> Result<(), AllocError>
     ensures { OnOk result (string_bytes text.new ≡ string_bytes text.old ++ named_cancel_text at name.now) }
 {
-    writeln!(text, "{{\"at\":{at},\"cancel\":\"{name}\"}}")
+    text.push_str("{\"at\":")?;
+    write_number(text, u64::from(at))?;
+    text.push_str(",\"cancel\":\"")?;
+    text.push_str(name)?;
+    text.push_str("\"}\n")
 }
 
 fn write_cancel(text: &mut String, at: u32, job: &Job) -> Result<(), AllocError>
