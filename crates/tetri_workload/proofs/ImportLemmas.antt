@@ -1,7 +1,7 @@
 -- What follows of a trace that is read as what was taken.
-use Rattle.std.proofs.Common.{◌≡◌, ◌+◌, ◌∙◌, ◌++◌, ℕ, Bool, true, false, cond, List, [], length, map, ap, refl, sym, subst, arith, length-append}
+use Rattle.std.proofs.Common.{◌≡◌, ◌+◌, ◌∙◌, ◌++◌, ℕ, Bool, true, false, cond, List, length, map, ap, refl, sym, subst, arith, length-append}
 use Rattle.std.specs.Prelude.{string_bytes, None}
-use Rattle.std.proofs.lemmas.List.{append-nil, length-map}
+use Rattle.std.proofs.lemmas.List.{length-map}
 use Rattle.std.proofs.lemmas.List.Sorted.{length_permutation}
 use Rattle.tetri_base.specs.Lists.{count}
 use Rattle.tetri_cluster.specs.declared.cluster.NodeText.{NodeText}
@@ -11,7 +11,7 @@ use Rattle.tetri_logs.specs.Origin.{begun, gap_of}
 use Rattle.tetri_logs.specs.Reading.{entries, facts_in, is_comment, jobs_in, left_in, no_facts}
 use Rattle.tetri_logs.specs.declared.entry.Format.{Format}
 use Rattle.tetri_logs.specs.declared.reading.Log.{Log}
-use Rattle.tetri_workload.specs.First.{IsFirstOf}
+use Rattle.tetri_workload.specs.Head.{IsSaidBy}
 use Rattle.tetri_logs.specs.declared.entry.Reject.{Reject}
 use Rattle.tetri_logs.specs.declared.options.Options.{Options}
 use Rattle.tetri_logs.specs.declared.options.Settings.{Settings}
@@ -103,10 +103,9 @@ same_reading s r nodes t u text p q e read =
 
 -- what all lines of a log say
 pub all_lines : (mixed differ : Bool) (format : Format) (log : List ℕ) (l : Log) → differ ≡ mixed → l.jobs.items ≡ jobs_in (entries differ format log) → l.left.items ≡ left_in (entries differ format log)
-    → l.facts ≡ facts_in no_facts (entries differ format log) → l.comments ≡ count is_comment (entries differ format log) → IsFirstOf (entries mixed format log) [] l
+    → l.facts ≡ facts_in no_facts (entries differ format log) → l.comments ≡ count is_comment (entries differ format log) → IsSaidBy (entries mixed format log) l
 all_lines mixed differ format log l same jobs left facts comments =
-    subst (λ b. IsFirstOf (entries b format log) [] l) same
-    (record { jobs = append-nil l.jobs.items ∙ jobs; left = append-nil l.left.items ∙ left; facts = facts; comments = omega (arith, comments) })
+    subst (λ b. IsSaidBy (entries b format log) l) same (record { jobs = jobs; left = left; facts = facts; comments = comments })
 
 -- ---- what is taken in one order and another
 -- the tally but for what was left out, and that

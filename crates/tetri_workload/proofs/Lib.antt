@@ -3,6 +3,11 @@ pub mod OrderLemmas
 pub mod SameLemmas
 pub mod TakingLemmas
 pub mod FullLemmas
-pub mod TurnLemmas
+pub mod EntryLemmas
+pub mod InTurnLemmas
+pub mod BeginLemmas
+pub mod IntakeLemmas
+pub mod ReadLemmas
 pub mod ImportLemmas
+pub mod DrawnLemmas
 pub mod MarkLemmas

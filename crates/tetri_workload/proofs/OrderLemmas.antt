@@ -4,12 +4,12 @@ use Rattle.std.specs.Prelude.{All, filter, nat_le, if◌then◌else◌}
 use Rattle.std.specs.List.Sorted.{IsPermutation, IsSortedByKey, ties}
 use Rattle.std.proofs.lemmas.Bool.Decides.{nat_tests}
 use Rattle.std.proofs.lemmas.List.Elements.{All-head, All-tail, All-weaker, filter-append}
-use Rattle.std.proofs.lemmas.List.Sorted.{All-permutation, IsPermutation-append_left, IsPermutation-append_right, IsPermutation-cons, IsPermutation-map, IsPermutation-middle, IsPermutation-refl, IsPermutation-sym, IsPermutation-trans}
+use Rattle.std.proofs.lemmas.List.Sorted.{All-permutation, IsPermutation-append_left, IsPermutation-append_right, IsPermutation-cons, IsPermutation-map, IsPermutation-middle, IsPermutation-refl, IsPermutation-sym, IsPermutation-to_front, IsPermutation-trans}
 use Rattle.tetri_workload.specs.Ordering.{IsMoveBy, IsOrderBy}
 
 module _ {X : Type 0} (key : X → ℕ) where
   -- with one item more, before the first whose number is no lower
-  abbrev insert : X → List X → List X
+  abbrev pub insert : X → List X → List X
   insert x [] = x ∷ []
   insert x (y ∷ ys) = if nat_le (key x) (key y) then x ∷ y ∷ ys else y ∷ insert x ys
 
@@ -35,11 +35,11 @@ module _ {X : Type 0} (key : X → ℕ) where
   moved-ordered (x ∷ xs) = IsPermutation-trans _ _ _ (IsPermutation-cons x xs (ordered xs) (moved-ordered xs)) (moved-insert x (ordered xs))
 
   -- ---- in order
-  abbrev NoLower : ℕ → List X → Type 0
+  abbrev pub NoLower : ℕ → List X → Type 0
   NoLower n [] = Unit {0}
   NoLower n (y ∷ ys) = (n ≤ key y) × NoLower n ys
 
-  abbrev Rises : List X → Type 0
+  abbrev pub Rises : List X → Type 0
   Rises [] = Unit {0}
   Rises (y ∷ ys) = NoLower (key y) ys × Rises ys
 
@@ -66,7 +66,7 @@ module _ {X : Type 0} (key : X → ℕ) where
   rises-insert x (y ∷ ys) up =
       rises-by (nat_le (key x) (key y)) x y ys (insert x ys) refl up.0 up.1 (rises-insert x ys up.1) (λ below. no_lower-insert (key y) x ys below up.0)
 
-  rises-ordered : (xs : List X) → Rises (ordered xs)
+  pub rises-ordered : (xs : List X) → Rises (ordered xs)
   rises-ordered [] = tt
   rises-ordered (x ∷ xs) = rises-insert x (ordered xs) (rises-ordered xs)
 
@@ -187,6 +187,32 @@ module _ {X : Type 0} (key : X → ℕ) where
   IsMoveBy-before behind xs ys same = record {
     moved = IsPermutation-append_left behind xs ys same.moved;
     stable = λ z. filter-append (tied key z) ys behind ∙ ap (λ us. us ++ filter (tied key z) behind) (same.stable z) ∙ sym (filter-append (tied key z) xs behind);
+  }
+
+  -- back to the order before
+  pub IsMoveBy-sym : (xs ys : List X) → IsMoveBy key xs ys → IsMoveBy key ys xs
+  IsMoveBy-sym xs ys same = record { moved = IsPermutation-sym xs ys same.moved; stable = λ z. sym (same.stable z) }
+
+  -- two moves, one after the other
+  pub IsMoveBy-trans : (xs ys zs : List X) → IsMoveBy key xs ys → IsMoveBy key ys zs → IsMoveBy key xs zs
+  IsMoveBy-trans xs ys zs one two = record { moved = IsPermutation-trans xs ys zs one.moved two.moved; stable = λ z. two.stable z ∙ one.stable z }
+
+  -- what passes a test, where an item goes behind others that do not pass where it does
+  filter-past : (p : X → Bool) (x : X) (ys : List X) → All (λ y. p x ≡ true → p y ≡ true → ⊥) ys → filter p (ys ++ x ∷ []) ≡ filter p (x ∷ ys)
+  filter-past p x [] apart = refl
+  filter-past p x (y ∷ ys) apart =
+      filter-by key false (p x) (p y) x y (filter p ys) (filter p (ys ++ x ∷ [])) (λ same. All-head (λ z. p x ≡ true → p z ≡ true → ⊥) y ys apart)
+      (filter-past p x ys (All-tail (λ z. p x ≡ true → p z ≡ true → ⊥) y ys apart))
+
+  -- of two items with different numbers at most one has a third item's number
+  both_tied : (z x y : X) → (key x ≡ key y → ⊥) → tied key z x ≡ true → tied key z y ≡ true → ⊥
+  both_tied z x y differ one two = differ (grind (arith, nat_tests, one, two))
+
+  -- an item goes behind others that have other numbers
+  pub IsMoveBy-past : (x : X) (ys : List X) → All (λ y. key x ≡ key y → ⊥) ys → IsMoveBy key (x ∷ ys) (ys ++ x ∷ [])
+  IsMoveBy-past x ys differ = record {
+    moved = IsPermutation-sym (ys ++ x ∷ []) (x ∷ ys) (IsPermutation-to_front ys x);
+    stable = λ z. filter-past (tied key z) x ys (All-weaker (λ y. key x ≡ key y → ⊥) (λ y. tied key z x ≡ true → tied key z y ≡ true → ⊥) (λ y apart. both_tied z x y apart) ys differ);
   }
 
   -- both have one order

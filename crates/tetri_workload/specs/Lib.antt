@@ -3,7 +3,7 @@ pub mod Known
 pub mod Partitions
 pub mod Marks
 pub mod Taking
-pub mod First
+pub mod Head
 pub mod Reading
 pub mod Ordering
 pub mod Saying

@@ -1,12 +1,15 @@
 // From a log to a trace.
-ghost use Rattle.std.specs.Prelude.{◌≡◌, ◌+◌, ◌<◌, ◌^◌, ◌++◌, [], All, IfErr, IfOk, IfSome, IsTrue, List, OnOk, length, ℕ};
+ghost use Rattle.std.specs.Prelude.{◌≡◌, ◌+◌, ◌<◌, ◌≤◌, ◌^◌, ◌++◌, All, Contains, IfErr, IfOk, IfSome, List, OnOk, Some, ℕ};
 ghost use Rattle.tetri_base.specs.Lists.{count};
 ghost use Rattle.tetri_logs.specs.Options.{AreGood};
-ghost use Rattle.tetri_logs.specs.Reading.{entries, facts_in, is_comment, jobs_in, left_in, no_facts};
+ghost use Rattle.tetri_logs.specs.Entry.{entries_in};
+ghost use Rattle.tetri_logs.specs.Origin.{begun_with};
+ghost use Rattle.tetri_logs.specs.Reading.{AreTimedByLine, entries, is_comment, jobs_in};
+ghost use Rattle.tetri_logs.specs.declared.entry.LoggedJob.{LoggedJob};
 ghost use Rattle.tetri_logs.specs.declared.entry.Entry.{Entry};
 ghost use Rattle.tetri_logs.specs.declared.entry.Format.{Format};
 ghost use Rattle.tetri_logs.specs.declared.options.Options.{Options};
-ghost use Rattle.tetri_workload.specs.First.{IsFirstOf};
+ghost use Rattle.tetri_workload.specs.Head.{IsHead, IsSaidBy};
 ghost use Rattle.tetri_workload.specs.Import.{IsDrawn, IsImport, IsImportOn, IsRefused};
 ghost use Rattle.tetri_workload.specs.Kinds.{are_mixed, fitted};
 ghost use Rattle.tetri_workload.specs.Known.{AreKnown};
@@ -14,7 +17,9 @@ ghost use Rattle.tetri_workload.specs.Saying.{IsAsked};
 ghost use Rattle.tetri_workload.specs.Taking.{so_far};
 
 use crate::confirming::is_read_as;
-use crate::first::{First, first_lines};
+use crate::ends::seems_turned;
+use crate::head::{Head, head_of};
+use crate::intake::Halt;
 use crate::kinds::{Kinds, are_mixed, fitted};
 use crate::ordering::{by_line, by_slot, by_submission};
 use crate::reading::Reading;
@@ -24,8 +29,8 @@ use std::alloc::{AllocError, Global};
 use std::mem;
 use tetri_cluster::NodeText;
 use tetri_logs::{
-    Facts, Format, Log, OptionFault, Options, Reject, Settings, Walk, begun, begun_with,
-    early_fault, gap_of, read_log, settings_of,
+    Entries, Format, Log, LoggedJob, OptionFault, Options, Reject, Settings, Walk, begun,
+    begun_with, early_fault, gap_of, read_log, settings_of,
 };
 
 /// Why a log is not imported.
@@ -109,8 +114,8 @@ fn draw_listed(
 ) -> Result<Drawn, ImportFault>
     requires { AreKnown nodes.now kinds.old }
     ensures known { OnOk result (AreKnown nodes.now kinds.new) }
-    ensures drawn { IfOk result (λ drawn. (es : List Entry) → IsFirstOf es [] log.entry → IsDrawn es nodes.now options.now drawn) }
-    ensures refused { IfErr result (λ fault. (es : List Entry) → IsFirstOf es [] log.entry → IsRefused es nodes.now options.now fault) }
+    ensures drawn { IfOk result (λ drawn. (es : List Entry) → IsSaidBy es log.entry → IsDrawn es nodes.now options.now drawn) }
+    ensures refused { IfErr result (λ fault. (es : List Entry) → IsSaidBy es log.entry → IsRefused es nodes.now options.now fault) }
 {
     let draft = settings_of(options, log.facts)?;
     let mut jobs = kinds.settle(alloc, nodes, log.jobs)?;
@@ -147,53 +152,55 @@ fn draw_sorted(
     draw_listed(alloc, kinds, options, nodes, log)
 }
 
-fn are_same(one: Facts, other: Facts) -> bool
-    ensures { IsTrue result → one ≡ other }
+// With slot 0 at the first of these jobs that may begin.
+fn begun_by(draft: &Settings, jobs: &[LoggedJob<'_>]) -> Option<Settings>
+    requires { AreGood draft.now }
+    ensures begun { IfSome result (λ s. (job : LoggedJob) × Contains jobs.now job × (begun_with draft.now job.account ≡ Some s)) }
+    ensures good { IfSome result AreGood }
+    ensures small { IfSome result (λ s. s.origin < 2 ^ 33) }
 {
-    one == other
+    for job in jobs {
+        if let Some(settings) = begun_with(draft, job.account) {
+            return Some(settings);
+        }
+    }
+    None
 }
 
-// What is taken of a log by a list of its first jobs alone. Nothing where a job behind them comes out of its turn, a comment there says
-// something of the cluster, or the first job does not begin the trace.
-fn draw_in_turn(
+// What is taken of a log whose jobs are taken as they come, where its first lines and that of its first job are read.
+fn draw_in_turn<'a>(
     alloc: Global,
     kinds: &mut Kinds,
     options: &Options,
     nodes: &[NodeText],
-    first: Log<'_>,
-    walk: &mut Walk<'_>,
-) -> Result<Option<Drawn>, AllocError>
+    head: Log<'a>,
+    first: Entries<'a>,
+    walk: &mut Walk<'a>,
+) -> Result<Drawn, Halt>
     requires known { AreKnown nodes.now kinds.old }
-    requires few { first.comments + walk.old.bytes < 2 ^ 64 }
+    requires few { head.comments + walk.old.bytes + 1 < 2 ^ 64 }
+    requires one { count is_comment (entries_in first) ≤ 1 }
     ensures known { OnOk result (AreKnown nodes.now kinds.new) }
-    ensures drawn { IfOk result (λ drawn. IfSome drawn (λ d. (es : List Entry) → IsFirstOf es walk.old.entries first.entry → IsDrawn es nodes.now options.now d)) }
+    ensures drawn { IfOk result (λ drawn. (es : List Entry) → AreTimedByLine (jobs_in es) → IsHead es (entries_in first.entry ++ walk.old.entries) head.entry → IsDrawn es nodes.now options.now drawn) }
 {
-    let facts = first.facts;
-    let Ok(draft) = settings_of(options, facts) else {
-        return Ok(None);
+    let Ok(draft) = settings_of(options, head.facts) else {
+        return Err(Halt::OutOfTurn);
     };
-    let mut first_jobs = kinds.settle(alloc, nodes, first.jobs)?;
-    by_submission(&mut first_jobs)?;
-    let Some(job) = first_jobs.first() else {
-        return Ok(None);
+    let mut read = Reading::new(alloc, options, head)?;
+    read.add(alloc, kinds, &draft, nodes, false, first)?;
+    let ended = read.add_lines(alloc, kinds, &draft, nodes, false, walk)?;
+    read.sort()?;
+    let Some(settings) = begun_by(&draft, &read.intake.held) else {
+        return Err(Halt::OutOfTurn);
     };
-    let account = job.account;
-    let Some(settings) = begun_with(&draft, account) else {
-        return Ok(None);
-    };
-    let mut read = Reading::new(alloc, first.left, facts, first.comments, account.submit)?;
-    if !read.add_in_turn(alloc, kinds, &settings, nodes, first_jobs, walk)? {
-        return Ok(None);
-    }
-    if !are_same(read.facts, facts) {
-        return Ok(None);
-    }
-    Ok(Some(Drawn {
+    read.finish(alloc, kinds, &settings, nodes, walk, ended)?;
+    let intake = read.intake;
+    Ok(Drawn {
         settings,
-        taken: read.taken,
+        taken: intake.taken,
         left: read.left,
         comments: read.comments,
-    }))
+    })
 }
 
 // What is taken of a log.
@@ -210,16 +217,21 @@ fn draw(
     ensures drawn { IfOk result (IsDrawn (entries (are_mixed nodes.now) format log.now) nodes.now options.now) }
     ensures refused { IfErr result (IsRefused (entries (are_mixed nodes.now) format log.now) nodes.now options.now) }
 {
-    let mut walk = Walk::new(alloc, are_mixed(nodes), format, log);
-    let Some(First { log: first, ended }) = first_lines(alloc, &mut walk)? else {
+    if seems_turned(alloc, format, log)? {
         return draw_sorted(alloc, kinds, format, options, nodes, log);
-    };
-    if ended {
-        return draw_listed(alloc, kinds, options, nodes, first);
     }
-    match draw_in_turn(alloc, kinds, options, nodes, first, &mut walk)? {
-        Some(drawn) => Ok(drawn),
-        None => draw_sorted(alloc, kinds, format, options, nodes, log),
+    let mut walk = Walk::new(alloc, are_mixed(nodes), format, log);
+    let Head { log: head, first } = head_of(alloc, &mut walk)?;
+    let Some(first) = first else {
+        return draw_listed(alloc, kinds, options, nodes, head);
+    };
+    match draw_in_turn(alloc, kinds, options, nodes, head, first, &mut walk) {
+        Ok(drawn) => Ok(drawn),
+        Err(Halt::NoMemory) => Err(ImportFault::NoMemory),
+        Err(Halt::OutOfTurn) => {
+            *kinds = Kinds::new(alloc);
+            draw_sorted(alloc, kinds, format, options, nodes, log)
+        }
     }
 }
 

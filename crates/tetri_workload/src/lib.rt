@@ -2,8 +2,10 @@
 #![tactic(auto)]
 
 mod confirming;
-mod first;
+mod ends;
+mod head;
 mod importing;
+mod intake;
 mod kinds;
 mod marks;
 mod ordering;

@@ -1,126 +1,93 @@
-// What is taken of a log line by line, where its jobs stand in order of submission until the trace is full.
-ghost use Rattle.std.specs.Prelude.{◌≡◌, ◌+◌, ◌<◌, ◌≤◌, ◌^◌, ◌++◌, ◌∷◌, [], List, IfOk, IfSome, IsTrue, OnOk, fold, true};
+// What the lines of a log say, as they are read.
+ghost use Rattle.std.specs.Prelude.{◌≡◌, ◌↔◌, ◌+◌, ◌<◌, ◌≤◌, ◌^◌, ◌++◌, ◌∷◌, [], IfOk, IsTrue, List, OnOk, cond, false, length, true, ℕ};
 ghost use Rattle.tetri_base.specs.Lists.{count};
 ghost use Rattle.tetri_logs.specs.Entry.{entries_in};
 ghost use Rattle.tetri_logs.specs.Options.{AreGood};
-ghost use Rattle.tetri_logs.specs.Reading.{facts_in, is_comment, left_in};
-ghost use Rattle.tetri_logs.specs.declared.entry.LoggedJob.{LoggedJob};
-ghost use Rattle.tetri_workload.specs.Kinds.{are_mixed, settled_all};
+ghost use Rattle.tetri_logs.specs.Origin.{begun_at};
+ghost use Rattle.tetri_cluster.specs.declared.cluster.NodeText.{NodeText};
+ghost use Rattle.tetri_logs.specs.Reading.{is_comment, jobs_in};
+ghost use Rattle.tetri_logs.specs.declared.entry.Entry.{Entry};
+ghost use Rattle.tetri_logs.specs.declared.options.Options.{Options};
+ghost use Rattle.tetri_logs.specs.declared.options.Settings.{Settings};
+ghost use Rattle.tetri_workload.specs.Head.{IsSaidBy};
 ghost use Rattle.tetri_workload.specs.Known.{AreKnown};
-ghost use Rattle.tetri_workload.specs.Reading.{ComeInTurn, IsInTurn, first_turn, jobs_of, turn_behind};
-ghost use Rattle.tetri_workload.specs.Taking.{HasMarks, nothing_taken, so_far, with_logged};
+ghost use Rattle.tetri_workload.specs.Reading.{IsRead, IsReadOf, behind};
+ghost use Rattle.tetri_workload.specs.Taking.{HasMarks};
 
-use crate::first::is_comment;
-use crate::kinds::{Kinds, are_mixed};
-use crate::taking::Taken;
+use crate::intake::{Halt, Intake};
+use crate::kinds::Kinds;
+use crate::ordering::by_submission;
 use std::alloc::{AllocError, Global};
 use tetri_cluster::NodeText;
-use tetri_logs::{Entries, Entry, Facts, LoggedJob, Reject, Settings, Walk, is_in_run, with_fact};
+use tetri_logs::{Entries, Entry, Facts, Log, Options, Reject, Settings, Walk, with_fact};
 
-/// Which jobs come in their turn, by the seconds of the log's clock.
-#[derive(Clone, Copy)]
-pub struct Turn {
-    /// When the last job was submitted that found the trace not full yet.
-    pub last: u32,
-    /// The latest submission so far.
-    pub high: u32,
-    /// The last line of a job so far.
-    pub line: usize,
-}
+// As many jobs are held back before some are handled.
+const MOST_HELD: usize = 131_072;
 
-impl Turn {
-    // Whether a job comes in its turn.
-    #[inline(always)]
-    fn is_of(&self, settings: &Settings, job: &LoggedJob<'_>) -> bool
-        requires small { settings.now.origin < 2 ^ 33 }
-        requires good { AreGood settings.now }
-        ensures { IsTrue result → IsInTurn settings.now self.now job.now }
-    {
-        let submit = job.account.submit;
-        self.last <= submit
-            && (self.high <= submit || self.line < job.line)
-            && is_in_run(settings, job.account)
-    }
+// As many are still held back then.
+const STILL_HELD: usize = 65_536;
 
-    // The turn of the job behind this one.
-    #[inline(always)]
-    fn pass(&mut self, settings: &Settings, taken: &Taken, job: &LoggedJob<'_>)
-        ensures { self.new ≡ turn_behind settings.now (so_far taken.now) self.old job.now }
-    {
-        let submit = job.account.submit;
-        if !taken.is_full(settings) {
-            self.last = submit;
-        }
-        self.high = self.high.max(submit);
-        self.line = self.line.max(job.line);
-    }
-}
-
-/// What is taken of the lines so far, and what they say besides.
+/// What the lines so far say, and what is taken of their jobs.
 #[derive(Drop)]
-pub struct Reading {
-    pub taken: Taken,
+pub struct Reading<'a> {
+    pub intake: Intake<'a>,
+    /// Why lines, or tasks of a line, bring no job, in the order of the log.
     pub left: Vec<Reject>,
     pub facts: Facts,
     pub comments: usize,
-    /// The turn of the next job.
-    pub turn: Turn,
 }
 
-impl Reading {
-    // A job, if it comes in its turn.
-    #[inline(always)]
-    fn add_settled(
-        &mut self,
+fn are_same(one: Facts, other: Facts) -> bool
+    ensures { IsTrue result ↔ (one ≡ other) }
+{
+    one == other
+}
+
+// How many jobs are still held back: none where the trace is full.
+fn still_held(full: bool) -> usize
+    ensures { result ≡ cond full 0 65536 }
+{
+    if full { 0 } else { STILL_HELD }
+}
+
+fn is_comment(entry: &Entry<'_>) -> bool
+    ensures { result ≡ is_comment entry.now }
+{
+    matches!(entry, Entry::Comment(_))
+}
+
+impl<'a> Reading<'a> {
+    /// What stands before the first job.
+    pub(crate) fn new(
         alloc: Global,
-        settings: &Settings,
-        job: LoggedJob<'_>,
-    ) -> Result<bool, AllocError>
-        requires good { AreGood settings.now }
-        requires small { settings.now.origin < 2 ^ 33 }
-        requires marks { HasMarks self.old.taken }
-        ensures tally { IfOk result (λ in_turn. in_turn ≡ true → so_far self.new.taken ≡ with_logged settings.now (so_far self.old.taken) job.entry) }
-        ensures marks { IfOk result (λ in_turn. in_turn ≡ true → HasMarks self.new.taken) }
-        ensures left { IfOk result (λ in_turn. in_turn ≡ true → self.new.left ≡ self.old.left) }
-        ensures facts { IfOk result (λ in_turn. in_turn ≡ true → self.new.facts ≡ self.old.facts) }
-        ensures comments { IfOk result (λ in_turn. in_turn ≡ true → self.new.comments ≡ self.old.comments) }
-        ensures turn { IfOk result (λ in_turn. in_turn ≡ true → (jobs : List LoggedJob) → ComeInTurn settings.now (so_far self.new.taken) self.new.turn jobs → ComeInTurn settings.now (so_far self.old.taken) self.old.turn (job.entry ∷ jobs)) }
+        options: &Options,
+        head: Log<'a>,
+    ) -> Result<Reading<'a>, AllocError>
+        ensures read { IfOk result (λ r. (s : Settings) → (nodes : List NodeText) → (first : List Entry) → jobs_in first ≡ [] → IsSaidBy first head.entry → IsRead s options.now nodes first r) }
+        ensures marks { IfOk result (λ r. HasMarks r.intake.taken) }
+        ensures facts { IfOk result (λ r. r.facts ≡ head.entry.facts) }
+        ensures comments { IfOk result (λ r. r.comments ≡ head.entry.comments) }
     {
-        if !self.turn.is_of(settings, &job) {
-            return Ok(false);
-        }
-        self.turn.pass(settings, &self.taken, &job);
-        self.taken.add(alloc, settings, job)?;
-        Ok(true)
+        Ok(Reading {
+            intake: Intake::new(alloc, options)?,
+            left: head.left,
+            facts: head.facts,
+            comments: head.comments,
+        })
     }
 
-    // The same of a job whose set is not looked up yet.
-    #[inline(always)]
-    fn add_job(
-        &mut self,
-        alloc: Global,
-        kinds: &mut Kinds,
-        settings: &Settings,
-        nodes: &[NodeText],
-        job: LoggedJob<'_>,
-    ) -> Result<bool, AllocError>
-        requires good { AreGood settings.now }
-        requires small { settings.now.origin < 2 ^ 33 }
-        requires marks { HasMarks self.old.taken }
-        requires known { AreKnown nodes.now kinds.old }
-        ensures known { OnOk result (AreKnown nodes.now kinds.new) }
-        ensures tally { IfOk result (λ in_turn. in_turn ≡ true → so_far self.new.taken ≡ fold (with_logged settings.now) (so_far self.old.taken) (settled_all nodes.now (job.entry ∷ []))) }
-        ensures marks { IfOk result (λ in_turn. in_turn ≡ true → HasMarks self.new.taken) }
-        ensures left { IfOk result (λ in_turn. in_turn ≡ true → self.new.left ≡ self.old.left) }
-        ensures facts { IfOk result (λ in_turn. in_turn ≡ true → self.new.facts ≡ self.old.facts) }
-        ensures comments { IfOk result (λ in_turn. in_turn ≡ true → self.new.comments ≡ self.old.comments) }
-        ensures turn { IfOk result (λ in_turn. in_turn ≡ true → (jobs : List LoggedJob) → ComeInTurn settings.now (so_far self.new.taken) self.new.turn jobs → ComeInTurn settings.now (so_far self.old.taken) self.old.turn (settled_all nodes.now (job.entry ∷ []) ++ jobs)) }
+    // A line, or a task, that brings no job.
+    fn leave(&mut self, reject: Reject) -> Result<(), AllocError>
+        ensures left { OnOk result (self.new.left.items ≡ self.old.left.items ++ reject ∷ []) }
+        ensures facts { self.new.facts ≡ self.old.facts }
+        ensures comments { self.new.comments ≡ self.old.comments }
+        ensures intake { self.new.intake ≡ self.old.intake }
     {
-        let job = kinds.settle_one(alloc, nodes, job)?;
-        self.add_settled(alloc, settings, job)
+        self.left.push(reject)?;
+        Ok(())
     }
 
-    // What an entry says, if its job comes in its turn.
+    // What an entry says. A comment may change nothing that is known of the log.
     #[inline(always)]
     fn add_entry(
         &mut self,
@@ -128,204 +95,186 @@ impl Reading {
         kinds: &mut Kinds,
         settings: &Settings,
         nodes: &[NodeText],
-        found: Entry<'_>,
-    ) -> Result<bool, AllocError>
+        known: bool,
+        found: Entry<'a>,
+    ) -> Result<(), Halt>
         requires good { AreGood settings.now }
-        requires small { settings.now.origin < 2 ^ 33 }
-        requires marks { HasMarks self.old.taken }
+        requires small { known ≡ true → settings.now.origin < 2 ^ 33 }
+        requires marks { HasMarks self.old.intake.taken }
         requires known { AreKnown nodes.now kinds.old }
         requires few { self.old.comments + 1 < 2 ^ 64 }
         ensures known { OnOk result (AreKnown nodes.now kinds.new) }
-        ensures tally { IfOk result (λ in_turn. in_turn ≡ true → so_far self.new.taken ≡ fold (with_logged settings.now) (so_far self.old.taken) (jobs_of nodes.now (found.entry ∷ []))) }
-        ensures marks { IfOk result (λ in_turn. in_turn ≡ true → HasMarks self.new.taken) }
-        ensures left { IfOk result (λ in_turn. in_turn ≡ true → self.new.left.items ≡ self.old.left.items ++ left_in (found.entry ∷ [])) }
-        ensures facts { IfOk result (λ in_turn. in_turn ≡ true → self.new.facts ≡ facts_in self.old.facts (found.entry ∷ [])) }
-        ensures comments { IfOk result (λ in_turn. in_turn ≡ true → self.new.comments ≡ self.old.comments + count is_comment (found.entry ∷ [])) }
-        ensures turn { IfOk result (λ in_turn. in_turn ≡ true → (jobs : List LoggedJob) → ComeInTurn settings.now (so_far self.new.taken) self.new.turn jobs → ComeInTurn settings.now (so_far self.old.taken) self.old.turn (jobs_of nodes.now (found.entry ∷ []) ++ jobs)) }
+        ensures marks { OnOk result (HasMarks self.new.intake.taken) }
+        ensures facts { OnOk result (self.new.facts ≡ self.old.facts) }
+        ensures comments { OnOk result (self.new.comments ≡ self.old.comments + count is_comment (found.entry ∷ [])) }
+        ensures read { OnOk result ((x : ℕ) → (known ≡ true → x ≡ settings.now.origin) → (o : Options) → (es : List Entry) → IsRead (begun_at settings.now x) o nodes.now es self.old → IsRead (begun_at settings.now x) o nodes.now (es ++ found.entry ∷ []) self.new) }
     {
         match found {
-            Entry::Job(job) => self.add_job(alloc, kinds, settings, nodes, job),
+            Entry::Job(job) => {
+                let job = kinds.settle_one(alloc, nodes, job)?;
+                self.intake.add(alloc, settings, known, job)?;
+                Ok(())
+            }
             Entry::Comment(fact) => {
-                self.facts = with_fact(self.facts, fact);
+                if !are_same(self.facts, with_fact(self.facts, fact)) {
+                    return Err(Halt::OutOfTurn);
+                }
                 self.comments += 1;
-                Ok(true)
+                Ok(())
             }
             Entry::Left(reject) => {
-                self.left.push(reject)?;
-                Ok(true)
+                self.leave(reject)?;
+                Ok(())
             }
         }
     }
 
-    // What the tasks of a line say, if none is a comment and their jobs come in their turn.
+    // What the tasks of a line say, of which none is a comment.
     fn add_tasks(
         &mut self,
         alloc: Global,
         kinds: &mut Kinds,
         settings: &Settings,
         nodes: &[NodeText],
-        tasks: Vec<Entry<'_>>,
-    ) -> Result<bool, AllocError>
+        known: bool,
+        tasks: Vec<Entry<'a>>,
+    ) -> Result<(), Halt>
         requires good { AreGood settings.now }
-        requires small { settings.now.origin < 2 ^ 33 }
-        requires marks { HasMarks self.old.taken }
+        requires small { known ≡ true → settings.now.origin < 2 ^ 33 }
+        requires marks { HasMarks self.old.intake.taken }
         requires known { AreKnown nodes.now kinds.old }
         requires few { self.old.comments + 1 < 2 ^ 64 }
         ensures known { OnOk result (AreKnown nodes.now kinds.new) }
-        ensures tally { IfOk result (λ in_turn. in_turn ≡ true → so_far self.new.taken ≡ fold (with_logged settings.now) (so_far self.old.taken) (jobs_of nodes.now tasks.entry.items)) }
-        ensures marks { IfOk result (λ in_turn. in_turn ≡ true → HasMarks self.new.taken) }
-        ensures left { IfOk result (λ in_turn. in_turn ≡ true → self.new.left.items ≡ self.old.left.items ++ left_in tasks.entry.items) }
-        ensures facts { IfOk result (λ in_turn. in_turn ≡ true → self.new.facts ≡ facts_in self.old.facts tasks.entry.items) }
-        ensures comments { IfOk result (λ in_turn. in_turn ≡ true → self.new.comments ≡ self.old.comments + count is_comment tasks.entry.items) }
-        ensures turn { IfOk result (λ in_turn. in_turn ≡ true → (jobs : List LoggedJob) → ComeInTurn settings.now (so_far self.new.taken) self.new.turn jobs → ComeInTurn settings.now (so_far self.old.taken) self.old.turn (jobs_of nodes.now tasks.entry.items ++ jobs)) }
+        ensures marks { OnOk result (HasMarks self.new.intake.taken) }
+        ensures facts { OnOk result (self.new.facts ≡ self.old.facts) }
+        ensures comments { OnOk result (self.new.comments ≡ self.old.comments + count is_comment tasks.entry.items) }
+        ensures read { OnOk result ((x : ℕ) → (known ≡ true → x ≡ settings.now.origin) → (o : Options) → (es : List Entry) → IsRead (begun_at settings.now x) o nodes.now es self.old → IsRead (begun_at settings.now x) o nodes.now (es ++ tasks.entry.items) self.new) }
     {
         for entry in tasks {
             if is_comment(&entry) {
-                return Ok(false);
+                return Err(Halt::OutOfTurn);
             }
-            if !self.add_entry(alloc, kinds, settings, nodes, entry)? {
-                return Ok(false);
-            }
+            self.add_entry(alloc, kinds, settings, nodes, known, entry)?;
         }
-        Ok(true)
+        Ok(())
     }
 
-    // What a line says, if its jobs come in their turn.
+    /// What a line says.
     #[inline(always)]
-    fn add(
+    pub(crate) fn add(
         &mut self,
         alloc: Global,
         kinds: &mut Kinds,
         settings: &Settings,
         nodes: &[NodeText],
-        found: Entries<'_>,
-    ) -> Result<bool, AllocError>
+        known: bool,
+        found: Entries<'a>,
+    ) -> Result<(), Halt>
         requires good { AreGood settings.now }
-        requires small { settings.now.origin < 2 ^ 33 }
-        requires marks { HasMarks self.old.taken }
+        requires small { known ≡ true → settings.now.origin < 2 ^ 33 }
+        requires marks { HasMarks self.old.intake.taken }
         requires known { AreKnown nodes.now kinds.old }
         requires few { self.old.comments + 1 < 2 ^ 64 }
         ensures known { OnOk result (AreKnown nodes.now kinds.new) }
-        ensures tally { IfOk result (λ in_turn. in_turn ≡ true → so_far self.new.taken ≡ fold (with_logged settings.now) (so_far self.old.taken) (jobs_of nodes.now (entries_in found.entry))) }
-        ensures marks { IfOk result (λ in_turn. in_turn ≡ true → HasMarks self.new.taken) }
-        ensures left { IfOk result (λ in_turn. in_turn ≡ true → self.new.left.items ≡ self.old.left.items ++ left_in (entries_in found.entry)) }
-        ensures facts { IfOk result (λ in_turn. in_turn ≡ true → self.new.facts ≡ facts_in self.old.facts (entries_in found.entry)) }
-        ensures comments { IfOk result (λ in_turn. in_turn ≡ true → self.new.comments ≡ self.old.comments + count is_comment (entries_in found.entry)) }
-        ensures turn { IfOk result (λ in_turn. in_turn ≡ true → (jobs : List LoggedJob) → ComeInTurn settings.now (so_far self.new.taken) self.new.turn jobs → ComeInTurn settings.now (so_far self.old.taken) self.old.turn (jobs_of nodes.now (entries_in found.entry) ++ jobs)) }
+        ensures marks { OnOk result (HasMarks self.new.intake.taken) }
+        ensures facts { OnOk result (self.new.facts ≡ self.old.facts) }
+        ensures comments { OnOk result (self.new.comments ≡ self.old.comments + count is_comment (entries_in found.entry)) }
+        ensures read { OnOk result ((x : ℕ) → (known ≡ true → x ≡ settings.now.origin) → (o : Options) → (es : List Entry) → IsRead (begun_at settings.now x) o nodes.now es self.old → IsRead (begun_at settings.now x) o nodes.now (es ++ entries_in found.entry) self.new) }
     {
         match found {
-            Entries::One(entry) => self.add_entry(alloc, kinds, settings, nodes, entry),
-            Entries::Tasks(tasks) => self.add_tasks(alloc, kinds, settings, nodes, tasks),
+            Entries::One(entry) => self.add_entry(alloc, kinds, settings, nodes, known, entry)?,
+            Entries::Tasks(tasks) => {
+                self.add_tasks(alloc, kinds, settings, nodes, known, tasks)?
+            }
         }
+        Ok(())
     }
 
-    // What the lines say that are not read yet, if their jobs come in their turn.
-    fn add_all(
+    /// What the lines say that are not read yet, until so many jobs are held back as may be, and whether there are no other lines.
+    pub(crate) fn add_lines(
         &mut self,
         alloc: Global,
         kinds: &mut Kinds,
         settings: &Settings,
         nodes: &[NodeText],
-        walk: &mut Walk<'_>,
-    ) -> Result<bool, AllocError>
+        known: bool,
+        walk: &mut Walk<'a>,
+    ) -> Result<bool, Halt>
         requires good { AreGood settings.now }
-        requires small { settings.now.origin < 2 ^ 33 }
-        requires marks { HasMarks self.old.taken }
+        requires small { known ≡ true → settings.now.origin < 2 ^ 33 }
+        requires marks { HasMarks self.old.intake.taken }
         requires known { AreKnown nodes.now kinds.old }
         requires few { self.old.comments + walk.old.bytes < 2 ^ 64 }
         ensures known { OnOk result (AreKnown nodes.now kinds.new) }
-        ensures tally { IfOk result (λ in_turn. in_turn ≡ true → so_far self.new.taken ≡ fold (with_logged settings.now) (so_far self.old.taken) (jobs_of nodes.now walk.old.entries)) }
-        ensures left { IfOk result (λ in_turn. in_turn ≡ true → self.new.left.items ≡ self.old.left.items ++ left_in walk.old.entries) }
-        ensures facts { IfOk result (λ in_turn. in_turn ≡ true → self.new.facts ≡ facts_in self.old.facts walk.old.entries) }
-        ensures comments { IfOk result (λ in_turn. in_turn ≡ true → self.new.comments ≡ self.old.comments + count is_comment walk.old.entries) }
-        ensures turns { IfOk result (λ in_turn. in_turn ≡ true → ComeInTurn settings.now (so_far self.old.taken) self.old.turn (jobs_of nodes.now walk.old.entries)) }
+        ensures marks { OnOk result (HasMarks self.new.intake.taken) }
+        ensures facts { OnOk result (self.new.facts ≡ self.old.facts) }
+        ensures few { IfOk result (λ ended. ended ≡ false → self.new.comments + walk.new.bytes ≤ self.old.comments + walk.old.bytes) }
+        ensures shorter { IfOk result (λ ended. ended ≡ false → length self.old.intake.held.items < 131072 → walk.new.bytes < walk.old.bytes) }
+        ensures read { IfOk result (λ ended. (x : ℕ) → (known ≡ true → x ≡ settings.now.origin) → (o : Options) → (es : List Entry) → IsReadOf (begun_at settings.now x) o nodes.now es walk.old.entries self.old → IsReadOf (begun_at settings.now x) o nodes.now es (behind ended walk.new.entries) self.new) }
     {
-        while let Some(found) = walk.next(alloc)? {
-            if !self.add(alloc, kinds, settings, nodes, found)? {
-                return Ok(false);
-            }
+        while self.intake.held.len() < MOST_HELD {
+            let Some(found) = walk.next(alloc)? else {
+                return Ok(true);
+            };
+            self.add(alloc, kinds, settings, nodes, known, found)?;
         }
-        Ok(true)
+        Ok(false)
     }
 
-    // These jobs, if they come in their turn.
-    fn add_jobs(
-        &mut self,
-        alloc: Global,
-        settings: &Settings,
-        jobs: Vec<LoggedJob<'_>>,
-    ) -> Result<bool, AllocError>
+    /// Puts the jobs that are held back in order of submission.
+    pub(crate) fn sort(&mut self) -> Result<(), AllocError>
+        ensures marks { HasMarks self.old.intake.taken → OnOk result (HasMarks self.new.intake.taken) }
+        ensures facts { OnOk result (self.new.facts ≡ self.old.facts) }
+        ensures comments { OnOk result (self.new.comments ≡ self.old.comments) }
+        ensures read { OnOk result ((s : Settings) → (o : Options) → (nodes : List NodeText) → (es : List Entry) → IsRead s o nodes es self.old → IsRead s o nodes es self.new) }
+    {
+        by_submission(&mut self.intake.held)?;
+        Ok(())
+    }
+
+    // The jobs that are held back, in order of submission, until so many are left, if they come in their turn.
+    fn release(&mut self, alloc: Global, settings: &Settings, left: usize) -> Result<(), Halt>
         requires good { AreGood settings.now }
         requires small { settings.now.origin < 2 ^ 33 }
-        requires marks { HasMarks self.old.taken }
-        ensures tally { IfOk result (λ in_turn. in_turn ≡ true → so_far self.new.taken ≡ fold (with_logged settings.now) (so_far self.old.taken) jobs.entry.items) }
-        ensures marks { IfOk result (λ in_turn. in_turn ≡ true → HasMarks self.new.taken) }
-        ensures left { IfOk result (λ in_turn. in_turn ≡ true → self.new.left ≡ self.old.left) }
-        ensures facts { IfOk result (λ in_turn. in_turn ≡ true → self.new.facts ≡ self.old.facts) }
-        ensures comments { IfOk result (λ in_turn. in_turn ≡ true → self.new.comments ≡ self.old.comments) }
-        ensures turns { IfOk result (λ in_turn. in_turn ≡ true → (later : List LoggedJob) → ComeInTurn settings.now (so_far self.new.taken) self.new.turn later → ComeInTurn settings.now (so_far self.old.taken) self.old.turn (jobs.entry.items ++ later)) }
+        requires marks { HasMarks self.old.intake.taken }
+        ensures marks { OnOk result (HasMarks self.new.intake.taken) }
+        ensures few { OnOk result (length self.new.intake.held.items ≤ left) }
+        ensures facts { OnOk result (self.new.facts ≡ self.old.facts) }
+        ensures comments { OnOk result (self.new.comments ≡ self.old.comments) }
+        ensures read { OnOk result ((o : Options) → (nodes : List NodeText) → (es : List Entry) → IsRead settings.now o nodes es self.old → IsRead settings.now o nodes es self.new) }
     {
-        for job in jobs {
-            if !self.add_settled(alloc, settings, job)? {
-                return Ok(false);
-            }
-        }
-        Ok(true)
+        self.intake.release(alloc, settings, left)?;
+        Ok(())
     }
 
-    /// These jobs, which are in order of submission, and what the lines behind them say, if all jobs come in their turn.
-    pub(crate) fn add_in_turn(
+    /// What the other lines say, if there are some, and what is taken of all jobs. Jobs are held back until the trace is full.
+    pub(crate) fn finish(
         &mut self,
         alloc: Global,
         kinds: &mut Kinds,
         settings: &Settings,
         nodes: &[NodeText],
-        jobs: Vec<LoggedJob<'_>>,
-        walk: &mut Walk<'_>,
-    ) -> Result<bool, AllocError>
+        walk: &mut Walk<'a>,
+        ended: bool,
+    ) -> Result<(), Halt>
         requires good { AreGood settings.now }
         requires small { settings.now.origin < 2 ^ 33 }
-        requires marks { HasMarks self.old.taken }
+        requires marks { HasMarks self.old.intake.taken }
         requires known { AreKnown nodes.now kinds.old }
-        requires few { self.old.comments + walk.old.bytes < 2 ^ 64 }
+        requires few { ended ≡ false → self.old.comments + walk.old.bytes < 2 ^ 64 }
         ensures known { OnOk result (AreKnown nodes.now kinds.new) }
-        ensures tally { IfOk result (λ in_turn. in_turn ≡ true → so_far self.new.taken ≡ fold (with_logged settings.now) (so_far self.old.taken) (jobs.entry.items ++ jobs_of nodes.now walk.old.entries)) }
-        ensures left { IfOk result (λ in_turn. in_turn ≡ true → self.new.left.items ≡ self.old.left.items ++ left_in walk.old.entries) }
-        ensures facts { IfOk result (λ in_turn. in_turn ≡ true → self.new.facts ≡ facts_in self.old.facts walk.old.entries) }
-        ensures comments { IfOk result (λ in_turn. in_turn ≡ true → self.new.comments ≡ self.old.comments + count is_comment walk.old.entries) }
-        ensures turns { IfOk result (λ in_turn. in_turn ≡ true → ComeInTurn settings.now (so_far self.old.taken) self.old.turn (jobs.entry.items ++ jobs_of nodes.now walk.old.entries)) }
+        ensures read { OnOk result ((o : Options) → (es : List Entry) → IsReadOf settings.now o nodes.now es (behind ended walk.old.entries) self.old → IsRead settings.now o nodes.now es self.new) }
+        ensures none { OnOk result (self.new.intake.held.items ≡ []) }
+        ensures facts { OnOk result (self.new.facts ≡ self.old.facts) }
     {
-        if !self.add_jobs(alloc, settings, jobs)? {
-            return Ok(false);
+        let mut done = ended;
+        while !done {
+            self.release(alloc, settings, STILL_HELD)?;
+            let full = self.intake.taken.is_full(settings);
+            self.release(alloc, settings, still_held(full))?;
+            done = self.add_lines(alloc, kinds, settings, nodes, true, walk)?;
         }
-        self.add_all(alloc, kinds, settings, nodes, walk)
-    }
-
-    /// What lines say of which no job is taken yet, where the first job that is to be taken was submitted then.
-    pub(crate) fn new(
-        alloc: Global,
-        left: Vec<Reject>,
-        facts: Facts,
-        comments: usize,
-        submit: u32,
-    ) -> Result<Reading, AllocError>
-        ensures tally { IfOk result (λ r. so_far r.taken ≡ nothing_taken) }
-        ensures marks { IfOk result (λ r. HasMarks r.taken) }
-        ensures left { IfOk result (λ r. r.left ≡ left) }
-        ensures facts { IfOk result (λ r. r.facts ≡ facts) }
-        ensures comments { IfOk result (λ r. r.comments ≡ comments) }
-        ensures turn { IfOk result (λ r. r.turn ≡ first_turn submit) }
-    {
-        Ok(Reading {
-            taken: Taken::new(alloc)?,
-            left,
-            facts,
-            comments,
-            turn: Turn {
-                last: submit,
-                high: 0,
-                line: 0,
-            },
-        })
+        self.release(alloc, settings, 0)?;
+        Ok(())
     }
 }

@@ -87,8 +87,8 @@ impl Taken {
         settings.most as usize <= self.jobs.len() || MOST_JOBS <= self.jobs.len()
     }
 
-    // A job that is left out.
-    fn leave(&mut self, line: usize, cause: Cause) -> Result<(), AllocError>
+    /// A job that is left out.
+    pub(crate) fn leave(&mut self, line: usize, cause: Cause) -> Result<(), AllocError>
         ensures tally { OnOk result (so_far self.new ≡ left_out (so_far self.old) line cause) }
         ensures marks { HasMarks self.old → OnOk result (HasMarks self.new) }
     {
@@ -183,8 +183,8 @@ impl Taken {
         }
     }
 
-    // A job with a place.
-    fn add_placed(
+    /// A job with a place, after those that were submitted before it.
+    pub(crate) fn add_placed(
         &mut self,
         alloc: Global,
         settings: &Settings,

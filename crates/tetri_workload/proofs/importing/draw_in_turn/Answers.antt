@@ -1,64 +1,59 @@
-use Rattle.std.proofs.Common.{◌≡◌, ◌∙◌, ◌++◌, ap, sym, subst, arith, rules}
-use Rattle.std.specs.Prelude.{Some, Ok, fold, slice_get}
-use Rattle.tetri_base.specs.Lists.{count}
+use Rattle.std.proofs.Common.{◌≡◌, ◌∙◌, ◌++◌, ap, append_assoc, arith, false, refl, sym, subst, true, true≢false}
+use Rattle.std.specs.Prelude.{Contains, Ok, Some}
+use Rattle.std.proofs.lemmas.List.Elements.{Contains-append_left, Contains-append_right}
+use Rattle.std.proofs.lemmas.List.Sorted.{Contains-permutation, IsPermutation-sym}
+use Rattle.tetri_logs.specs.Entry.{entries_in}
 use Rattle.tetri_logs.specs.Options.{settings_of}
-use Rattle.tetri_logs.specs.Origin.{begun, begun_with}
-use Rattle.tetri_logs.specs.Reading.{facts_in, is_comment, left_in, no_facts}
-use Rattle.tetri_logs.proofs.LogLaws.{all_entries}
-use Rattle.tetri_workload.specs.Kinds.{settled_all}
-use Rattle.tetri_workload.specs.Ordering.{IsOrderBy}
-use Rattle.tetri_workload.specs.Reading.{ComeInTurn, first_turn, jobs_of}
-use Rattle.tetri_workload.specs.Taking.{nothing_taken, so_far, taken_all, with_logged}
-use Rattle.tetri_workload.proofs.ImportLemmas.{moved-of, whole-of}
-use Rattle.tetri_workload.proofs.OrderLemmas.{IsOrderBy-moved, IsOrderBy-ordered, ordered}
-use Rattle.tetri_workload.proofs.TurnLemmas.{IsAlike, alike, begun-of, moved-first, no_gap-in_turn, not_before}
+use Rattle.tetri_logs.specs.Origin.{begun_at, begun_with}
+use Rattle.tetri_logs.specs.Reading.{facts_in, no_facts}
+use Rattle.tetri_logs.specs.Scale.{moment_of}
+use Rattle.tetri_logs.specs.declared.entry.LoggedJob.{LoggedJob}
+use Rattle.tetri_workload.specs.Reading.{IsRead, IsReadOf, behind, jobs_of}
+use Rattle.tetri_workload.proofs.BeginLemmas.{begun-as}
+use Rattle.tetri_workload.proofs.DrawnLemmas.{drawn-of}
+use Rattle.tetri_workload.proofs.EntryLemmas.{jobs_of-append}
 use Rattle.tetri_workload.proofs.importing.draw_in_turn.Goals as goal
 
+pub add_lines-requires-clause-few : goal.add_lines-requires-clause-few
+add_lines-requires-clause-few c = omega (arith, c.in_ok-add.ensures.comments, c.in_ok-read.ensures.comments, c.requires.few, c.requires.one)
+
+pub finish-requires-clause-few : goal.finish-requires-clause-few
+finish-requires-clause-few c = λ more.
+    omega (arith, c.in_ok-sort.ensures.comments, c.in_ok-ended.ensures.few more, c.in_ok-add.ensures.comments, c.in_ok-read.ensures.comments, c.requires.few, c.requires.one)
+
 pub returns-clause-drawn : goal.returns-clause-drawn
-returns-clause-drawn c = λ es told.
+returns-clause-drawn c = λ es timed headed.
     let nodes = c.args.nodes.now in
-    let others = c.args.walk.now.entries in
-    let log = c.args.first in
     let o = c.args.options.now in
     let draft = c.in-Ok.draft in
-    let s = c.in-Some-begun_with.settings in
-    let first = c.in-Some.job.now in
-    let listed = c.by_submission.new.jobs.items in
-    let behind = jobs_of nodes others in
-    let jobs = listed ++ behind in
-    let order = ordered (λ j. j.account.submit) jobs in
-    let turn = first_turn first.account.submit in
-    let begin = c.in_ok-read.read in
-    let read = c.add_in_turn.new.self in
-    let given = c.in_ok-read.ensures in
-    let added = c.in_ok-add_in_turn.ensures in
-    let go = c.if-not-branch.false in
-    let alone : read.facts ≡ log.facts = c.are_same.ensures (search (rules, c.if-not-are_same.false)) in
-    let found : Some first ≡ slice_get listed 0 = search (rules, c.first.ensures.value, c.deref.ensures.value, c.in-Some.is) in
-    let begins : begun_with draft first.account ≡ Some s = sym c.in-Some-begun_with.ensures.value in
-    let tally : so_far read.taken ≡ taken_all s jobs = added.tally go ∙ ap (λ t. fold (with_logged s) t jobs) given.tally in
-    let turns : ComeInTurn s nothing_taken turn jobs =
-    subst (λ t. ComeInTurn s t turn jobs) given.tally (subst (λ u. ComeInTurn s (so_far begin.taken) u jobs) given.turn (added.turns go)) in
-    let facts : log.facts ≡ facts_in no_facts es = sym alone ∙ added.facts go ∙ ap (λ f. facts_in f others) given.facts ∙ told.facts in
-    let settled : settings_of o (facts_in no_facts es) ≡ Ok draft = sym (c.in-Ok.ensures.value ∙ ap (settings_of o) facts) in
-    let listing : IsOrderBy (λ j. j.account.submit) (settled_all nodes log.jobs.items) listed =
-    subst (λ js. IsOrderBy (λ j. j.account.submit) js listed) c.in_ok-first_jobs.ensures.jobs c.in_ok-by_submission.ensures in
-    let ordering : IsOrderBy (λ j. j.account.submit) (jobs_of nodes es) order =
-    IsOrderBy-moved (λ j. j.account.submit) (jobs_of nodes es) jobs order (moved-first nodes es others log listed told listing) (IsOrderBy-ordered (λ j. j.account.submit) jobs) in
-    let is : s ≡ begun draft order = sym (begun-of draft s first listed behind found begins (not_before s nothing_taken turn jobs turns)) in
-    let same : IsAlike (taken_all s order) (taken_all s jobs) = alike s nothing_taken turn jobs turns in
-    let comments : read.comments ≡ count is_comment es = omega (arith, added.comments go, given.comments, told.comments) in (
-      draft,
-      order,
-      record {
-        drafted = record { settings = settled; ordered = ordering };
-        settings = is;
-        good = c.in-Some-begun_with.ensures.good;
-        together = no_gap-in_turn o s nothing_taken turn jobs turns;
-        tally = whole-of read.taken (taken_all s order) (taken_all s jobs) tally same.same;
-        moved = moved-of read.taken (taken_all s order) (taken_all s jobs) tally same.moved;
-        left = added.left go ∙ ap (λ v. v.items ++ left_in others) given.left ∙ told.left;
-        comments = comments;
-        whole = omega (arith, comments, all_entries es);
-      },
-    )
+    let s = c.in-Some.settings in
+    let line = entries_in c.args.first in
+    let sorted = c.sort.new.self in
+    let found : (job : LoggedJob) × Contains sorted.intake.held.items job × (begun_with draft job.account ≡ Some s) =
+    subst (λ jobs. (job : LoggedJob) × Contains jobs job × (begun_with draft job.account ≡ Some s)) c.deref.ensures.value c.in-Some.ensures.begun in
+    let first = found.0 in
+    let second = moment_of draft first.account in
+    let b = begun_at draft second in
+    let is : b ≡ s = begun-as draft s first found.2 in
+    let never : false ≡ true → second ≡ draft.origin = λ is. absurd (true≢false (sym is)) in
+    let before = headed.0 in
+    let begun : IsRead b o nodes before c.in_ok-read.read = c.in_ok-read.ensures.read b nodes before headed.2 headed.3 in
+    let added : IsRead b o nodes (before ++ line) c.add.new.self = c.in_ok-add.ensures.read second never o before begun in
+    let read : IsReadOf b o nodes es (behind c.in_ok-ended.ended c.add_lines.new.walk.entries) c.add_lines.new.self =
+    c.in_ok-ended.ensures.read second never o es (before ++ line, append_assoc before line c.args.walk.now.entries ∙ headed.1, added) in
+    let rest = behind c.in_ok-ended.ended c.add_lines.new.walk.entries in
+    let ordered : IsRead b o nodes read.0 sorted = c.in_ok-sort.ensures.read b o nodes read.0 read.2 in
+    let h = ordered.handled.1 in
+    let held = sorted.intake.held.items in
+    let there : Contains (jobs_of nodes read.0) first =
+    Contains-permutation (ordered.handled.0 ++ held) (jobs_of nodes read.0) first (IsPermutation-sym (jobs_of nodes read.0) (ordered.handled.0 ++ held) h.moved.moved)
+    (Contains-append_right ordered.handled.0 held first found.1) in
+    let has : Contains (jobs_of nodes es) first =
+    subst (λ xs. Contains (jobs_of nodes xs) first) read.1
+    (subst (λ js. Contains js first) (sym (jobs_of-append nodes read.0 rest)) (Contains-append_left (jobs_of nodes read.0) (jobs_of nodes rest) first there)) in
+    let end = c.in_ok-finish.ensures in
+    let last : IsRead s o nodes es c.finish.new.self = end.read o es (read.0, read.1, subst (λ t. IsRead t o nodes read.0 sorted) is ordered) in
+    let facts : c.finish.new.self.facts ≡ c.args.head.facts =
+    end.facts ∙ c.in_ok-sort.ensures.facts ∙ c.in_ok-ended.ensures.facts ∙ c.in_ok-add.ensures.facts ∙ c.in_ok-read.ensures.facts in
+    let settings : settings_of o (facts_in no_facts es) ≡ Ok draft = ap (settings_of o) (sym last.facts ∙ facts) ∙ sym c.in-Ok.ensures.value in
+    drawn-of es nodes o _ draft s c.finish.new.self first timed settings found.2 c.in-Some.ensures.good has last end.none refl refl refl refl

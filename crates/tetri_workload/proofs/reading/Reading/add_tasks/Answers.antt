@@ -1,32 +1,35 @@
-use Rattle.std.proofs.Common.{◌≡◌, ◌∙◌, ◌++◌, ◌∷◌, [], ap, sym, subst, append_assoc, refl, arith}
-use Rattle.std.specs.Prelude.{fold}
+use Rattle.std.proofs.Common.{◌≡◌, ◌∙◌, ◌++◌, ◌∷◌, [], refl, subst, sym, arith}
+use Rattle.std.proofs.lemmas.Iterator.Adapters.{YieldsList-from_vec}
+use Rattle.std.proofs.lemmas.Iterator.Consumers.{YieldsList-end}
+use Rattle.std.proofs.lemmas.List.{map-id}
 use Rattle.tetri_base.specs.Lists.{count}
-use Rattle.tetri_logs.specs.Reading.{facts_in, is_comment, left_in}
-use Rattle.tetri_logs.proofs.LogLaws.{comments-append, facts_in-append, left_in-more}
-use Rattle.tetri_workload.specs.Reading.{ComeInTurn, jobs_of}
-use Rattle.tetri_workload.specs.Taking.{so_far, with_logged}
-use Rattle.tetri_workload.proofs.TurnLemmas.{jobs_of-append, taken-append}
+use Rattle.tetri_logs.specs.Origin.{begun_at}
+use Rattle.tetri_logs.specs.Reading.{is_comment}
+use Rattle.tetri_logs.proofs.LogLaws.{comments-append}
+use Rattle.tetri_workload.specs.Reading.{IsRead}
+use Rattle.tetri_workload.proofs.ReadLemmas.{read-assoc}
 use Rattle.tetri_workload.proofs.reading.Reading.add_tasks.Goals as goal
 
 pub loop-entry-preserved : goal.loop-entry-preserved
 loop-entry-preserved c =
-    let s = c.args.settings.now in
     let nodes = c.args.nodes.now in
-    let first = c.args.self.now in
     let done = c.loop-entry.yielded in
     let one = c.in-Some.entry ∷ [] in
     let inv = c.loop-entry.invariant in
     let added = c.in_ok-add_entry.ensures in
-    let go = c.if-not-branch.false in
     let no_comment : count is_comment one ≡ 0 = rw (sym c.if-is_comment.ensures) refl in
     record {
       known = added.known;
-      tally = added.tally go ∙ ap (λ t. fold (with_logged s) t (jobs_of nodes one)) inv.tally ∙ taken-append s nodes (so_far first.taken) done one;
-      marks = added.marks go;
-      left = added.left go ∙ ap (λ ls. ls ++ left_in one) inv.left ∙ left_in-more first.left.items done one;
-      facts = added.facts go ∙ ap (λ f. facts_in f one) inv.facts ∙ sym (facts_in-append first.facts done one);
-      comments = omega (arith, added.comments go, inv.comments, comments-append done one);
-      none = omega (arith, inv.none, no_comment, comments-append done one);
-      turns = λ later comes. subst (ComeInTurn s (so_far first.taken) first.turn) (sym (ap (λ xs. xs ++ later) (jobs_of-append nodes done one) ∙ append_assoc (jobs_of nodes done) (jobs_of nodes one) later))
-          (inv.turns (jobs_of nodes one ++ later) (added.turn go later comes));
+      marks = added.marks;
+      facts = added.facts ∙ inv.facts;
+      comments = omega (arith, added.comments, inv.comments, no_comment);
+      jobs = omega (arith, inv.jobs, no_comment, comments-append done one);
+      read = λ x at o es given. read-assoc (begun_at c.args.settings.now x) o nodes es done one c.add_entry.new.self (added.read x at o (es ++ done) (inv.read x at o es given));
     }
+
+pub returns-clause-read : goal.returns-clause-read
+returns-clause-read c = λ x at o es given.
+    let gives = c.into_iter-entry-iterator.ensures.into_iter_gives in
+    let all = YieldsList-end (YieldsList-from_vec c.args.tasks.items gives.0 (gives.1 ∙ c.args.tasks.ok.0)) c.loop-entry.yielded _ c.loop-entry.yielded_by c.next.result c.next.new.self c.in-None.is c.next.ensures.steps in
+    let whole : c.loop-entry.yielded ≡ c.args.tasks.items = sym (map-id c.loop-entry.yielded) ∙ all.0 in
+    subst (λ xs. IsRead (begun_at c.args.settings.now x) o c.args.nodes.now (es ++ xs) c.loop-entry.self) whole (c.loop-entry.invariant.read x at o es given)

@@ -1,11 +1,12 @@
-use Rattle.std.proofs.Common.{◌≡◌, ◌+◌, ◌++◌, List}
-use Rattle.std.specs.Prelude.{fold}
+use Rattle.std.proofs.Common.{◌≡◌, ◌++◌, ℕ, List, true}
 use Rattle.tetri_base.specs.Lists.{count}
-use Rattle.tetri_logs.specs.Reading.{facts_in, is_comment, left_in}
-use Rattle.tetri_logs.specs.declared.entry.LoggedJob.{LoggedJob}
+use Rattle.tetri_logs.specs.Origin.{begun_at}
+use Rattle.tetri_logs.specs.Reading.{is_comment}
+use Rattle.tetri_logs.specs.declared.entry.Entry.{Entry}
+use Rattle.tetri_logs.specs.declared.options.Options.{Options}
 use Rattle.tetri_workload.specs.Known.{AreKnown}
-use Rattle.tetri_workload.specs.Reading.{ComeInTurn, jobs_of}
-use Rattle.tetri_workload.specs.Taking.{HasMarks, so_far, with_logged}
+use Rattle.tetri_workload.specs.Reading.{IsRead}
+use Rattle.tetri_workload.specs.Taking.{HasMarks}
 use Rattle.tetri_workload.proofs.reading.Reading.add_tasks.Given as goal
 
 abbrev pub invariant-loop-entry : goal.invariant-loop-entry
@@ -13,11 +14,10 @@ invariant-loop-entry l =
     let first = l.fn.self in
     record {
       known : AreKnown l.nodes l.kinds;
-      tally : so_far l.self.taken ≡ fold (with_logged l.settings) (so_far first.taken) (jobs_of l.nodes l.yielded);
-      marks : HasMarks l.self.taken;
-      left : l.self.left.items ≡ first.left.items ++ left_in l.yielded;
-      facts : l.self.facts ≡ facts_in first.facts l.yielded;
-      comments : l.self.comments ≡ first.comments + count is_comment l.yielded;
-      none : count is_comment l.yielded ≡ 0;
-      turns : (later : List LoggedJob) → ComeInTurn l.settings (so_far l.self.taken) l.self.turn later → ComeInTurn l.settings (so_far first.taken) first.turn (jobs_of l.nodes l.yielded ++ later);
+      marks : HasMarks l.self.intake.taken;
+      facts : l.self.facts ≡ first.facts;
+      comments : l.self.comments ≡ first.comments;
+      jobs : count is_comment l.yielded ≡ 0;
+      read : (x : ℕ) → (l.known ≡ true → x ≡ l.settings.origin) → (o : Options) → (es : List Entry)
+          → IsRead (begun_at l.settings x) o l.nodes es first → IsRead (begun_at l.settings x) o l.nodes (es ++ l.yielded) l.self;
     }
