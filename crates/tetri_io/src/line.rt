@@ -5,6 +5,7 @@ ghost use Rattle.tetri_io.specs.Line.{AnswersLine, IsPlacedAfter, line_or_end, l
 ghost use Rattle.tetri_io.specs.Lines.{line_of};
 
 use crate::{Failed, Shelf};
+use memchr::memchr;
 use std::alloc::{AllocError, Global};
 use thiserror::Error;
 
@@ -117,12 +118,7 @@ fn line_len(bytes: &[u8]) -> usize
     ensures value { result ≡ length (line_of bytes.now) }
     ensures within { result ≤ length bytes.now }
 {
-    for (i, b) in bytes.iter().enumerate() {
-        if *b == LINE_FEED {
-            return i;
-        }
-    }
-    bytes.len()
+    memchr(LINE_FEED, bytes).unwrap_or(bytes.len())
 }
 
 /// The last line, which has no line feed, or the end.

@@ -61,11 +61,11 @@ keyed_next k r plain = ap (punctuate after_comma) (lex_quoted k (58 ∷ r) plain
 abbrev pub IsAtKey : Bool → List ℕ → List ℕ → Type 0
 IsAtKey b old at = ((b ≡ true) × (old ≡ 44 ∷ at)) ⊎ ((b ≡ false) × (old ≡ at))
 
-pub key_next : (seen : List Token) (b : Bool) (old at inside end k : List ℕ) (found : Option (Bor (List ℕ))) → seen ≡ tokens_from b old → IsAtKey b old at → at ≡ 34 ∷ inside → inside ≡ k ++ end → list_all is_plain k ≡ true
-    → IfSome found (λ rest. end ≡ 34 ∷ 58 ∷ rest.now) → IfSome found (λ rest. seen ≡ key k ∷ tokens rest.now)
-key_next seen b old at inside end k None view is first text plain last = tt
-key_next seen b old at inside end k (Some rest) view (inl (after, is)) first text plain last = view ∙ rw (after, is, first, text, last) (keyed_next k rest.now plain)
-key_next seen b old at inside end k (Some rest) view (inr (before, is)) first text plain last = view ∙ rw (before, is, first, text, last) (keyed k rest.now plain)
+pub key_next : (seen : List Token) (b : Bool) (old at k : List ℕ) (found : Option (Bor (List ℕ))) → seen ≡ tokens_from b old → IsAtKey b old at → list_all is_plain k ≡ true → IfSome found (λ rest. at ≡ 34 ∷ (k ++ 34 ∷ 58 ∷ rest.now))
+    → IfSome found (λ rest. seen ≡ key k ∷ tokens rest.now)
+key_next seen b old at k None view is plain named = tt
+key_next seen b old at k (Some rest) view (inl (after, is)) plain named = view ∙ rw (after, is, named) (keyed_next k rest.now plain)
+key_next seen b old at k (Some rest) view (inr (before, is)) plain named = view ∙ rw (before, is, named) (keyed k rest.now plain)
 
 no_colon : (r : List ℕ) → IsBehindValue r → begins_colon (lex between r) ≡ false
 unfolding lex

@@ -1,16 +1,17 @@
 // The tokens of a text in which no blank stands between them and nothing is escaped.
-ghost use Rattle.std.specs.Prelude.{◌≡◌, ◌<◌, ◌≤◌, ◌++◌, ◌∷◌, ◌↔◌, ◌^◌, [], IfSome, IsTrue, MatchOption, decimal, length, take, true};
+ghost use Rattle.std.specs.Prelude.{◌≡◌, ◌<◌, ◌≤◌, ◌++◌, ◌∷◌, ◌↔◌, ◌^◌, [], IfSome, IsTrue, MatchOption, decimal, length, min, take, true};
+ghost use Rattle.std.specs.Char.{is_ascii_digit};
 ghost use Rattle.std.specs.Fmt.{signed_decimal};
-ghost use Rattle.std.specs.List.{list_all};
+ghost use Rattle.std.specs.List.{list_all, prefix_len};
+ghost use Rattle.std.specs.Str.Parse.{digits_value};
 ghost use Rattle.json.specs.Lex.{tokens};
 ghost use Rattle.json.specs.Run.{is_plain};
 ghost use Rattle.json.specs.Token.{begin_object, end_object, key as key_token, number as number_token, string as string_token};
 ghost use Rattle.tetri_notice.specs.Tokens.{IsBehindValue, IsSmall};
 
 use std::marker::Model;
-use tetri_io::number_below;
 
-// Whether a text begins with these bytes.
+// Whether a text begins with these bytes. It stops at none, so that bytes that are known beforehand are compared many at once.
 #[inline(always)]
 fn begins_with(text: &[u8], front: &[u8]) -> bool
     ensures { IsTrue result ↔ (take (length front.now) text.now ≡ front.now) }
@@ -18,12 +19,11 @@ fn begins_with(text: &[u8], front: &[u8]) -> bool
     if text.len() < front.len() {
         return false;
     }
+    let mut same = true;
     for i in 0..front.len() {
-        if text[i] != front[i] {
-            return false;
-        }
+        same &= text[i] == front[i];
     }
-    true
+    same
 }
 
 // What follows this front of a text, if the text has it.
@@ -34,35 +34,63 @@ fn behind<'v>(text: &'v str, front: &str) -> Option<&'v str>
     if !begins_with(text.as_bytes(), front.as_bytes()) {
         return None;
     }
-    let (_, rest) = text.split_at_checked(front.len())?;
+    let (_, rest) = text.split_at(front.len());
+    Some(rest)
+}
+
+// What follows a name in quotes and a colon, if a text begins with them. The bytes are compared all at once.
+#[inline(always)]
+fn behind_named<'v>(text: &'v str, name: &str) -> Option<&'v str>
+    ensures { IfSome result (λ rest. text.now ≡ 34 ∷ (name.now ++ 34 ∷ 58 ∷ rest.now)) }
+{
+    let bytes = text.as_bytes();
+    let end = name.len() + 3;
+    if bytes.len() < end {
+        return None;
+    }
+    let opens = bytes[0] == b'"';
+    let named = begins_with(&bytes[1..], name.as_bytes());
+    let closes = bytes[end - 2] == b'"';
+    let colon = bytes[end - 1] == b':';
+    if !(opens & named & closes & colon) {
+        return None;
+    }
+    let (_, rest) = text.split_at(end);
     Some(rest)
 }
 
 // Whether a comma or a closing brace comes first, as behind each value of an object.
 #[inline(always)]
 fn is_behind_value(text: &[u8]) -> bool
-    ensures { IsTrue result → IsBehindValue text.now }
+    ensures { IsTrue result ↔ IsBehindValue text.now }
 {
     matches!(text, [b',' | b'}', ..])
 }
 
-// How many digits come first.
+// As many digits as are always a number of 64 bits.
+const SHORT: usize = 18;
+
+// The number that the first digits are, at most 18 of them, and how many they are.
 #[inline(always)]
-fn count_digits(text: &[u8]) -> usize
-    ensures { result ≤ length text.now }
+fn front_number(text: &[u8]) -> (u64, usize)
+    ensures count { result.1 ≡ min (prefix_len is_ascii_digit text.now) 18 }
+    ensures digits { list_all is_ascii_digit (take result.1 text.now) ≡ true }
+    ensures value { result.0 ≡ digits_value 10 (take result.1 text.now) }
 {
+    let most = text.len().min(SHORT);
+    let mut number = 0u64;
     let mut i = 0;
-    while i < text.len() && text[i].is_ascii_digit() {
+    while i < most && text[i].is_ascii_digit() {
+        number = number * 10 + u64::from(text[i] - b'0');
         i += 1;
     }
-    i
+    (number, i)
 }
 
 // How many bytes come first of which none ends or escapes anything in a string.
 #[inline(always)]
 fn count_plain(text: &[u8]) -> usize
-    ensures within { result ≤ length text.now }
-    ensures plain { list_all is_plain (take result text.now) ≡ true }
+    ensures { result ≡ prefix_len is_plain text.now }
 {
     let mut i = 0;
     while i < text.len() && is_plain(text[i]) {
@@ -83,9 +111,13 @@ fn is_plain(byte: u8) -> bool
 fn whole(text: &str) -> Option<(u64, &str)>
     ensures { IfSome result (λ found. (found.0 < 10 ^ 18) × (text.now ≡ decimal found.0 ++ found.1.now)) }
 {
-    let (digits, rest) = text.split_at_checked(count_digits(text.as_bytes()))?;
-    let number = number_below(1_000_000_000_000_000_000, digits.as_bytes())?;
-    Some((number as u64, rest))
+    let bytes = text.as_bytes();
+    let (number, count) = front_number(bytes);
+    if count == 0 || (1 < count && bytes[0] == b'0') {
+        return None;
+    }
+    let (_, rest) = text.split_at(count);
+    Some((number, rest))
 }
 
 // The same with a minus before it, which 0 has not.
@@ -135,6 +167,17 @@ impl<'v> Tokens<'v> {
         }
     }
 
+    /// The same tokens again, to be read apart from these.
+    #[inline(always)]
+    pub(crate) fn again(&self) -> Tokens<'v>
+        ensures { result ≡ self.now }
+    {
+        Tokens {
+            rest: self.rest,
+            is_behind_value: self.is_behind_value,
+        }
+    }
+
     /// Passes the brace that opens an object.
     #[inline(always)]
     pub(crate) fn opens(&mut self) -> Option<()>
@@ -167,7 +210,7 @@ impl<'v> Tokens<'v> {
         if self.is_behind_value {
             rest = behind(rest, ",")?;
         }
-        behind(behind(behind(rest, "\"")?, key)?, "\":")
+        behind_named(rest, key)
     }
 
     /// Passes a key in which nothing is escaped. Where it gives nothing, it stays.
@@ -209,7 +252,7 @@ impl<'v> Tokens<'v> {
             return None;
         }
         let begun = behind(self.rest, "\"")?;
-        let (text, rest) = begun.split_at_checked(count_plain(begun.as_bytes()))?;
+        let (text, rest) = begun.split_at(count_plain(begun.as_bytes()));
         let rest = behind(rest, "\"")?;
         if !is_behind_value(rest.as_bytes()) {
             return None;

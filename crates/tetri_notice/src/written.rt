@@ -49,18 +49,21 @@ struct WrittenCancel<'v> {
     name: &'v str,
 }
 
+#[inline(always)]
 fn number(reader: &mut Tokens<'_>) -> Option<i64>
     ensures { IfSome result (λ z. IsValue (whole z) reader.old reader.new) }
 {
     reader.number()
 }
 
+#[inline(always)]
 fn text<'v>(reader: &mut Tokens<'v>) -> Option<&'v str>
     ensures { IfSome result (λ s. IsValue (string s.now) reader.old reader.new) }
 {
     reader.string()
 }
 
+#[inline(always)]
 fn number_at(reader: &mut Tokens<'_>, key: &str) -> Option<i64>
     requires { list_all is_plain key.now ≡ true }
     ensures { IfSome result (λ z. Puts 0 (put key.now (whole z)) reader.old reader.new) }
@@ -69,6 +72,7 @@ fn number_at(reader: &mut Tokens<'_>, key: &str) -> Option<i64>
     number(reader)
 }
 
+#[inline(always)]
 fn text_at<'v>(reader: &mut Tokens<'v>, key: &str) -> Option<&'v str>
     requires { list_all is_plain key.now ≡ true }
     ensures { IfSome result (λ s. Puts 0 (put key.now (string s.now)) reader.old reader.new) }
@@ -77,6 +81,7 @@ fn text_at<'v>(reader: &mut Tokens<'v>, key: &str) -> Option<&'v str>
     text(reader)
 }
 
+#[inline(always)]
 fn set_at<'v>(reader: &mut Tokens<'v>) -> Option<Option<&'v str>>
     ensures { IfSome result (λ set. Puts 0 (with_set (option_map (λ s. s.now) set)) reader.old reader.new) }
 {
@@ -89,6 +94,7 @@ fn set_at<'v>(reader: &mut Tokens<'v>) -> Option<Option<&'v str>>
     }
 }
 
+#[inline(always)]
 fn due_at<'v>(reader: &mut Tokens<'v>) -> Option<Due<'v>>
     ensures { IfSome result (λ due. Puts 0 (with_due due) reader.old reader.new) }
 {
@@ -97,15 +103,19 @@ fn due_at<'v>(reader: &mut Tokens<'v>) -> Option<Due<'v>>
     Some(Due { set, deadline })
 }
 
+#[inline(always)]
 fn written_ask<'v>(reader: &mut Tokens<'v>) -> Option<WrittenAsk<'v>>
     ensures { IfSome result (λ a. AreMembers 0 (ask_members a) reader.old reader.new) }
 {
-    let k = number_at(reader, "k")?;
-    let dur = number_at(reader, "dur")?;
-    let value = number_at(reader, "value")?;
-    let due = due_at(reader)?;
-    let class = text_at(reader, "class")?;
-    reader.closes()?;
+    // What is read apart from the caller's tokens stays in registers.
+    let mut tokens = reader.again();
+    let k = number_at(&mut tokens, "k")?;
+    let dur = number_at(&mut tokens, "dur")?;
+    let value = number_at(&mut tokens, "value")?;
+    let due = due_at(&mut tokens)?;
+    let class = text_at(&mut tokens, "class")?;
+    tokens.closes()?;
+    *reader = tokens;
     Some(WrittenAsk {
         k,
         dur,
@@ -115,6 +125,7 @@ fn written_ask<'v>(reader: &mut Tokens<'v>) -> Option<WrittenAsk<'v>>
     })
 }
 
+#[inline(always)]
 fn ask_at<'v>(reader: &mut Tokens<'v>) -> Option<WrittenAsk<'v>>
     ensures { IfSome result (λ a. Puts 1 (put (codes "ask") (object (ask_members a))) reader.old reader.new) }
 {
@@ -123,6 +134,7 @@ fn ask_at<'v>(reader: &mut Tokens<'v>) -> Option<WrittenAsk<'v>>
     written_ask(reader)
 }
 
+#[inline(always)]
 fn job<'v>(reader: &mut Tokens<'v>) -> Option<WrittenJob<'v>>
     ensures { IfSome result (λ job. AreMembers 1 (job_members job) reader.old reader.new) }
 {
@@ -139,6 +151,7 @@ fn job<'v>(reader: &mut Tokens<'v>) -> Option<WrittenJob<'v>>
     })
 }
 
+#[inline(always)]
 fn cancel<'v>(reader: &mut Tokens<'v>) -> Option<WrittenCancel<'v>>
     ensures { IfSome result (λ cancel. AreMembers 1 (cancel_members cancel) reader.old reader.new) }
 {
@@ -212,6 +225,7 @@ fn name_from(text: &str) -> Option<&str>
 }
 
 // What an ask says that keeps its limits.
+#[inline(always)]
 fn ask_said<'v>(unit: u64, ask: WrittenAsk<'v>) -> Option<AskText<'v>>
     ensures says { IfSome result (λ a. SaysAsk unit (object (ask_members ask.entry)) (ask_text a)) }
     ensures sound { IfSome result (λ a. IsSoundAskText (ask_text a)) }
@@ -249,6 +263,8 @@ fn cancels<'v>(name: &'v str) -> Notice<'v>
     Notice::Cancel(name)
 }
 
+// What an arrival says that keeps its limits. It stands apart, so that its values stay in registers.
+#[inline(never)]
 fn arrival<'v>(unit: u64, text: &'v str) -> Option<(u64, Notice<'v>)>
     ensures value { IfSome result (λ e. TextSays unit text.now e.0 (notice e.1)) }
     ensures good { IfSome result (λ e. IsGoodNotice (notice e.1)) }
@@ -262,6 +278,8 @@ fn arrival<'v>(unit: u64, text: &'v str) -> Option<(u64, Notice<'v>)>
     Some((at, notice))
 }
 
+// What a cancellation says that keeps its limits. Few lines come here, so it stands apart.
+#[inline(never)]
 fn cancellation<'v>(unit: u64, text: &'v str) -> Option<(u64, Notice<'v>)>
     ensures value { IfSome result (λ e. TextSays unit text.now e.0 (notice e.1)) }
     ensures good { IfSome result (λ e. IsGoodNotice (notice e.1)) }

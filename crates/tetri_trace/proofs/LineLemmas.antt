@@ -1,5 +1,5 @@
 -- Steps of reading a line.
-use Rattle.std.proofs.Common.{◌≡◌, ℕ, ◌≤◌, false, List, length, None, Some, Ok, Err, refl, sym, subst, ◌∙◌}
+use Rattle.std.proofs.Common.{◌≡◌, ℕ, ◌≤◌, false, List, length, None, Some, Ok, Err, refl, ◌∙◌}
 use Rattle.std.specs.Prelude.{Option, Result}
 use Rattle.std.proofs.lemmas.Bool.{le-ltb}
 use Rattle.serde_json.specs.Data.{Data}
@@ -35,7 +35,7 @@ header_added : (r : Result Data TraceWhy) → (r >>= add_object None) ≡ ((r >>
 header_added (Ok d) = header_then (header_in d)
 header_added (Err why) = refl
 
-given_some : {X : Type 0} (f : X → Scenario) (result : Result X Stop) (reading : Result Scenario TraceWhy) → Gives f result reading → Gives (λ x. Some (f x)) result (reading >>= λ t. Ok (Some t))
+pub given_some : {X : Type 0} (f : X → Scenario) (result : Result X Stop) (reading : Result Scenario TraceWhy) → Gives f result reading → Gives (λ x. Some (f x)) result (reading >>= λ t. Ok (Some t))
 given_some f (Ok x) reading h = rw h refl
 given_some f (Err (stops.Because why)) reading h = rw h refl
 given_some f (Err stops.NoMemory) reading h = tt
@@ -46,6 +46,5 @@ pub gives_event : {X : Type 0} (f : X → Scenario) (result : Result X Stop) (s 
 gives_event f result s line next short early text h = rw (past_limits (Some s) line next short early text ∙ event_added (object_in line) s) (given_some f result (event_line s line) h)
 
 -- the line of the header
-pub gives_header : {X : Type 0} (f : X → Scenario) (result : Result X Stop) (line : List ℕ) (next : ℕ) → length line ≤ 1048576 → next ≤ 67108864 → is_blank_line line ≡ false → Gives f result (header_line line)
-    → Gives (λ x. Some (f x)) result (add_line None (line, next))
-gives_header f result line next short early text h = rw (past_limits None line next short early text ∙ header_added (object_in line)) (given_some f result (header_line line) h)
+pub header_first : (line : List ℕ) (next : ℕ) → length line ≤ 1048576 → next ≤ 67108864 → is_blank_line line ≡ false → add_line None (line, next) ≡ (header_line line >>= λ t. Ok (Some t))
+header_first line next short early text = past_limits None line next short early text ∙ header_added (object_in line)

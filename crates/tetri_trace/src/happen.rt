@@ -1,5 +1,5 @@
 // What an event does to the trace that is read so far.
-ghost use Rattle.std.specs.Prelude.{◌≡◌, ◌<◌, ◌≤◌, ◌≤ℤ◌, pos, negsuc, true, false, nat_lt, AllPairs, length, IfOk, OnOk, IsOkUnless, ok_or};
+ghost use Rattle.std.specs.Prelude.{◌≡◌, ◌<◌, ◌≤◌, ◌≤ℤ◌, pos, negsuc, true, nat_lt, AllPairs, length, if◌then◌else◌, Err, IfOk, OnOk, IsOkUnless, ok_or};
 ghost use Rattle.std.specs.List.{list_any};
 ghost use Rattle.tetri_cluster.specs.Cluster.{names_of};
 ghost use Rattle.tetri_cluster.specs.Names.{is_among, is_name, number_of};
@@ -60,23 +60,37 @@ fn with_event(draft: &mut Draft, at: u32, what: Happening) -> Result<(), Stop>
     Ok(())
 }
 
-// One job more, which arrives.
+// Why a job is refused: first of all, its name may be taken.
+fn refused(draft: &Draft, name: &[u8], stop: Stop) -> Stop
+    ensures { result ≡ (if is_among name.now (job_names (so_far draft.now).submissions) then Stop.Because whys.NameTaken else stop) }
+{
+    if draft.jobs.find(name).is_some() {
+        Stop::Because(TraceWhy::NameTaken)
+    } else {
+        stop
+    }
+}
+
+// One job more, which arrives, unless its name is taken.
 fn with_job(draft: &mut Draft, job: Job) -> Result<(), Stop>
     requires sound { IsSoundDraft draft.old }
     requires next { IsNextSlot (so_far draft.old) job.arrival }
     requires job { IsSoundSubmission (so_far draft.old) (submission job) }
-    requires new { is_among job.name (job_names (so_far draft.old).submissions) ≡ false }
-    ensures gives { Gives (λ _. so_far draft.new) result (admitted (so_far draft.old) (submission job)) }
+    ensures gives { Gives (λ _. so_far draft.new) result (if is_among job.name (job_names (so_far draft.old).submissions) then Err whys.NameTaken
+        else admitted (so_far draft.old) (submission job)) }
     ensures sound { OnOk result (IsSoundDraft draft.new) }
 {
     if draft.jobs.len() >= JOBS_MOST {
-        return Err(Stop::Because(TraceWhy::TooManyJobs));
+        let many = Stop::Because(TraceWhy::TooManyJobs);
+        return Err(refused(draft, job.name.bytes(), many));
     }
     let arrival = Event {
         at: job.arrival,
         what: Happening::Arrive(draft.jobs.len() as u32),
     };
-    draft.jobs.push(job)?;
+    if !draft.jobs.add(job)? {
+        return Err(Stop::Because(TraceWhy::NameTaken));
+    }
     draft.events.push(arrival)?;
     Ok(())
 }
@@ -124,20 +138,19 @@ fn arrived(
     ensures gives { Gives (λ _. so_far draft.new) result (arrived (so_far draft.old) at name.now late (demand_text work.entry)) }
     ensures sound { OnOk result (IsSoundDraft draft.new) }
 {
-    if draft.jobs.find(name.as_bytes()).is_some() {
-        return Err(Stop::Because(TraceWhy::NameTaken));
-    }
     let name = read_name(alloc, name)?;
-    let work = with_work(alloc, draft, at, work)?;
-    with_job(
-        draft,
-        Job {
-            name,
-            arrival: at,
-            late,
-            work,
-        },
-    )
+    match with_work(alloc, draft, at, work) {
+        Ok(work) => with_job(
+            draft,
+            Job {
+                name,
+                arrival: at,
+                late,
+                work,
+            },
+        ),
+        Err(stop) => Err(refused(draft, name.bytes(), stop)),
+    }
 }
 
 fn job_named(draft: &Draft, name: &str) -> Result<u32, Stop>

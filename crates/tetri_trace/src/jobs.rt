@@ -1,5 +1,5 @@
 // The jobs of a trace.
-ghost use Rattle.std.specs.Prelude.{◌≡◌, ◌<◌, ◌≤◌, ◌++◌, ◌∷◌, [], false, true, is_some, length, map, IfSome, OnOk, OnErr};
+ghost use Rattle.std.specs.Prelude.{◌≡◌, ◌<◌, ◌≤◌, ◌++◌, ◌∷◌, [], false, true, is_some, length, map, not, if◌then◌else◌, IfOk, IfSome, OnOk, OnErr};
 ghost use Rattle.tetri_cluster.specs.Names.{differ, is_among, number_of};
 
 use crate::trace::Job;
@@ -76,9 +76,24 @@ impl Jobs {
         ensures err { OnErr result (self.new ≡ self.old) }
         ensures differ { OnOk result (differ (job_names (map submission self.new)) ≡ true) }
     {
-        self.items.reserve(1)?;
-        let _new = self.names.add(job.name.bytes())?;
-        self.items.push(job)?;
+        let _new = self.add(job)?;
         Ok(())
+    }
+
+    /// Gives a job the next number, and says whether its name is new. A job whose name is taken is let go. Without memory the jobs stay as
+    /// they were.
+    pub(crate) fn add(&mut self, job: Job) -> Result<bool, AllocError>
+        requires few { length self.old < 100000 }
+        ensures fresh { IfOk result (λ new. new ≡ not (is_among job.name (job_names (map submission self.old)))) }
+        ensures ok { IfOk result (λ new. self.new ≡ (if new then self.old ++ job ∷ [] else self.old)) }
+        ensures err { OnErr result (self.new ≡ self.old) }
+        ensures differ { OnOk result (differ (job_names (map submission self.new)) ≡ true) }
+    {
+        self.items.reserve(1)?;
+        if !self.names.add(job.name.bytes())? {
+            return Ok(false);
+        }
+        self.items.push(job)?;
+        Ok(true)
     }
 }

@@ -1,7 +1,8 @@
 // A trace, line by line.
-ghost use Rattle.std.specs.Prelude.{◌≡◌, ◌≤◌, IfOk, OnOk, option_map};
+ghost use Rattle.std.specs.Prelude.{◌≡◌, ◌≤◌, IfOk, Ok, OnOk, Some, option_map};
 ghost use Rattle.std.specs.Option.{ForSome};
 ghost use Rattle.serde_json.specs.View.{view};
+ghost use Rattle.tetri_base.specs.ResultSteps.{then_ok};
 ghost use Rattle.tetri_notice.specs.Answers.{Gives};
 ghost use Rattle.tetri_notice.specs.Notices.{IsGoodNotice};
 ghost use Rattle.tetri_notice.specs.Objects.{notice as notice_said};
@@ -38,6 +39,8 @@ fn add_notice(alloc: Global, draft: &mut Draft, at: u64, notice: Notice) -> Resu
     happened(alloc, draft, at, notice)
 }
 
+// The event that an object is. Few lines come here, so it stands apart.
+#[inline(never)]
 fn add_event(alloc: Global, draft: &mut Draft, object: &Value) -> Result<(), Stop>
     requires { IsSoundDraft draft.old }
     ensures gives { Gives (λ _. so_far draft.new) result (add_event (so_far draft.old) (view object.now)) }
@@ -71,6 +74,16 @@ fn header_line(alloc: Global, line: &[u8]) -> Result<Draft, Stop>
     begun(alloc, header)
 }
 
+// The header is on a line, and begins the trace. It stands apart, as one line alone comes here.
+#[inline(never)]
+fn begin(alloc: Global, draft: &mut Option<Draft>, line: &[u8]) -> Result<(), Stop>
+    ensures gives { Gives (λ _. option_map so_far draft.new) result (then_ok (header_line line.now) (λ s. Ok (Some s))) }
+    ensures sound { OnOk result (ForSome draft.new IsSoundDraft) }
+{
+    *draft = Some(header_line(alloc, line)?);
+    Ok(())
+}
+
 /// Adds a line, where `next` is the offset behind it and its line feed. The first object is the header, and each later one an event.
 #[tactic(auto, unfolding(crate::specs::Lines::add_line))]
 pub(crate) fn add_line(
@@ -95,9 +108,6 @@ pub(crate) fn add_line(
     }
     match draft {
         Some(draft) => add_event_line(alloc, draft, line),
-        None => {
-            *draft = Some(header_line(alloc, line)?);
-            Ok(())
-        }
+        None => begin(alloc, draft, line),
     }
 }

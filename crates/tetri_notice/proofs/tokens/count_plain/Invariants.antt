@@ -1,12 +1,12 @@
-use Rattle.std.proofs.Common.{length, ◌-◌, ◌≡◌, ◌≤◌, take, true}
-use Rattle.std.specs.List.{list_all}
+use Rattle.std.proofs.Common.{length, drop, ◌+◌, ◌-◌, ◌≡◌, ◌≤◌}
+use Rattle.std.specs.List.{prefix_len}
 use Rattle.json.specs.Run.{is_plain}
 use Rattle.tetri_notice.proofs.tokens.count_plain.Given as goal
 
 abbrev pub invariant-loop-i : goal.invariant-loop-i
 invariant-loop-i l = record {
   inside : l.i ≤ length l.text;
-  plain : list_all is_plain (take l.i l.text) ≡ true;
+  count : prefix_len is_plain l.text ≡ l.i + prefix_len is_plain (drop l.i l.text);
 }
 
 abbrev pub decreases-loop-i : goal.decreases-loop-i

@@ -10,4 +10,4 @@ returns c =
     let value : to_z w64 (of_z w64 c.in_ok-value.value) ≡ c.in_ok-value.value = search rules in
     rw (k, dur, value)
     (ask_puts (record { k = c.in_ok-k.k; dur = c.in_ok-dur.dur; value = c.in_ok-value.value; due = c.in_ok-due.due; class = c.in_ok-class.class }) c.args.reader.now c.number_at.new.reader c.number_at-2.new.reader
-    c.number_at-3.new.reader c.due_at.new.reader c.text_at.new.reader c.closes.new.self c.in_ok-k.ensures c.in_ok-dur.ensures c.in_ok-value.ensures c.in_ok-due.ensures c.in_ok-class.ensures c.in_ok-closes.ensures)
+    c.number_at-3.new.reader c.due_at.new.reader c.text_at.new.reader c.closes.new.self (rw c.again-tokens.ensures at c.in_ok-k.ensures) c.in_ok-dur.ensures c.in_ok-value.ensures c.in_ok-due.ensures c.in_ok-class.ensures c.in_ok-closes.ensures)

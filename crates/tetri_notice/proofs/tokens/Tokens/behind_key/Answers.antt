@@ -12,4 +12,4 @@ returns c =
       | then-self+in_ok-rest w ↦ inl (w.if-self.true, w.in_ok-rest.ensures ∙ ap (λ r. 44 ∷ r.now) (sym w.rest-is))
       | else-self w ↦ inr (w.if-self.false, ap (λ r. r.now) (sym w.rest-is))
     ] in
-    key_next c.args.self.now b old c.if-self.rest.now _ _ c.args.key.now c.behind-4.result (sym c.self.view_is) start c.in_ok-behind.ensures c.in_ok-behind-2.ensures c.requires c.behind-4.ensures
+    key_next c.args.self.now b old c.if-self.rest.now c.args.key.now c.behind_named.result (sym c.self.view_is) start c.requires c.behind_named.ensures
