@@ -30,14 +30,3 @@ gap_after-next s last i jobs d inside early =
     ap (gap_after s before) (drop_more jobs i d inside)
     ∙ by_test s before (moment_of s job.account) rest (may_begin s job.account) (nat_lt (moment_of s job.account) (s.origin + 10000 * s.slot)) early
     ∙ ap (λ n. gap_after s n rest) (sym (ap (last_second s last) (take_more jobs i d inside) ∙ last_second-push s last (take i jobs) job))
-
--- one that may begin and comes too late shows it
-pub gap_after-here : (s : Settings) (last i : ℕ) (jobs : List LoggedJob) (d : LoggedJob) → i < length jobs
-    → may_begin s (get_or jobs i d).account ≡ true → nat_lt (moment_of s (get_or jobs i d).account) (s.origin + 10000 * s.slot) ≡ false
-    → gap_after s last (drop i jobs) ≡ gap_at s last (moment_of s (get_or jobs i d).account)
-gap_after-here s last i jobs d inside begins late =
-    let moment = moment_of s (get_or jobs i d).account in
-    let rest = drop (i + 1) jobs in
-    ap (gap_after s last) (drop_more jobs i d inside)
-    ∙ ap (λ t. cond t (cond (nat_lt moment (s.origin + 10000 * s.slot)) (gap_after s moment rest) (gap_at s last moment)) (gap_after s last rest)) begins
-    ∙ ap (λ t. cond t (gap_after s moment rest) (gap_at s last moment)) late

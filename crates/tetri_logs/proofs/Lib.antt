@@ -1,5 +1,5 @@
 pub mod LogLaws
-pub mod LineTimes
+pub mod LineLaws
 pub mod PlaceLaws
 mod ReadingLemmas
 mod CommentLemmas

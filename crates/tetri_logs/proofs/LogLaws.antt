@@ -1,17 +1,12 @@
--- What follows of the entries of a log, and of jobs that come in their turn.
-use Rattle.std.proofs.Common.{◌≡◌, ◌+◌, ℕ, List, Bool, true, false, [], ◌∷◌, ◌++◌, length, cond, refl, ap, sym, arith, ◌∙◌, append_assoc}
-use Rattle.std.specs.Prelude.{None, Some}
+-- What follows of the entries of a log.
+use Rattle.std.proofs.Common.{◌≡◌, ◌+◌, List, [], ◌∷◌, ◌++◌, length, refl, ap, sym, arith, ◌∙◌, append_assoc}
 use Rattle.tetri_base.specs.Lists.{count}
 use Rattle.tetri_base.proofs.ListLaws.{sum_of-append}
-use Rattle.tetri_logs.specs.Origin.{begun, begun_with, gap_after, gap_at, is_in_run, may_begin}
 use Rattle.tetri_logs.specs.Reading.{facts_in, is_comment, jobs_in, left_in}
-use Rattle.tetri_logs.specs.Scale.{moment_of}
-use Rattle.tetri_logs.specs.declared.account.Account.{Account}
 use Rattle.tetri_logs.specs.declared.entry.Entry.{Entry}
 use Rattle.tetri_logs.specs.declared.entry.Entry.TheVariants.{Job, Comment, Left}
 use Rattle.tetri_logs.specs.declared.entry.LoggedJob.{LoggedJob}
 use Rattle.tetri_logs.specs.declared.entry.Reject.{Reject}
-use Rattle.tetri_logs.specs.declared.options.Settings.{Settings}
 use Rattle.tetri_logs.specs.declared.reading.Facts.{Facts}
 
 -- ---- the jobs, the lines left out, the facts and the comments of some entries and of others
@@ -49,25 +44,3 @@ all_entries [] = refl
 all_entries (Job job ∷ es) = omega (arith, all_entries es)
 all_entries (Comment fact ∷ es) = omega (arith, all_entries es)
 all_entries (Left reject ∷ es) = omega (arith, all_entries es)
-
--- ---- jobs that come in their turn
--- a job that comes early enough leaves no gap before it
-by_run : (s : Settings) (last moment : ℕ) (rest : List LoggedJob) (begins early : Bool) → early ≡ true → ((second : ℕ) → gap_after s second rest ≡ None)
-    → cond begins (cond early (gap_after s moment rest) (gap_at s last moment)) (gap_after s last rest) ≡ None
-by_run s last moment rest true true early none = none moment
-by_run s last moment rest true false early none = cc
-by_run s last moment rest false early known none = none last
-
-pub gap_after-early : (s : Settings) (last : ℕ) (job : LoggedJob) (rest : List LoggedJob) → is_in_run s job.account ≡ true → ((second : ℕ) → gap_after s second rest ≡ None)
-    → gap_after s last (job ∷ rest) ≡ None
-gap_after-early s last job rest early none =
-    by_run s last (moment_of s job.account) rest (may_begin s job.account) (is_in_run s job.account) early none
-
--- the first job begins slot 0 if it may
-begun_by : (s t : Settings) (a : Account) (second : ℕ) (b : Bool) → cond b (Some (record s { origin = moment_of s a })) None ≡ Some t
-    → record s { origin = cond b (moment_of s a) second } ≡ t
-begun_by s t a second true is = cc
-begun_by s t a second false is = cc
-
-pub begun-first : (s t : Settings) (job : LoggedJob) (jobs : List LoggedJob) → begun_with s job.account ≡ Some t → begun s (job ∷ jobs) ≡ t
-begun-first s t job jobs is = begun_by s t job.account _ (may_begin s job.account) is

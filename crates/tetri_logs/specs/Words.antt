@@ -1,6 +1,6 @@
 -- The words of a line, and the numbers that they are.
-use Rattle.std.specs.Prelude.{ℕ, ◌^◌, ◌==◌, ◌||◌, Bool, not, List, [], length, slice_index_or, Option, Some, None, option_map, ok_or, Result, Ok, if◌then◌else◌, bytes_eq, codes, filter}
-use Rattle.std.specs.List.{slice_split}
+use Rattle.std.specs.Prelude.{ℕ, ◌+◌, ◌^◌, ◌==◌, ◌||◌, Bool, not, List, [], drop, length, slice_index_or, Option, Some, None, option_map, ok_or, Result, Ok, if◌then◌else◌, bytes_eq, codes, filter}
+use Rattle.std.specs.List.{position_or_len, slice_split}
 use Rattle.tetri_io.specs.Numbers.{digits_below}
 use Rattle.tetri_logs.specs.declared.entry.Cause.{Cause}
 use Rattle.tetri_logs.specs.declared.entry.Cause.TheVariants.{Unreadable}
@@ -12,6 +12,10 @@ is_separator b = b == 32 || b == 9 || b == 13 || b == 59
 -- what stands between separators, where something does
 abbrev pub words_of : List ℕ → List (List ℕ)
 words_of line = filter (λ word. not (length word == 0)) (slice_split is_separator line)
+
+-- the place of the next such byte from one place on, or the length of the text
+abbrev pub next_place : ℕ → List ℕ → ℕ → ℕ
+next_place byte text from = from + position_or_len (λ b. b == byte) (drop from text)
 
 -- a word by its place
 abbrev pub word_at : List (List ℕ) → ℕ → List ℕ

@@ -65,16 +65,13 @@ impl<'a> JobName<'a> {
     }
 
     /// The name in memory of its own. Its only error is want of memory.
-    pub fn owned(self, alloc: Global) -> Result<Name, AllocError>
-        ensures { IfOk result (λ n. n ≡ self.entry) }
+    pub fn owned(&self, alloc: Global) -> Result<Name, AllocError>
+        ensures { IfOk result (λ n. n ≡ self.now) }
     {
-        match self.bytes {
-            NameBytes::Lent(bytes) => match Name::read(alloc, bytes) {
-                Ok(name) => Ok(name),
-                Err(NameFault::NotName) => unreachable!(),
-                Err(NameFault::NoMemory) => Err(AllocError),
-            },
-            NameBytes::Made(name) => Ok(Box::into_inner(name)),
+        match Name::read(alloc, self.bytes()) {
+            Ok(name) => Ok(name),
+            Err(NameFault::NotName) => unreachable!(),
+            Err(NameFault::NoMemory) => Err(AllocError),
         }
     }
 }

@@ -27,7 +27,7 @@ pub fn may_begin(settings: &Settings, account: Account) -> bool
     ensures { result ≡ may_begin settings.now account }
 {
     let begun = begun_at(settings, moment_of(settings, account));
-    place(&begun, account).is_ok()
+    place(&begun, &account).is_ok()
 }
 
 /// With slot 0 at the submission of a job, if it may begin.

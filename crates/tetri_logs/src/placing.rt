@@ -114,24 +114,24 @@ fn ask_of(settings: &Settings, nodes: u32, slots: u32) -> Result<Ask, Cause>
 
 /// The place of a job in a trace, or why it is left out.
 #[tactic(auto, unfolding(crate::specs::Placing::place))]
-pub fn place(settings: &Settings, account: Account) -> Result<Placing, Cause>
+pub fn place(settings: &Settings, account: &Account) -> Result<Placing, Cause>
     requires { AreGood settings.now }
-    ensures value { result ≡ place settings.now account }
+    ensures value { result ≡ place settings.now account.now }
     ensures placed { IfOk result IsPlaced }
 {
-    let moment = moment_of(settings, account);
+    let moment = moment_of(settings, *account);
     if is_outside(settings, moment) {
         return Err(Cause::Outside);
     }
-    let nodes = nodes_of(settings, account);
-    let room = room_of(settings, account);
+    let nodes = nodes_of(settings, *account);
+    let room = room_of(settings, *account);
     if room == 0 {
         return Err(Cause::NoSet);
     }
     if nodes > room {
         return Err(Cause::TooLarge);
     }
-    let part_node = is_part_node(settings, account);
+    let part_node = is_part_node(settings, *account);
     if settings.whole_nodes_only && part_node {
         return Err(Cause::PartNode);
     }

@@ -1,6 +1,6 @@
 // A line of what `sacct` prints with `--parsable2` or `--parsable`.
-ghost use Rattle.std.specs.Prelude.{◌≡◌, IfOk, OnOk, map};
-ghost use Rattle.tetri_logs.specs.Times.{IsDay};
+ghost use Rattle.std.specs.Prelude.{◌≡◌, IfOk, None, OnOk, map};
+ghost use Rattle.tetri_logs.specs.Times.{IsDay, seconds_in};
 ghost use Rattle.tetri_logs.specs.Sacct.{cell, elapsed, exact_count, is_cancelled, is_row, is_step, is_unknown, moment_in, needed_moment, nodes_in, pointed, processors_in, row_of, sacct_account, told_cell, without_return};
 
 use crate::account::{Account, Columns, account_of, positive};
@@ -102,6 +102,19 @@ fn needed_moment<'a>(last: &mut Day<'a>, column: usize, text: &'a [u8]) -> Resul
     }
 }
 
+// What a text in a column is that is no moment.
+#[inline(never)]
+fn no_moment(column: usize, text: &[u8]) -> Result<Option<u32>, Cause>
+    requires { seconds_in text.now ≡ None }
+    ensures { result ≡ moment_in column text.now }
+{
+    if is_unknown(text) {
+        Ok(None)
+    } else {
+        Err(Cause::Unreadable(column))
+    }
+}
+
 // A moment in a column, where it is known. What stands for none is no moment, so that it is looked at last.
 #[inline(always)]
 #[tactic(auto, using(crate::proofs::DayLemmas::known_moment))]
@@ -112,8 +125,7 @@ fn moment_in<'a>(last: &mut Day<'a>, column: usize, text: &'a [u8]) -> Result<Op
 {
     match seconds_by(last, text) {
         Some(seconds) => Ok(Some(seconds)),
-        None if is_unknown(text) => Ok(None),
-        None => Err(Cause::Unreadable(column)),
+        None => no_moment(column, text),
     }
 }
 

@@ -1,5 +1,5 @@
 // Where a byte comes next, found by vectors of 64 bytes or of 16, and of 8 at the end.
-ghost use Rattle.std.specs.Prelude.{◌≡◌, ◌+◌, ◌≤◌, ◌==◌, drop, length, map};
+ghost use Rattle.std.specs.Prelude.{◌≡◌, ◌+◌, ◌≤◌, ◌==◌, ◌<◌, drop, length, map, take};
 ghost use Rattle.std.specs.List.{position_or_len};
 ghost use Rattle.std.specs.Simd.Lanes.{mask_l};
 
@@ -90,4 +90,18 @@ pub(crate) fn next_far(text: &[u8], from: usize, byte: u8) -> usize
         i += 64;
     }
     next_place(text, i, byte)
+}
+
+/// Of each of the next 64 bytes from one place on whether it is this one, or of each that is left, in a text of 64 bytes or more.
+#[inline(always)]
+pub(crate) fn marks_from(text: &[u8], at: usize, byte: u8) -> u64
+    requires long { 64 ≤ length text.now }
+    requires inside { at < length text.now }
+    ensures { result ≡ mask_l (map (λ b. b == byte) (take 64 (drop at text.now))) }
+{
+    let left = text.len() - at;
+    if left >= 64 {
+        return marks_of_64(u8x64::from_slice(&text[at..]), byte);
+    }
+    marks_of_64(u8x64::from_slice(&text[text.len() - 64..]), byte) >> (64 - left)
 }

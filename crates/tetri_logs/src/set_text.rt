@@ -52,7 +52,7 @@ impl SetText {
     }
 
     /// The same set, which shares the text. Its only error is want of memory.
-    pub(crate) fn share(&self) -> Result<SetText, AllocError>
+    pub fn share(&self) -> Result<SetText, AllocError>
         ensures { IfOk result (λ set. set ≡ self.now) }
     {
         match &self.text {

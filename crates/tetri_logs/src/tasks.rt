@@ -1,5 +1,6 @@
 // The tasks of an array that wait, which stand in one line, as `14_[1,3,7-9%2]`.
 ghost use Rattle.std.specs.Prelude.{◌≡◌, ◌+◌, ◌*◌, ◌++◌, ◌∷◌, [], IfOk, OnOk, decimal, flat_map, map, nat_le, option_map};
+ghost use Rattle.tetri_io.specs.Words.{parts_at};
 ghost use Rattle.tetri_logs.specs.Tasks.{before_bracket, ids_in, ids_inside, is_array, list_by, run_alone, run_between, run_by, run_from, run_ids, run_in, run_to, runs_of, task_count, task_ids, task_ids_by};
 
 use crate::words::count_in;
@@ -206,13 +207,22 @@ fn task_ids_by(alloc: Global, parts: &[&[u8]]) -> Result<Option<Ids>, AllocError
     }
 }
 
+// Those of what stands before the bracket at an identifier's end.
+#[inline(never)]
+fn tasks_before(alloc: Global, text: &[u8]) -> Result<Option<Ids>, AllocError>
+    ensures { IfOk result (λ ids. ids ≡ task_ids_by (parts_at 91 text.now)) }
+{
+    let parts = parts_at(alloc, b'[', text)?;
+    task_ids_by(alloc, &parts)
+}
+
 /// The tasks that an identifier stands for, if it stands for some. Its only error is want of memory.
+#[inline(always)]
 pub(crate) fn task_ids(alloc: Global, id: &[u8]) -> Result<Option<Ids>, AllocError>
     ensures { IfOk result (λ ids. ids ≡ task_ids id.now) }
 {
-    let Some(text) = before_bracket(id) else {
-        return Ok(None);
-    };
-    let parts = parts_at(alloc, b'[', text)?;
-    task_ids_by(alloc, &parts)
+    match before_bracket(id) {
+        Some(text) => tasks_before(alloc, text),
+        None => Ok(None),
+    }
 }

@@ -50,7 +50,7 @@ impl<'a> Walk<'a> {
     }
 
     /// What the next line is. `None` exactly where there is none. Its only error is want of memory.
-    #[inline(always)]
+    #[inline(never)]
     pub fn next(&mut self, alloc: Global) -> Result<Option<Entries<'a>>, AllocError>
         ensures entries { IfOk result (λ found. MatchOption found (self.old.entries ≡ []) (λ es. self.old.entries ≡ entries_in es ++ self.new.entries)) }
         ensures few { IfOk result (λ found. IfSome found (λ es. count is_comment (entries_in es) ≤ 1)) }

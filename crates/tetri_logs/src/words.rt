@@ -1,11 +1,11 @@
 // The words of a line, and the numbers that they are.
-ghost use Rattle.std.specs.Prelude.{◌≡◌, ◌↔◌, ◌==◌, IsTrue, OnOk, bytes_eq, map};
+ghost use Rattle.std.specs.Prelude.{◌≡◌, ◌↔◌, ◌==◌, ◌+◌, ◌<◌, ◌≤◌, ◌++◌, ◌∷◌, [], IfOk, IsTrue, OnOk, bytes_eq, drop, length, map, min};
 ghost use Rattle.std.specs.List.{list_any};
 ghost use Rattle.tetri_io.specs.Words.{parts_at};
-ghost use Rattle.tetri_logs.specs.Words.{amount, count_in, is_separator, needed, word_at, words_of};
+ghost use Rattle.tetri_logs.specs.Words.{amount, count_in, is_separator, needed, next_place, word_at, words_of};
 
 use crate::entry::Cause;
-use crate::scan::next_place;
+use crate::scan::{marks_from, next_place};
 use std::alloc::AllocError;
 use tetri_io::digits_below;
 
@@ -60,6 +60,67 @@ pub(crate) fn words_of<'a>(words: &mut Vec<&'a [u8]>, line: &'a [u8]) -> Result<
     Ok(())
 }
 
+// Adds the parts that end at the marks among the next 64 bytes from a place on, and gives where the next part begins.
+#[inline(always)]
+fn add_parts<'a>(
+    parts: &mut Vec<&'a [u8]>,
+    mark: u8,
+    line: &'a [u8],
+    mut begin: usize,
+    mut at: usize,
+) -> Result<usize, AllocError>
+    requires long { 64 ≤ length line.now }
+    requires inside { at < length line.now }
+    requires order { begin ≤ length line.now }
+    requires next { next_place mark line.now begin ≡ next_place mark line.now at }
+    ensures inside { IfOk result (λ last. last ≤ length line.now) }
+    ensures next { IfOk result (λ last. next_place mark line.now last ≡ next_place mark line.now (min (at + 64) (length line.now))) }
+    ensures parts { IfOk result (λ last. map (λ x. x.now) parts.new.items ++ parts_at mark (drop last line.now) ≡ map (λ x. x.now) parts.old.items ++ parts_at mark (drop begin line.now)) }
+{
+    let mut found = marks_from(line, at, mark);
+    while found != 0 {
+        let skip = found.trailing_zeros() as usize;
+        let end = at + skip;
+        parts.push(&line[begin..end])?;
+        begin = end + 1;
+        at = end + 1;
+        found = (found >> skip) >> 1;
+    }
+    Ok(begin)
+}
+
+// Adds all parts but the last of a line of 64 bytes or more, and gives where the last begins.
+#[inline(always)]
+fn add_long<'a>(parts: &mut Vec<&'a [u8]>, mark: u8, line: &'a [u8]) -> Result<usize, AllocError>
+    requires { 64 ≤ length line.now }
+    ensures inside { IfOk result (λ last. last ≤ length line.now) }
+    ensures parts { IfOk result (λ last. map (λ x. x.now) parts.new.items ++ drop last line.now ∷ [] ≡ map (λ x. x.now) parts.old.items ++ parts_at mark line.now) }
+{
+    let mut begin = 0;
+    let mut at = 0;
+    while at < line.len() {
+        begin = add_parts(parts, mark, line, begin, at)?;
+        at += 64;
+    }
+    Ok(begin)
+}
+
+// The same of a line of any length.
+#[inline(always)]
+fn add_short<'a>(parts: &mut Vec<&'a [u8]>, mark: u8, line: &'a [u8]) -> Result<usize, AllocError>
+    ensures inside { IfOk result (λ last. last ≤ length line.now) }
+    ensures parts { IfOk result (λ last. map (λ x. x.now) parts.new.items ++ drop last line.now ∷ [] ≡ map (λ x. x.now) parts.old.items ++ parts_at mark line.now) }
+{
+    let mut begin = 0;
+    let mut end = next_place(line, begin, mark);
+    while end < line.len() {
+        parts.push(&line[begin..end])?;
+        begin = end + 1;
+        end = next_place(line, begin, mark);
+    }
+    Ok(begin)
+}
+
 /// Puts what stands between single bytes of a kind, before the first and behind the last, in the place of other parts. Its only error is
 /// want of memory.
 pub(crate) fn parts_of<'a>(
@@ -70,14 +131,12 @@ pub(crate) fn parts_of<'a>(
     ensures { OnOk result (map (λ x. x.now) parts.new.items ≡ parts_at mark line.now) }
 {
     parts.clear();
-    let mut from = 0;
-    let mut end = next_place(line, from, mark);
-    while end < line.len() {
-        parts.push(&line[from..end])?;
-        from = end + 1;
-        end = next_place(line, from, mark);
-    }
-    parts.push(&line[from..])?;
+    let last = if line.len() < 64 {
+        add_short(parts, mark, line)?
+    } else {
+        add_long(parts, mark, line)?
+    };
+    parts.push(&line[last..])?;
     Ok(())
 }
 
