@@ -1,5 +1,5 @@
 -- Jobs that come, that are handled, and that are put in order.
-use Rattle.std.proofs.Common.{◌≡◌, ◌+◌, ◌*◌, ◌<◌, ◌≤◌, ◌∙◌, ◌++◌, ◌∷◌, ◌⊎◌, inl, inr, [], ℕ, List, Bool, true, false, cond, max, not, ◌&&◌, refl, ap, sym, subst, arith, append_assoc, true≢false}
+use Rattle.std.proofs.Common.{◌≡◌, ◌+◌, ◌*◌, ◌<◌, ◌≤◌, ◌∙◌, ◌++◌, ◌∷◌, ◌⊎◌, inl, inr, [], ℕ, List, Bool, true, false, cond, not, ◌&&◌, refl, ap, sym, subst, arith, append_assoc, true≢false}
 use Rattle.std.specs.Prelude.{All, Contains, IfSome, Option, Some, None, Ok, Err, is_ok, nat_lt}
 use Rattle.std.proofs.lemmas.Bool.Decides.{nat_tests}
 use Rattle.std.proofs.lemmas.List.Elements.{All-push, All-tail, All-weaker, Contains-append_left, Contains-append_right, Contains-push}
@@ -20,10 +20,12 @@ use Rattle.tetri_logs.specs.Scale.{moment_of}
 use Rattle.tetri_logs.specs.declared.entry.LoggedJob.{LoggedJob}
 use Rattle.tetri_logs.specs.declared.options.Options.{Options}
 use Rattle.tetri_logs.specs.declared.options.Settings.{Settings}
+use Rattle.tetri_workload.specs.Marks.{AreSecondsMarked, is_marked, place_of_second}
 use Rattle.tetri_workload.specs.Ordering.{IsMoveBy}
-use Rattle.tetri_workload.specs.Reading.{AreBelow, AreHandled, AreJoined, AreWanted, ComeInTurn, HasBridge, HasPlaced, IsHandled, IsJoinedBy, IsNear, MayLeave, is_placed, last_behind}
+use Rattle.tetri_workload.specs.Reading.{AreHandled, AreJoined, AreWanted, ComeInTurn, HasBridge, HasPlaced, IsHandled, IsJoinedBy, IsNear, MayLeave, is_placed, last_behind}
 use Rattle.tetri_workload.specs.Taking.{is_full, left_out, named, nothing_taken, so_far, with_logged, with_placed}
 use Rattle.tetri_workload.specs.declared.intake.Intake.{Intake}
+use Rattle.tetri_workload.specs.declared.marks.Marks.{Marks}
 use Rattle.tetri_workload.proofs.OrderLemmas.{IsMoveBy-append, IsMoveBy-before, IsMoveBy-past, IsMoveBy-sym, IsMoveBy-trans}
 use Rattle.tetri_workload.proofs.EntryLemmas.{submit_of}
 
@@ -276,28 +278,28 @@ pub wanted-behind : (s : Settings) (xs ys : List LoggedJob) → AreWanted s (xs 
 wanted-behind s [] ys wanted = wanted
 wanted-behind s (x ∷ xs) ys wanted = wanted-behind s xs ys (All-tail (λ j. is_outside s (moment_of s j.account) ≡ false) x (xs ++ ys) wanted)
 
--- the last of jobs that were submitted no later were so too
-pub below-behind : (high : ℕ) (xs ys : List LoggedJob) → AreBelow high (xs ++ ys) → AreBelow high ys
-below-behind high [] ys below = below
-below-behind high (x ∷ xs) ys below = below-behind high xs ys (All-tail (λ j. j.account.submit ≤ high) x (xs ++ ys) below)
-
+-- ---- the seconds of those that are held back
 -- with one job more
-raised : (m n : ℕ) → m ≤ max m n
-raised m n = grind (arith, nat_tests)
+pub marked-more : (before after : Marks) (jobs : List LoggedJob) (job : LoggedJob) → is_marked after (place_of_second job.account.submit) ≡ true
+    → ((other : ℕ) → is_marked before other ≡ true → is_marked after other ≡ true)
+    → AreSecondsMarked before jobs → AreSecondsMarked after (jobs ++ job ∷ [])
+marked-more before after jobs job own others marked =
+    All-push (λ j. is_marked after (place_of_second j.account.submit) ≡ true) jobs job
+    (All-weaker (λ j. is_marked before (place_of_second j.account.submit) ≡ true) (λ j. is_marked after (place_of_second j.account.submit) ≡ true) (λ j is. others (place_of_second j.account.submit) is) jobs marked)
+    own
 
-reached : (m n : ℕ) → n ≤ max m n
-reached m n = grind (arith, nat_tests)
+-- a job whose second is not marked was submitted in that of none of these
+apart-unmarked : (seconds : Marks) (jobs : List LoggedJob) (job : LoggedJob) → AreSecondsMarked seconds jobs → is_marked seconds (place_of_second job.account.submit) ≡ false
+    → All (λ j. submit_of job ≡ submit_of j → ⊥) jobs
+apart-unmarked seconds jobs job marked none =
+    All-weaker (λ j. is_marked seconds (place_of_second j.account.submit) ≡ true) (λ j. submit_of job ≡ submit_of j → ⊥)
+    (λ j is same. true≢false (sym is ∙ ap (λ n. is_marked seconds (place_of_second n)) (sym same) ∙ none)) jobs marked
 
-pub below-more : (high : ℕ) (jobs : List LoggedJob) (job : LoggedJob) → AreBelow high jobs → AreBelow (max high job.account.submit) (jobs ++ job ∷ [])
-below-more high jobs job below =
-    let more = max high job.account.submit in
-    All-push (λ j. j.account.submit ≤ more) jobs job
-    (All-weaker (λ j. j.account.submit ≤ high) (λ j. j.account.submit ≤ more) (λ j low. let up = raised high job.account.submit in omega (arith, low, up)) jobs below)
-    (reached high job.account.submit)
-
--- a job that was submitted behind those that are held back comes before them
-pub comes-first : (s : Settings) (o : Options) (all held : List LoggedJob) (i : Intake) (job : LoggedJob) (high : ℕ) → AreBelow high held → high < job.account.submit
+-- such a job comes before those that are held back
+pub comes-first : (s : Settings) (o : Options) (all held : List LoggedJob) (i : Intake) (job : LoggedJob) (seconds : Marks) → AreSecondsMarked seconds held
+    → is_marked seconds (place_of_second job.account.submit) ≡ false
     → AreHandled s o all held i → AreHandled s o (all ++ job ∷ []) (job ∷ held) i
-comes-first s o all held i job high below behind given =
-    let apart_from : All (λ j. submit_of job ≡ submit_of j → ⊥) held = All-weaker (λ j. j.account.submit ≤ high) (λ j. submit_of job ≡ submit_of j → ⊥) (λ j low same. omega (arith, low, behind, same)) held below in
-    put_in_order s o (all ++ job ∷ []) (held ++ job ∷ []) (job ∷ held) i (IsMoveBy-sym submit_of (job ∷ held) (held ++ job ∷ []) (IsMoveBy-past submit_of job held apart_from)) (arrived s o all held i job given)
+comes-first s o all held i job seconds marked none given =
+    put_in_order s o (all ++ job ∷ []) (held ++ job ∷ []) (job ∷ held) i
+    (IsMoveBy-sym submit_of (job ∷ held) (held ++ job ∷ []) (IsMoveBy-past submit_of job held (apart-unmarked seconds held job marked none)))
+    (arrived s o all held i job given)

@@ -1,5 +1,5 @@
 -- What is said by the lines so far, with one entry more.
-use Rattle.std.proofs.Common.{◌≡◌, ◌+◌, ◌∙◌, ◌++◌, ◌∷◌, [], List, ap, refl, sym, subst, arith, append_assoc}
+use Rattle.std.proofs.Common.{◌≡◌, ◌+◌, ◌∙◌, ◌++◌, ◌∷◌, [], List, ap, cond, false, map, refl, sym, subst, arith, append_assoc}
 use Rattle.std.specs.Prelude.{Option}
 use Rattle.std.proofs.lemmas.List.{append-nil}
 use Rattle.tetri_base.specs.Lists.{count}
@@ -13,8 +13,9 @@ use Rattle.tetri_logs.specs.declared.entry.Reject.{Reject}
 use Rattle.tetri_logs.specs.declared.options.Options.{Options}
 use Rattle.tetri_logs.specs.declared.options.Settings.{Settings}
 use Rattle.tetri_logs.proofs.LogLaws.{comments-append, facts_in-append, left_in-append}
-use Rattle.tetri_workload.specs.Kinds.{settled_all}
-use Rattle.tetri_workload.specs.Reading.{AreBelow, AreHandled, AreWanted, IsRead, IsReadOf, jobs_of}
+use Rattle.tetri_workload.specs.Kinds.{are_mixed, settled, settled_all}
+use Rattle.tetri_workload.specs.Marks.{AreSecondsMarked}
+use Rattle.tetri_workload.specs.Reading.{AreHandled, AreWanted, IsRead, IsReadOf, jobs_of}
 use Rattle.tetri_workload.specs.declared.reading.Reading.{Reading}
 use Rattle.tetri_workload.proofs.EntryLemmas.{jobs_of-append}
 
@@ -24,6 +25,10 @@ handled-none : (s : Settings) (o : Options) (nodes : List NodeText) (es more : L
 handled-none s o nodes es more r none given =
     subst (λ js. AreHandled s o js r.intake.held.items r.intake) (sym (jobs_of-append nodes es more ∙ ap (λ js. jobs_of nodes es ++ js) none ∙ append-nil (jobs_of nodes es))) given
 
+-- where nodes do not differ, a job stays as it is
+pub settled-alike : (nodes : List NodeText) (job : LoggedJob) → are_mixed nodes ≡ false → job ∷ [] ≡ settled_all nodes (job ∷ [])
+settled-alike nodes job alike = sym (ap (λ b. cond b (map (settled nodes) (job ∷ [])) (job ∷ [])) alike)
+
 -- a job
 pub read-job : (s : Settings) (o : Options) (nodes : List NodeText) (es : List Entry) (q r : Reading) (job settled : LoggedJob) → IsRead s o nodes es q
     → settled ∷ [] ≡ settled_all nodes (job ∷ [])
@@ -31,17 +36,17 @@ pub read-job : (s : Settings) (o : Options) (nodes : List NodeText) (es : List E
     → r.facts ≡ q.facts
     → r.comments ≡ q.comments
     → AreWanted s r.intake.held.items
-    → AreBelow r.intake.high r.intake.held.items
+    → AreSecondsMarked r.intake.seconds r.intake.held.items
     → AreHandled s o (jobs_of nodes es ++ settled ∷ []) r.intake.held.items r.intake
     → IsRead s o nodes (es ++ Job job ∷ []) r
-read-job s o nodes es q r job settled given is left facts comments wanted below handled =
+read-job s o nodes es q r job settled given is left facts comments wanted marked handled =
     let zero : count is_comment (Job job ∷ []) ≡ 0 = refl in
     record {
       left = left ∙ given.left ∙ sym (left_in-append es (Job job ∷ []) ∙ append-nil (left_in es));
       facts = facts ∙ given.facts ∙ sym (facts_in-append no_facts es (Job job ∷ []));
       comments = omega (arith, comments, given.comments, comments-append es (Job job ∷ []), zero);
       wanted = wanted;
-      below = below;
+      marked = marked;
       handled = subst (λ js. AreHandled s o js r.intake.held.items r.intake) (ap (λ js. jobs_of nodes es ++ js) is ∙ sym (jobs_of-append nodes es (Job job ∷ []))) handled;
     }
 
@@ -60,7 +65,7 @@ read-comment s o nodes es q r fact none given intake left facts comments =
       facts = facts ∙ ap (λ f. with_fact f fact) given.facts ∙ sym (facts_in-append no_facts es (Comment fact ∷ []));
       comments = omega (arith, comments, given.comments, comments-append es (Comment fact ∷ []), one);
       wanted = subst (λ i. AreWanted s i.held.items) (sym intake) given.wanted;
-      below = subst (λ i. AreBelow i.high i.held.items) (sym intake) given.below;
+      marked = subst (λ i. AreSecondsMarked i.seconds i.held.items) (sym intake) given.marked;
       handled = handled-none s o nodes es (Comment fact ∷ []) r none (subst (λ i. AreHandled s o (jobs_of nodes es) i.held.items i) (sym intake) given.handled);
     }
 
@@ -79,7 +84,7 @@ read-left s o nodes es q r reject none given intake left facts comments =
       facts = facts ∙ given.facts ∙ sym (facts_in-append no_facts es (Left reject ∷ []));
       comments = omega (arith, comments, given.comments, comments-append es (Left reject ∷ []), zero);
       wanted = subst (λ i. AreWanted s i.held.items) (sym intake) given.wanted;
-      below = subst (λ i. AreBelow i.high i.held.items) (sym intake) given.below;
+      marked = subst (λ i. AreSecondsMarked i.seconds i.held.items) (sym intake) given.marked;
       handled = handled-none s o nodes es (Left reject ∷ []) r none (subst (λ i. AreHandled s o (jobs_of nodes es) i.held.items i) (sym intake) given.handled);
     }
 

@@ -1,15 +1,24 @@
--- Marks of names.
+-- Marks of names and of seconds.
 use Rattle.std.specs.Prelude.{◌≡◌, ℕ, ◌+◌, ◌*◌, ◌%◌, Bool, true, List, All, fold, slice_index_or}
+use Rattle.tetri_logs.specs.declared.entry.LoggedJob.{LoggedJob}
 use Rattle.tetri_workload.specs.declared.marks.Marks.{Marks}
 
 -- where the mark of a name stands, which other names may share
-abbrev pub place_of : List ℕ → ℕ
-place_of name = fold (λ place b. (place * 31 + b) % 1048576) 0 name
+abbrev pub place_of_name : List ℕ → ℕ
+place_of_name name = fold (λ place b. (place * 31 + b) % 1048576) 0 name
 
--- whether a name is marked
-abbrev pub is_marked : Marks → List ℕ → Bool
-is_marked m name = slice_index_or m.marks.items (place_of name) true
+-- where the mark of a second stands, which other seconds may share
+abbrev pub place_of_second : ℕ → ℕ
+place_of_second second = second % 1048576
 
--- each of these is
+-- whether a place is marked
+abbrev pub is_marked : Marks → ℕ → Bool
+is_marked m place = slice_index_or m.marks.items place true
+
+-- each of these names is marked
 abbrev pub AreMarked : Marks → List (List ℕ) → Type 0
-AreMarked m names = All (λ name. is_marked m name ≡ true) names
+AreMarked m names = All (λ name. is_marked m (place_of_name name) ≡ true) names
+
+-- the second in which each of these jobs was submitted is marked
+abbrev pub AreSecondsMarked : Marks → List LoggedJob → Type 0
+AreSecondsMarked m jobs = All (λ j. is_marked m (place_of_second j.account.submit) ≡ true) jobs

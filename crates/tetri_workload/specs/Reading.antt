@@ -12,6 +12,7 @@ use Rattle.tetri_logs.specs.declared.entry.LoggedJob.{LoggedJob}
 use Rattle.tetri_logs.specs.declared.options.Options.{Options}
 use Rattle.tetri_logs.specs.declared.options.Settings.{Settings}
 use Rattle.tetri_workload.specs.Kinds.{settled_all}
+use Rattle.tetri_workload.specs.Marks.{AreSecondsMarked}
 use Rattle.tetri_workload.specs.Ordering.{IsMoveBy}
 use Rattle.tetri_workload.specs.Taking.{Tally, is_full, nothing_taken, so_far, taken_all, with_logged}
 use Rattle.tetri_workload.specs.declared.intake.Intake.{Intake}
@@ -74,6 +75,11 @@ pub record IsJoinedBy (s : Settings) (i : Intake) (a : Account) : Type 0 where
   pub beyond : is_in_run s a ≡ false
   pub near : IsNear s i.placed a
 
+-- a job that may begin does not come before slot 0, and comes early enough for the trace unless late jobs leave no gap
+pub record IsTimely (s : Settings) (i : Intake) (a : Account) : Type 0 where
+  pub begins : may_begin s a ≡ true → s.origin ≤ moment_of s a
+  pub early : i.joined ≡ false → may_begin s a ≡ true → is_in_run s a ≡ true
+
 -- A job without a place may be left out, and then late jobs leave no gap or are not known not to: it does not begin slot 0 earlier, nor comes too late unless none leaves one.
 pub record MayLeave (s : Settings) (i : Intake) (a : Account) (joined : Bool) : Type 0 where
   pub begins : may_begin s a ≡ true → s.origin ≤ moment_of s a
@@ -84,10 +90,6 @@ pub record MayLeave (s : Settings) (i : Intake) (a : Account) (joined : Bool) : 
 -- these jobs are in the wanted part of the log
 abbrev pub AreWanted : Settings → List LoggedJob → Type 0
 AreWanted s jobs = All (λ j. is_outside s (moment_of s j.account) ≡ false) jobs
-
--- none of these jobs was submitted later than this
-abbrev pub AreBelow : ℕ → List LoggedJob → Type 0
-AreBelow high jobs = All (λ j. j.account.submit ≤ high) jobs
 
 -- Of all jobs that have come, those in this order were handled, each in its turn, and the rest is still to be handled.
 pub record IsHandled (s : Settings) (o : Options) (all rest : List LoggedJob) (i : Intake) (order : List LoggedJob) : Type 0 where
@@ -108,7 +110,7 @@ pub record IsRead (s : Settings) (o : Options) (nodes : List NodeText) (es : Lis
   pub facts : r.facts ≡ facts_in no_facts es
   pub comments : r.comments ≡ count is_comment es
   pub wanted : AreWanted s r.intake.held.items
-  pub below : AreBelow r.intake.high r.intake.held.items
+  pub marked : AreSecondsMarked r.intake.seconds r.intake.held.items
   pub handled : AreHandled s o (jobs_of nodes es) r.intake.held.items r.intake
 
 -- the same of the first lines of a log with these entries, where the others are not read yet

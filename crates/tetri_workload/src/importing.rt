@@ -125,7 +125,7 @@ fn draw_listed(
         None => {}
         Some(second) => return Err(ImportFault::Apart(second)),
     }
-    let taken = take_all(alloc, &settings, jobs)?;
+    let taken = take_all(alloc, &settings, &jobs)?;
     Ok(Drawn {
         settings,
         taken,

@@ -1,5 +1,5 @@
 // What is taken of the jobs of a log as they come.
-ghost use Rattle.std.specs.Prelude.{◌≡◌, ◌↔◌, ◌+◌, ◌*◌, ◌<◌, ◌≤◌, ◌^◌, ◌++◌, ◌∷◌, [], Err, IfOk, IfSome, IsTrue, List, None, Ok, OnOk, Some, cond, length, true, false, ℕ};
+ghost use Rattle.std.specs.Prelude.{◌≡◌, ◌↔◌, ◌+◌, ◌*◌, ◌<◌, ◌≤◌, ◌^◌, ◌++◌, ◌∷◌, [], Bool, Err, IfOk, IsTrue, List, MatchOption, None, Ok, OnOk, Some, cond, drop, length, true, false, ℕ};
 ghost use Rattle.tetri_logs.specs.Options.{AreGood};
 ghost use Rattle.tetri_logs.specs.Origin.{begun_at, is_in_run, may_begin};
 ghost use Rattle.tetri_logs.specs.Placing.{IsPlaced, place};
@@ -7,9 +7,11 @@ ghost use Rattle.tetri_logs.specs.Scale.{moment_of};
 ghost use Rattle.tetri_logs.specs.declared.entry.LoggedJob.{LoggedJob};
 ghost use Rattle.tetri_logs.specs.declared.options.Options.{Options};
 ghost use Rattle.tetri_logs.specs.declared.options.Settings.{Settings};
-ghost use Rattle.tetri_workload.specs.Reading.{AreBelow, AreHandled, AreWanted, IsJoinedBy, IsNear, MayLeave};
+ghost use Rattle.tetri_workload.specs.Marks.{AreSecondsMarked};
+ghost use Rattle.tetri_workload.specs.Reading.{AreHandled, AreWanted, IsJoinedBy, IsNear, IsTimely, MayLeave};
 ghost use Rattle.tetri_workload.specs.Taking.{HasMarks};
 
+use crate::marks::{Marks, place_of_second};
 use crate::ordering::by_submission;
 use crate::taking::Taken;
 use std::alloc::{AllocError, Global};
@@ -50,18 +52,29 @@ pub struct Intake<'a> {
     pub placed: Option<u32>,
     /// Whether jobs that come too late for the trace leave no gap, whatever else comes.
     pub joined: bool,
-    /// No job that is held back was submitted later.
-    pub high: u32,
+    // A mark for the second of each job that is held back, and perhaps others.
+    seconds: Marks,
 }
 
-// All of these jobs but the last so many, which stay.
-fn all_but<'a>(left: usize, jobs: &mut Vec<LoggedJob<'a>>) -> Result<Vec<LoggedJob<'a>>, AllocError>
-    ensures jobs { IfOk result (λ first. first.items ++ jobs.new.items ≡ jobs.old.items) }
-    ensures few { OnOk result (length jobs.new.items ≤ left) }
+// Without the first so many of these jobs. The others keep their memory.
+fn drop_first(jobs: &mut Vec<LoggedJob<'_>>, many: usize)
+    requires { many ≤ length jobs.old.items }
+    ensures { jobs.new.items ≡ drop many jobs.old.items }
 {
-    let many = jobs.len().saturating_sub(left);
-    let behind = jobs.split_off(many)?;
-    Ok(mem::replace(jobs, behind))
+    let left = jobs.len() - many;
+    jobs.rotate_left(many);
+    jobs.truncate(left);
+}
+
+// A mark for the second of each of these jobs.
+fn seconds_of(alloc: Global, jobs: &[LoggedJob<'_>]) -> Result<Marks, AllocError>
+    ensures { IfOk result (λ seconds. AreSecondsMarked seconds jobs.now) }
+{
+    let mut seconds = Marks::new(alloc)?;
+    for job in jobs {
+        seconds.add(place_of_second(job.account.submit));
+    }
+    Ok(seconds)
 }
 
 // The last second behind a job with a place: its own, unless it found the trace full.
@@ -101,7 +114,7 @@ impl<'a> Intake<'a> {
             last: 0,
             placed: None,
             joined: options.from.is_some(),
-            high: 0,
+            seconds: Marks::new(alloc)?,
         })
     }
 
@@ -109,8 +122,7 @@ impl<'a> Intake<'a> {
     fn is_timely(&self, settings: &Settings, account: Account) -> bool
         requires good { AreGood settings.now }
         requires small { settings.now.origin < 2 ^ 33 }
-        ensures begins { IsTrue result → may_begin settings.now account ≡ true → settings.now.origin ≤ moment_of settings.now account }
-        ensures early { IsTrue result → self.now.joined ≡ false → may_begin settings.now account ≡ true → is_in_run settings.now account ≡ true }
+        ensures { IsTrue result ↔ IsTimely settings.now self.now account }
     {
         if settings.origin <= moment_of(settings, account)
             && (self.joined || is_in_run(settings, account))
@@ -124,7 +136,7 @@ impl<'a> Intake<'a> {
     fn is_joined_by(&self, settings: &Settings, account: Account) -> bool
         requires good { AreGood settings.now }
         requires small { settings.now.origin < 2 ^ 33 }
-        ensures { IsTrue result → IsJoinedBy settings.now self.now account }
+        ensures { IsTrue result ↔ IsJoinedBy settings.now self.now account }
     {
         is_near(settings, self.placed, account)
             && !is_in_run(settings, account)
@@ -135,7 +147,7 @@ impl<'a> Intake<'a> {
     fn joined_behind(&self, settings: &Settings, account: Account) -> Option<bool>
         requires good { AreGood settings.now }
         requires small { settings.now.origin < 2 ^ 33 }
-        ensures { IfSome result (MayLeave settings.now self.now account) }
+        ensures { MatchOption result ((joined : Bool) → MayLeave settings.now self.now account joined → ⊥) (MayLeave settings.now self.now account) }
     {
         if self.is_timely(settings, account) {
             return Some(self.joined);
@@ -152,17 +164,17 @@ impl<'a> Intake<'a> {
         &mut self,
         alloc: Global,
         settings: &Settings,
-        job: LoggedJob<'_>,
+        job: &LoggedJob<'_>,
         placing: &Placing,
     ) -> Result<(), Halt>
         requires good { AreGood settings.now }
-        requires place { place settings.now job.account ≡ Ok placing.now }
+        requires place { place settings.now job.now.account ≡ Ok placing.now }
         requires placed { IsPlaced placing.now }
         requires marks { HasMarks self.old.taken }
         ensures marks { OnOk result (HasMarks self.new.taken) }
         ensures held { OnOk result (self.new.held ≡ self.old.held) }
-        ensures high { OnOk result (self.new.high ≡ self.old.high) }
-        ensures handled { OnOk result ((o : Options) → (all rest : List LoggedJob) → AreHandled settings.now o all (job.entry ∷ rest) self.old → AreHandled settings.now o all rest self.new) }
+        ensures seconds { OnOk result (self.new.seconds ≡ self.old.seconds) }
+        ensures handled { OnOk result ((o : Options) → (all rest : List LoggedJob) → AreHandled settings.now o all (job.now ∷ rest) self.old → AreHandled settings.now o all rest self.new) }
     {
         let submit = job.account.submit;
         if submit < self.last {
@@ -175,15 +187,15 @@ impl<'a> Intake<'a> {
     }
 
     // A job without a place, if it comes in its turn.
-    fn leave(&mut self, settings: &Settings, job: LoggedJob<'_>, cause: Cause) -> Result<(), Halt>
+    fn leave(&mut self, settings: &Settings, job: &LoggedJob<'_>, cause: Cause) -> Result<(), Halt>
         requires good { AreGood settings.now }
         requires small { settings.now.origin < 2 ^ 33 }
-        requires place { place settings.now job.account ≡ Err cause }
+        requires place { place settings.now job.now.account ≡ Err cause }
         requires marks { HasMarks self.old.taken }
         ensures marks { OnOk result (HasMarks self.new.taken) }
         ensures held { OnOk result (self.new.held ≡ self.old.held) }
-        ensures high { OnOk result (self.new.high ≡ self.old.high) }
-        ensures handled { OnOk result ((o : Options) → (all rest : List LoggedJob) → AreHandled settings.now o all (job.entry ∷ rest) self.old → AreHandled settings.now o all rest self.new) }
+        ensures seconds { OnOk result (self.new.seconds ≡ self.old.seconds) }
+        ensures handled { OnOk result ((o : Options) → (all rest : List LoggedJob) → AreHandled settings.now o all (job.now ∷ rest) self.old → AreHandled settings.now o all rest self.new) }
     {
         let Some(joined) = self.joined_behind(settings, job.account) else {
             return Err(Halt::OutOfTurn);
@@ -195,16 +207,21 @@ impl<'a> Intake<'a> {
 
     // A job, if it comes in its turn.
     #[inline(always)]
-    fn handle(&mut self, alloc: Global, settings: &Settings, job: LoggedJob<'_>) -> Result<(), Halt>
+    fn handle(
+        &mut self,
+        alloc: Global,
+        settings: &Settings,
+        job: &LoggedJob<'_>,
+    ) -> Result<(), Halt>
         requires good { AreGood settings.now }
         requires small { settings.now.origin < 2 ^ 33 }
         requires marks { HasMarks self.old.taken }
         ensures marks { OnOk result (HasMarks self.new.taken) }
         ensures held { OnOk result (self.new.held ≡ self.old.held) }
-        ensures high { OnOk result (self.new.high ≡ self.old.high) }
-        ensures handled { OnOk result ((o : Options) → (all rest : List LoggedJob) → AreHandled settings.now o all (job.entry ∷ rest) self.old → AreHandled settings.now o all rest self.new) }
+        ensures seconds { OnOk result (self.new.seconds ≡ self.old.seconds) }
+        ensures handled { OnOk result ((o : Options) → (all rest : List LoggedJob) → AreHandled settings.now o all (job.now ∷ rest) self.old → AreHandled settings.now o all rest self.new) }
     {
-        match place(settings, job.account) {
+        match place(settings, &job.account) {
             Ok(placing) => self.take(alloc, settings, job, &placing),
             Err(cause) => self.leave(settings, job, cause),
         }
@@ -216,20 +233,54 @@ impl<'a> Intake<'a> {
         requires marks { HasMarks self.old.taken }
         ensures marks { OnOk result (HasMarks self.new.taken) }
         ensures wanted { OnOk result (AreWanted settings.now self.old.held.items → AreWanted settings.now self.new.held.items) }
-        ensures below { OnOk result (AreBelow self.old.high self.old.held.items → AreBelow self.new.high self.new.held.items) }
+        ensures marked { OnOk result (AreSecondsMarked self.old.seconds self.old.held.items → AreSecondsMarked self.new.seconds self.new.held.items) }
         ensures handled { OnOk result ((x : ℕ) → (o : Options) → (all : List LoggedJob) → AreWanted settings.now self.old.held.items → AreHandled (begun_at settings.now x) o all self.old.held.items self.old → AreHandled (begun_at settings.now x) o (all ++ job.entry ∷ []) self.new.held.items self.new) }
     {
         if is_outside(settings, moment_of(settings, job.account)) {
             self.taken.leave(job.line, Cause::Outside)?;
             return Ok(());
         }
-        self.high = self.high.max(job.account.submit);
+        self.seconds.add(place_of_second(job.account.submit));
         self.held.push(job)?;
         Ok(())
     }
 
-    // A job that comes, where slot 0 is known: it is handled behind a trace that is full, left out where it has no place and was submitted behind
-    // those that are held back, and else held back.
+    /// Whether a job that comes, where slot 0 is known, passes those that are held back: it is handled behind a trace that is full, and left out where it has
+    /// no place and by the marks none of those that are held back was submitted in its second. Any other one is to be held back.
+    #[inline(always)]
+    pub(crate) fn passes(
+        &mut self,
+        alloc: Global,
+        settings: &Settings,
+        job: &LoggedJob<'_>,
+    ) -> Result<bool, Halt>
+        requires good { AreGood settings.now }
+        requires small { settings.now.origin < 2 ^ 33 }
+        requires marks { HasMarks self.old.taken }
+        ensures marks { OnOk result (HasMarks self.new.taken) }
+        ensures held { OnOk result (self.new.held ≡ self.old.held) }
+        ensures seconds { OnOk result (self.new.seconds ≡ self.old.seconds) }
+        ensures stays { IfOk result (λ passed. passed ≡ false → self.new ≡ self.old) }
+        ensures handled { IfOk result (λ passed. passed ≡ true → (o : Options) → (all : List LoggedJob) → AreSecondsMarked self.old.seconds self.old.held.items → AreHandled settings.now o all self.old.held.items self.old → AreHandled settings.now o (all ++ job.now ∷ []) self.new.held.items self.new) }
+    {
+        if self.held.is_empty() && self.taken.is_full(settings) {
+            self.handle(alloc, settings, job)?;
+            return Ok(true);
+        }
+        let second = place_of_second(job.account.submit);
+        if self.seconds.has(second) || !self.is_timely(settings, job.account) {
+            return Ok(false);
+        }
+        match place(settings, &job.account) {
+            Err(cause) => {
+                self.leave(settings, job, cause)?;
+                Ok(true)
+            }
+            Ok(_) => Ok(false),
+        }
+    }
+
+    // A job that comes, where slot 0 is known. It is held back unless it passes those that are.
     #[inline(always)]
     fn add_known(
         &mut self,
@@ -242,20 +293,12 @@ impl<'a> Intake<'a> {
         requires marks { HasMarks self.old.taken }
         ensures marks { OnOk result (HasMarks self.new.taken) }
         ensures wanted { OnOk result (AreWanted settings.now self.old.held.items → AreWanted settings.now self.new.held.items) }
-        ensures below { OnOk result (AreBelow self.old.high self.old.held.items → AreBelow self.new.high self.new.held.items) }
-        ensures handled { OnOk result ((o : Options) → (all : List LoggedJob) → AreWanted settings.now self.old.held.items → AreBelow self.old.high self.old.held.items → AreHandled settings.now o all self.old.held.items self.old → AreHandled settings.now o (all ++ job.entry ∷ []) self.new.held.items self.new) }
+        ensures marked { OnOk result (AreSecondsMarked self.old.seconds self.old.held.items → AreSecondsMarked self.new.seconds self.new.held.items) }
+        ensures handled { OnOk result ((o : Options) → (all : List LoggedJob) → AreWanted settings.now self.old.held.items → AreSecondsMarked self.old.seconds self.old.held.items → AreHandled settings.now o all self.old.held.items self.old → AreHandled settings.now o (all ++ job.entry ∷ []) self.new.held.items self.new) }
     {
-        if self.held.is_empty() && self.taken.is_full(settings) {
-            self.handle(alloc, settings, job)?;
-            return Ok(());
+        if !self.passes(alloc, settings, &job)? {
+            self.hold(settings, job)?;
         }
-        if self.high < job.account.submit && self.is_timely(settings, job.account) {
-            if let Err(cause) = place(settings, job.account) {
-                self.leave(settings, job, cause)?;
-                return Ok(());
-            }
-        }
-        self.hold(settings, job)?;
         Ok(())
     }
 
@@ -273,8 +316,8 @@ impl<'a> Intake<'a> {
         requires marks { HasMarks self.old.taken }
         ensures marks { OnOk result (HasMarks self.new.taken) }
         ensures wanted { OnOk result (AreWanted settings.now self.old.held.items → AreWanted settings.now self.new.held.items) }
-        ensures below { OnOk result (AreBelow self.old.high self.old.held.items → AreBelow self.new.high self.new.held.items) }
-        ensures handled { OnOk result ((x : ℕ) → (known ≡ true → x ≡ settings.now.origin) → (o : Options) → (all : List LoggedJob) → AreWanted settings.now self.old.held.items → AreBelow self.old.high self.old.held.items → AreHandled (begun_at settings.now x) o all self.old.held.items self.old → AreHandled (begun_at settings.now x) o (all ++ job.entry ∷ []) self.new.held.items self.new) }
+        ensures marked { OnOk result (AreSecondsMarked self.old.seconds self.old.held.items → AreSecondsMarked self.new.seconds self.new.held.items) }
+        ensures handled { OnOk result ((x : ℕ) → (known ≡ true → x ≡ settings.now.origin) → (o : Options) → (all : List LoggedJob) → AreWanted settings.now self.old.held.items → AreSecondsMarked self.old.seconds self.old.held.items → AreHandled (begun_at settings.now x) o all self.old.held.items self.old → AreHandled (begun_at settings.now x) o (all ++ job.entry ∷ []) self.new.held.items self.new) }
     {
         if known {
             self.add_known(alloc, settings, job)?;
@@ -289,15 +332,15 @@ impl<'a> Intake<'a> {
         &mut self,
         alloc: Global,
         settings: &Settings,
-        jobs: Vec<LoggedJob<'_>>,
+        jobs: &[LoggedJob<'_>],
     ) -> Result<(), Halt>
         requires good { AreGood settings.now }
         requires small { settings.now.origin < 2 ^ 33 }
         requires marks { HasMarks self.old.taken }
         ensures marks { OnOk result (HasMarks self.new.taken) }
         ensures held { OnOk result (self.new.held ≡ self.old.held) }
-        ensures high { OnOk result (self.new.high ≡ self.old.high) }
-        ensures handled { OnOk result ((o : Options) → (all rest : List LoggedJob) → AreHandled settings.now o all (jobs.entry.items ++ rest) self.old → AreHandled settings.now o all rest self.new) }
+        ensures seconds { OnOk result (self.new.seconds ≡ self.old.seconds) }
+        ensures handled { OnOk result ((o : Options) → (all rest : List LoggedJob) → AreHandled settings.now o all (jobs.now ++ rest) self.old → AreHandled settings.now o all rest self.new) }
     {
         for job in jobs {
             self.handle(alloc, settings, job)?;
@@ -318,15 +361,19 @@ impl<'a> Intake<'a> {
         ensures marks { OnOk result (HasMarks self.new.taken) }
         ensures few { OnOk result (length self.new.held.items ≤ left) }
         ensures wanted { OnOk result (AreWanted settings.now self.old.held.items → AreWanted settings.now self.new.held.items) }
-        ensures below { OnOk result (AreBelow self.old.high self.old.held.items → AreBelow self.new.high self.new.held.items) }
+        ensures marked { OnOk result (AreSecondsMarked self.old.seconds self.old.held.items → AreSecondsMarked self.new.seconds self.new.held.items) }
         ensures handled { OnOk result ((o : Options) → (all : List LoggedJob) → AreHandled settings.now o all self.old.held.items self.old → AreHandled settings.now o all self.new.held.items self.new) }
     {
         if self.held.len() <= left {
             return Ok(());
         }
         by_submission(&mut self.held)?;
-        let first = all_but(left, &mut self.held)?;
-        self.handle_all(alloc, settings, first)?;
+        let many = self.held.len().saturating_sub(left);
+        let mut jobs = mem::replace(&mut self.held, Vec::new(alloc));
+        self.handle_all(alloc, settings, &jobs[..many])?;
+        drop_first(&mut jobs, many);
+        self.seconds = seconds_of(alloc, &jobs)?;
+        self.held = jobs;
         Ok(())
     }
 }

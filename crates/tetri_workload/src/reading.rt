@@ -1,21 +1,23 @@
 // What the lines of a log say, as they are read.
-ghost use Rattle.std.specs.Prelude.{◌≡◌, ◌↔◌, ◌+◌, ◌<◌, ◌≤◌, ◌^◌, ◌++◌, ◌∷◌, [], IfOk, IsTrue, List, OnOk, cond, false, length, true, ℕ};
+ghost use Rattle.std.specs.Prelude.{◌≡◌, ◌↔◌, ◌+◌, ◌<◌, ◌≤◌, ◌^◌, ◌++◌, ◌∷◌, [], IfOk, IsTrue, List, Ok, OnOk, Some, cond, false, length, true, ℕ};
 ghost use Rattle.tetri_base.specs.Lists.{count};
 ghost use Rattle.tetri_logs.specs.Entry.{entries_in};
 ghost use Rattle.tetri_logs.specs.Options.{AreGood};
 ghost use Rattle.tetri_logs.specs.Origin.{begun_at};
 ghost use Rattle.tetri_cluster.specs.declared.cluster.NodeText.{NodeText};
 ghost use Rattle.tetri_logs.specs.Reading.{is_comment, jobs_in};
+ghost use Rattle.tetri_logs.specs.declared.entry.Entries.{Entries};
 ghost use Rattle.tetri_logs.specs.declared.entry.Entry.{Entry};
 ghost use Rattle.tetri_logs.specs.declared.options.Options.{Options};
 ghost use Rattle.tetri_logs.specs.declared.options.Settings.{Settings};
 ghost use Rattle.tetri_workload.specs.Head.{IsSaidBy};
 ghost use Rattle.tetri_workload.specs.Known.{AreKnown};
+ghost use Rattle.tetri_workload.specs.Ordering.{IsOrderBy};
 ghost use Rattle.tetri_workload.specs.Reading.{IsRead, IsReadOf, behind};
 ghost use Rattle.tetri_workload.specs.Taking.{HasMarks};
 
 use crate::intake::{Halt, Intake};
-use crate::kinds::Kinds;
+use crate::kinds::{Kinds, are_mixed};
 use crate::ordering::by_submission;
 use std::alloc::{AllocError, Global};
 use tetri_cluster::NodeText;
@@ -190,6 +192,36 @@ impl<'a> Reading<'a> {
         Ok(())
     }
 
+    // Whether what was read is a job alone on its line that passes those that are held back, where slot 0 is known and nodes do not differ. It is
+    // looked at where it stands.
+    #[inline(always)]
+    fn passes(
+        &mut self,
+        alloc: Global,
+        settings: &Settings,
+        nodes: &[NodeText],
+        known: bool,
+        read: &Result<Option<Entries<'_>>, AllocError>,
+    ) -> Result<bool, Halt>
+        requires good { AreGood settings.now }
+        requires small { known ≡ true → settings.now.origin < 2 ^ 33 }
+        requires marks { HasMarks self.old.intake.taken }
+        ensures marks { OnOk result (HasMarks self.new.intake.taken) }
+        ensures facts { OnOk result (self.new.facts ≡ self.old.facts) }
+        ensures comments { OnOk result (self.new.comments ≡ self.old.comments) }
+        ensures held { OnOk result (self.new.intake.held ≡ self.old.intake.held) }
+        ensures stays { IfOk result (λ passed. passed ≡ false → self.new ≡ self.old) }
+        ensures read { IfOk result (λ passed. passed ≡ true → (found : Entries) × (read.now ≡ Ok (Some found)) × ((x : ℕ) → (known ≡ true → x ≡ settings.now.origin) → (o : Options) → (es : List Entry) → IsRead (begun_at settings.now x) o nodes.now es self.old → IsRead (begun_at settings.now x) o nodes.now (es ++ entries_in found) self.new)) }
+    {
+        match read {
+            Ok(Some(Entries::One(Entry::Job(job)))) if known && !are_mixed(nodes) => {
+                let passed = self.intake.passes(alloc, settings, job)?;
+                Ok(passed)
+            }
+            _ => Ok(false),
+        }
+    }
+
     /// What the lines say that are not read yet, until so many jobs are held back as may be, and whether there are no other lines.
     pub(crate) fn add_lines(
         &mut self,
@@ -213,7 +245,11 @@ impl<'a> Reading<'a> {
         ensures read { IfOk result (λ ended. (x : ℕ) → (known ≡ true → x ≡ settings.now.origin) → (o : Options) → (es : List Entry) → IsReadOf (begun_at settings.now x) o nodes.now es walk.old.entries self.old → IsReadOf (begun_at settings.now x) o nodes.now es (behind ended walk.new.entries) self.new) }
     {
         while self.intake.held.len() < MOST_HELD {
-            let Some(found) = walk.next(alloc)? else {
+            let read = walk.next(alloc);
+            if self.passes(alloc, settings, nodes, known, &read)? {
+                continue;
+            }
+            let Some(found) = read? else {
                 return Ok(true);
             };
             self.add(alloc, kinds, settings, nodes, known, found)?;
@@ -223,6 +259,7 @@ impl<'a> Reading<'a> {
 
     /// Puts the jobs that are held back in order of submission.
     pub(crate) fn sort(&mut self) -> Result<(), AllocError>
+        ensures ordered { OnOk result (IsOrderBy (λ j. j.account.submit) self.old.intake.held.items self.new.intake.held.items) }
         ensures marks { HasMarks self.old.intake.taken → OnOk result (HasMarks self.new.intake.taken) }
         ensures facts { OnOk result (self.new.facts ≡ self.old.facts) }
         ensures comments { OnOk result (self.new.comments ≡ self.old.comments) }

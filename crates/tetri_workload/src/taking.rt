@@ -7,7 +7,7 @@ ghost use Rattle.tetri_logs.specs.Placing.{IsPlaced};
 ghost use Rattle.tetri_workload.specs.Marks.{AreMarked};
 ghost use Rattle.tetri_workload.specs.Taking.{HasMarks, again, again_mark, again_name, end_of, events_of, is_full, is_second, kept, left_out, named, nothing_taken, rounded_of, so_far, submitted, taken, taken_all, with_logged};
 
-use crate::marks::Marks;
+use crate::marks::{Marks, place_of_name};
 use std::alloc::{AllocError, Global};
 use tetri_logs::{Cause, JobName, LoggedJob, Placing, Reject, SetText, Settings, place};
 use tetri_trace::{Event, Happening, Job, Jobs, Work};
@@ -74,7 +74,7 @@ impl Taken {
         ensures value { result ≡ number_of name.now (job_names (map submission self.now.jobs)) }
         ensures found { is_some result ≡ is_among name.now (job_names (map submission self.now.jobs)) }
     {
-        if !self.marks.has(name) {
+        if !self.marks.has(place_of_name(name)) {
             return None;
         }
         self.jobs.find(name)
@@ -96,56 +96,52 @@ impl Taken {
         Ok(())
     }
 
-    // A job that is taken.
+    // A job that is taken under a name.
     fn take(
         &mut self,
         alloc: Global,
-        line: usize,
-        submit: u32,
-        name: JobName<'_>,
-        set: SetText,
+        job: &LoggedJob<'_>,
+        name: &JobName<'_>,
         placing: &Placing,
     ) -> Result<(), AllocError>
         requires few { length self.old.jobs < 100000 }
-        requires new { is_among name (job_names (map submission self.old.jobs)) ≡ false }
+        requires new { is_among name.now (job_names (map submission self.old.jobs)) ≡ false }
         requires placed { IsPlaced placing.now }
         requires marks { HasMarks self.old }
-        ensures tally { OnOk result (so_far self.new ≡ taken (so_far self.old) line submit name.entry set placing.now) }
+        ensures tally { OnOk result (so_far self.new ≡ taken (so_far self.old) job.now.line job.now.account.submit name.now job.now.set placing.now) }
         ensures marks { OnOk result (HasMarks self.new) }
     {
         let number = self.jobs.len() as u32;
         add_job(alloc, &mut self.jobs, &mut self.marks, name, placing)?;
-        self.submits.push(submit)?;
-        self.sets.push(set)?;
+        self.submits.push(job.account.submit)?;
+        self.sets.push(job.set.share()?)?;
         add_events(&mut self.events, number, placing)?;
         self.until = self.until.max(end_of(placing));
-        add_rounded(&mut self.rounded, line, placing)
+        add_rounded(&mut self.rounded, job.line, placing)
     }
 
-    // A job that is taken unless so many are there as are wanted or possible.
+    // A job that is taken under a name unless so many are there as are wanted or possible.
     fn keep(
         &mut self,
         alloc: Global,
         settings: &Settings,
-        line: usize,
-        submit: u32,
-        name: JobName<'_>,
-        set: SetText,
+        job: &LoggedJob<'_>,
+        name: &JobName<'_>,
         placing: &Placing,
     ) -> Result<(), AllocError>
-        requires new { is_among name (job_names (map submission self.old.jobs)) ≡ false }
+        requires new { is_among name.now (job_names (map submission self.old.jobs)) ≡ false }
         requires placed { IsPlaced placing.now }
         requires marks { HasMarks self.old }
-        ensures tally { OnOk result (so_far self.new ≡ kept settings.now (so_far self.old) line submit name.entry set placing.now) }
+        ensures tally { OnOk result (so_far self.new ≡ kept settings.now (so_far self.old) job.now.line job.now.account.submit name.now job.now.set placing.now) }
         ensures marks { OnOk result (HasMarks self.new) }
     {
         if settings.most as usize <= self.jobs.len() {
-            return self.leave(line, Cause::Outside);
+            return self.leave(job.line, Cause::Outside);
         }
         if MOST_JOBS <= self.jobs.len() {
-            return self.leave(line, Cause::Beyond);
+            return self.leave(job.line, Cause::Beyond);
         }
-        self.take(alloc, line, submit, name, set, placing)
+        self.take(alloc, job, name, placing)
     }
 
     // A job that was submitted again, under this name.
@@ -153,24 +149,22 @@ impl Taken {
         &mut self,
         alloc: Global,
         settings: &Settings,
-        line: usize,
-        submit: u32,
+        job: &LoggedJob<'_>,
         name: &[u8],
-        set: SetText,
         placing: &Placing,
     ) -> Result<(), AllocError>
         requires placed { IsPlaced placing.now }
         requires marks { HasMarks self.old }
-        ensures tally { OnOk result (so_far self.new ≡ again settings.now (so_far self.old) line submit name.now set placing.now) }
+        ensures tally { OnOk result (so_far self.new ≡ again settings.now (so_far self.old) job.now.line job.now.account.submit name.now job.now.set placing.now) }
         ensures marks { OnOk result (HasMarks self.new) }
     {
         let Some(name) = JobName::lent(name) else {
-            return self.leave(line, Cause::Beyond);
+            return self.leave(job.line, Cause::Beyond);
         };
         if self.find(name.bytes()).is_some() {
-            return self.leave(line, Cause::Repeated);
+            return self.leave(job.line, Cause::Repeated);
         }
-        self.keep(alloc, settings, line, submit, name, set, placing)
+        self.keep(alloc, settings, job, &name, placing)
     }
 
     // Whether a job was submitted in this second.
@@ -188,29 +182,22 @@ impl Taken {
         &mut self,
         alloc: Global,
         settings: &Settings,
-        job: LoggedJob<'_>,
+        job: &LoggedJob<'_>,
         placing: &Placing,
     ) -> Result<(), AllocError>
         requires placed { IsPlaced placing.now }
         requires marks { HasMarks self.old }
         ensures marks { OnOk result (HasMarks self.new) }
-        ensures tally { OnOk result (so_far self.new ≡ named settings.now (so_far self.old) job.entry.line job.entry.account.submit job.entry.name job.entry.set placing.now (number_of job.entry.name (job_names (map submission self.old.jobs)))) }
+        ensures tally { OnOk result (so_far self.new ≡ named settings.now (so_far self.old) job.now.line job.now.account.submit job.now.name job.now.set placing.now (number_of job.now.name (job_names (map submission self.old.jobs)))) }
     {
-        let LoggedJob {
-            line,
-            name,
-            account,
-            set,
-        } = job;
-        let submit = account.submit;
-        match self.find(name.bytes()) {
-            None => self.keep(alloc, settings, line, submit, name, set, placing),
+        match self.find(job.name.bytes()) {
+            None => self.keep(alloc, settings, job, &job.name, placing),
             Some(number) => {
-                if self.is_second(number, submit) {
-                    return self.leave(line, Cause::Repeated);
+                if self.is_second(number, job.account.submit) {
+                    return self.leave(job.line, Cause::Repeated);
                 }
-                let again = again_name(alloc, name.bytes(), submit)?;
-                self.add_again(alloc, settings, line, submit, &again, set, placing)
+                let again = again_name(alloc, job.name.bytes(), job.account.submit)?;
+                self.add_again(alloc, settings, job, &again, placing)
             }
         }
     }
@@ -220,14 +207,14 @@ impl Taken {
         &mut self,
         alloc: Global,
         settings: &Settings,
-        job: LoggedJob<'_>,
+        job: &LoggedJob<'_>,
     ) -> Result<(), AllocError>
         requires good { AreGood settings.now }
         requires marks { HasMarks self.old }
-        ensures tally { OnOk result (so_far self.new ≡ with_logged settings.now (so_far self.old) job.entry) }
+        ensures tally { OnOk result (so_far self.new ≡ with_logged settings.now (so_far self.old) job.now) }
         ensures marks { OnOk result (HasMarks self.new) }
     {
-        match place(settings, job.account) {
+        match place(settings, &job.account) {
             Ok(placing) => self.add_placed(alloc, settings, job, &placing),
             Err(cause) => self.leave(job.line, cause),
         }
@@ -239,17 +226,17 @@ fn add_job(
     alloc: Global,
     jobs: &mut Jobs,
     marks: &mut Marks,
-    name: JobName<'_>,
+    name: &JobName<'_>,
     placing: &Placing,
 ) -> Result<(), AllocError>
     requires few { length jobs.old < 100000 }
-    requires new { is_among name (job_names (map submission jobs.old)) ≡ false }
+    requires new { is_among name.now (job_names (map submission jobs.old)) ≡ false }
     requires marks { AreMarked marks.old (job_names (map submission jobs.old)) }
-    ensures jobs { OnOk result (map submission jobs.new ≡ map submission jobs.old ++ submitted name.entry placing.now ∷ []) }
+    ensures jobs { OnOk result (map submission jobs.new ≡ map submission jobs.old ++ submitted name.now placing.now ∷ []) }
     ensures marks { OnOk result (AreMarked marks.new (job_names (map submission jobs.new))) }
 {
     let name = name.owned(alloc)?;
-    marks.add(name.bytes());
+    marks.add(place_of_name(name.bytes()));
     jobs.push(Job {
         name,
         arrival: placing.arrival,
@@ -306,10 +293,10 @@ fn again_name(alloc: Global, name: &[u8], submit: u32) -> Result<Vec<u8>, AllocE
 pub(crate) fn take_all(
     alloc: Global,
     settings: &Settings,
-    jobs: Vec<LoggedJob<'_>>,
+    jobs: &[LoggedJob<'_>],
 ) -> Result<Taken, AllocError>
     requires { AreGood settings.now }
-    ensures { IfOk result (λ t. so_far t ≡ taken_all settings.now jobs.entry.items) }
+    ensures { IfOk result (λ t. so_far t ≡ taken_all settings.now jobs.now) }
 {
     let mut taken = Taken::new(alloc)?;
     for job in jobs {

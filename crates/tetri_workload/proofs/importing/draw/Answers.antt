@@ -1,7 +1,7 @@
 use Rattle.std.proofs.Common.{◌≡◌, ◌∙◌, ◌++◌, ap, subst}
 use Rattle.tetri_logs.specs.Entry.{entries_in}
 use Rattle.tetri_logs.specs.Reading.{entries}
-use Rattle.tetri_logs.proofs.LineTimes.{timed_by_line}
+use Rattle.tetri_logs.proofs.LineLaws.{timed_by_line}
 use Rattle.tetri_workload.specs.Head.{IsHead, entries_with}
 use Rattle.tetri_workload.specs.Kinds.{are_mixed}
 use Rattle.tetri_workload.proofs.importing.draw.Goals as goal

@@ -4,10 +4,10 @@ use Rattle.tetri_workload.specs.Reading.{AreHandled}
 use Rattle.tetri_workload.proofs.intake.Intake.add.Goals as goal
 
 pub returns-in_ok-add_known-clause-handled : goal.returns-in_ok-add_known-clause-handled
-returns-in_ok-add_known-clause-handled c = λ x at o all wanted below given.
+returns-in_ok-add_known-clause-handled c = λ x at o all wanted marked given.
     let s = c.args.settings.now in
     let i = c.args.self.now in
     let j = c.add_known.new.self in
     let is : x ≡ s.origin = at c.if-known.true in
     subst (λ n. AreHandled (begun_at s n) o (all ++ c.args.job ∷ []) j.held.items j) (sym is)
-    (c.in_ok-add_known.ensures.handled o all wanted below (subst (λ n. AreHandled (begun_at s n) o all i.held.items i) is given))
+    (c.in_ok-add_known.ensures.handled o all wanted marked (subst (λ n. AreHandled (begun_at s n) o all i.held.items i) is given))

@@ -1,4 +1,4 @@
-use Rattle.std.proofs.Common.{◌≡◌, ◌++◌, List}
+use Rattle.std.proofs.Common.{◌≡◌, ◌++◌, List, take}
 use Rattle.tetri_logs.specs.declared.entry.LoggedJob.{LoggedJob}
 use Rattle.tetri_logs.specs.declared.options.Options.{Options}
 use Rattle.tetri_workload.specs.Reading.{AreHandled}
@@ -11,6 +11,6 @@ invariant-loop-job l =
     record {
       marks : HasMarks l.self.taken;
       held : l.self.held ≡ first.held;
-      high : l.self.high ≡ first.high;
-      handled : (o : Options) → (all rest : List LoggedJob) → AreHandled l.settings o all (l.yielded ++ rest) first → AreHandled l.settings o all rest l.self;
+      seconds : l.self.seconds ≡ first.seconds;
+      handled : (o : Options) → (all rest : List LoggedJob) → AreHandled l.settings o all (take l.job-index l.jobs ++ rest) first → AreHandled l.settings o all rest l.self;
     }

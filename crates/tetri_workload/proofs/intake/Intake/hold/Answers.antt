@@ -2,8 +2,9 @@ use Rattle.std.proofs.Common.{◌≡◌, ◌∙◌, ◌++◌, ◌∷◌, [], ap,
 use Rattle.tetri_logs.specs.Origin.{begun_at}
 use Rattle.tetri_logs.specs.Placing.{is_outside}
 use Rattle.tetri_logs.specs.Scale.{moment_of}
+use Rattle.tetri_workload.specs.Marks.{AreSecondsMarked, is_marked, place_of_second}
 use Rattle.tetri_workload.specs.Reading.{AreHandled}
-use Rattle.tetri_workload.proofs.IntakeLemmas.{arrived, held-other, left-outside}
+use Rattle.tetri_workload.proofs.IntakeLemmas.{arrived, held-other, left-outside, marked-more}
 use Rattle.tetri_workload.proofs.intake.Intake.hold.Goals as goal
 
 pub returns-then-is_outside-clause-handled : goal.returns-then-is_outside-clause-handled
@@ -21,3 +22,11 @@ returns-clause-handled c = λ x o all wanted given.
     let job = c.args.job in
     held-other b o (all ++ job ∷ []) c.push.new.self.items i _ refl refl refl refl
     (subst (λ js. AreHandled b o (all ++ job ∷ []) js i) (sym c.in_ok-push.ensures.items) (arrived b o all i.held.items i job given))
+
+pub returns-clause-marked : goal.returns-clause-marked
+returns-clause-marked c = λ marked.
+    let i = c.args.self.now in
+    let job = c.args.job in
+    let seconds = c.add.new.self in
+    let own : is_marked seconds (place_of_second job.account.submit) ≡ true = subst (λ place. is_marked seconds place ≡ true) c.place_of_second.ensures c.add.ensures.own in
+    subst (AreSecondsMarked seconds) (sym c.in_ok-push.ensures.items) (marked-more i.seconds seconds i.held.items job own c.add.ensures.others marked)

@@ -1,8 +1,9 @@
-use Rattle.std.proofs.Common.{◌≡◌, ◌≤◌, [], false, sym, subst}
+use Rattle.std.proofs.Common.{◌≡◌, [], false, sym, subst, true}
 use Rattle.std.proofs.lemmas.List.Elements.{All-nil}
 use Rattle.tetri_logs.specs.Placing.{is_outside}
 use Rattle.tetri_logs.specs.Scale.{moment_of}
-use Rattle.tetri_workload.specs.Reading.{AreBelow, AreHandled, AreWanted, jobs_of}
+use Rattle.tetri_workload.specs.Marks.{AreSecondsMarked, is_marked, place_of_second}
+use Rattle.tetri_workload.specs.Reading.{AreHandled, AreWanted, jobs_of}
 use Rattle.tetri_workload.proofs.EntryLemmas.{jobs_of-none}
 use Rattle.tetri_workload.proofs.reading.Reading.new.Goals as goal
 
@@ -16,6 +17,6 @@ returns-clause-read c = λ s nodes first none said.
       facts = said.facts;
       comments = said.comments;
       wanted = subst (AreWanted s) (sym held) (All-nil (λ j. is_outside s (moment_of s j.account) ≡ false));
-      below = subst (AreBelow intake.high) (sym held) (All-nil (λ j. j.account.submit ≤ intake.high));
+      marked = subst (AreSecondsMarked intake.seconds) (sym held) (All-nil (λ j. is_marked intake.seconds (place_of_second j.account.submit) ≡ true));
       handled = subst (λ js. AreHandled s o (jobs_of nodes first) js intake) (sym held) (subst (λ js. AreHandled s o js [] intake) (sym (jobs_of-none nodes first none)) (c.in_ok-new.ensures.handled s));
     }

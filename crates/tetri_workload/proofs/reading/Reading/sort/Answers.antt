@@ -1,7 +1,8 @@
-use Rattle.std.proofs.Common.{◌≡◌, ◌≤◌, false, refl}
+use Rattle.std.proofs.Common.{◌≡◌, false, refl, true}
 use Rattle.std.proofs.lemmas.List.Sorted.{All-permutation}
 use Rattle.tetri_logs.specs.Placing.{is_outside}
 use Rattle.tetri_logs.specs.Scale.{moment_of}
+use Rattle.tetri_workload.specs.Marks.{is_marked, place_of_second}
 use Rattle.tetri_workload.specs.Reading.{jobs_of}
 use Rattle.tetri_workload.proofs.IntakeLemmas.{held-other, put_in_order}
 use Rattle.tetri_workload.proofs.reading.Reading.sort.Goals as goal
@@ -16,7 +17,7 @@ returns-clause-read c = λ s o nodes es given.
       facts = given.facts;
       comments = given.comments;
       wanted = All-permutation (λ j. is_outside s (moment_of s j.account) ≡ false) i.held.items sorted order.moved given.wanted;
-      below = All-permutation (λ j. j.account.submit ≤ i.high) i.held.items sorted order.moved given.below;
+      marked = All-permutation (λ j. is_marked i.seconds (place_of_second j.account.submit) ≡ true) i.held.items sorted order.moved given.marked;
       handled = held-other s o (jobs_of nodes es) sorted i _ refl refl refl refl
           (put_in_order s o (jobs_of nodes es) i.held.items sorted i (record { moved = order.moved; stable = order.stable }) given.handled);
     }
