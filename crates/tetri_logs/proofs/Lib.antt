@@ -11,5 +11,6 @@ mod GapLemmas
 mod TableLemmas
 mod TimeLemmas
 mod DayLemmas
+mod BitLemmas
 mod ScanLemmas
 mod NameLemmas

@@ -4,10 +4,13 @@ use Rattle.std.specs.List.{position_or_len, slice_range, slice_split}
 use Rattle.std.proofs.lemmas.Simd.{chunk-drop, length-chunk, leading_from_mask_l, mask_l-mod, trailing_mask_l}
 use Rattle.std.proofs.lemmas.Bool.{eq-eqb, ne_eqb}
 use Rattle.std.proofs.lemmas.List.{drop-drop, drop-map, drop-take, length-drop, length-map, take_all, take_min}
-use Rattle.std.proofs.Math.Nat.{div-div-eq-div-mul, div-one, pow-suc, pow-succ'}
+use Rattle.std.proofs.Math.Nat.{div-div-eq-div-mul, div-one, mul-le-mul_left, mul-one, pow-suc, pow-succ', zero-mul}
+use Rattle.std.proofs.lemmas.Nat.{pow_pos}
 use Rattle.std.proofs.lemmas.List.Folds.{prefix_len-append}
 use Rattle.std.proofs.lemmas.List.Sums.{fails_before_first, prefix_len-le-length}
 use Rattle.std.proofs.lemmas.List.Splits.{slice_split_first, slice_split_none}
+use Rattle.tetri_logs.proofs.BitLemmas.{lowest_up, without_lowest_up}
+use lib.Bits.{bit_and}
 use lib.Lanes.{chunk, mask_l, top}
 use lib.Count.{count_trailing_zeros}
 
@@ -32,16 +35,22 @@ halved true m = omega arith
 halved false m = omega arith
 
 -- a mask shifted is that of what stands behind
-pub mask_l-drop : (k : ℕ) (bits : List Bool) → mask_l (drop k bits) ≡ mask_l bits / 2 ^ k
+mask_l-drop : (k : ℕ) (bits : List Bool) → mask_l (drop k bits) ≡ mask_l bits / 2 ^ k
 mask_l-drop zero bits = sym (div-one (mask_l bits))
 mask_l-drop (suc k) [] = omega arith
 mask_l-drop (suc k) (b ∷ bits) =
     mask_l-drop k bits ∙ ap (λ m. m / 2 ^ k) (sym (halved b (mask_l bits))) ∙ div-div-eq-div-mul (mask_l (b ∷ bits)) 2 (2 ^ k)
     ∙ ap (λ n. mask_l (b ∷ bits) / n) (sym (pow-succ' 2 k))
 
+up_le : (m j : ℕ) → m ≤ m * 2 ^ j
+up_le m j = omega (arith, mul-le-mul_left m (pow_pos j))
+
+no_bits : (m j : ℕ) → m * 2 ^ j ≡ 0 → m ≡ 0
+no_bits m j none = omega (arith, up_le m j, none)
+
 module _ (p : ℕ → Bool) where
   -- the marks of a chunk, shifted
-  pub shifted : (xs : List ℕ) (i n k : ℕ) → k ≤ n → mask_l (map p (chunk (i + k) (n - k) xs)) ≡ mask_l (map p (chunk i n xs)) / 2 ^ k
+  shifted : (xs : List ℕ) (i n k : ℕ) → k ≤ n → mask_l (map p (chunk (i + k) (n - k) xs)) ≡ mask_l (map p (chunk i n xs)) / 2 ^ k
   shifted xs i n k le =
       let whole : k + (n - k) ≡ n = omega arith in
       ap (λ ys. mask_l (map p (take (n - k) ys))) (sym (drop-drop k i xs))
@@ -87,13 +96,13 @@ module _ (p : ℕ → Bool) where
       ∙ sym (trailing_mask_l p 64 c (omega (arith, length-chunk i n xs room)) some)
 
   -- those of the next 64 bytes end at a place
-  pub marks_to : (xs : List ℕ) (i : ℕ) → i ≤ length xs → mask_l (map p (take 64 (drop i xs))) ≡ mask_l (map p (chunk i (min (i + 64) (length xs) - i) xs))
+  marks_to : (xs : List ℕ) (i : ℕ) → i ≤ length xs → mask_l (map p (take 64 (drop i xs))) ≡ mask_l (map p (chunk i (min (i + 64) (length xs) - i) xs))
   marks_to xs i inside =
       let size : min 64 (length (drop i xs)) ≡ min (i + 64) (length xs) - i = omega (arith, length-drop i xs) in
       ap (λ ys. mask_l (map p ys)) (sym (take_min 64 (drop i xs)) ∙ ap (λ n. take n (drop i xs)) size)
 
   -- up to a place: where no bit is set
-  pub none_to : (xs : List ℕ) (i stop : ℕ) → i ≤ stop → stop ≤ length xs → mask_l (map p (chunk i (stop - i) xs)) ≡ 0
+  none_to : (xs : List ℕ) (i stop : ℕ) → i ≤ stop → stop ≤ length xs → mask_l (map p (chunk i (stop - i) xs)) ≡ 0
       → i + position_or_len p (drop i xs) ≡ stop + position_or_len p (drop stop xs)
   none_to xs i stop order inside none =
       let there : i + (stop - i) ≡ stop = omega arith in
@@ -101,7 +110,7 @@ module _ (p : ℕ → Bool) where
       omega (arith, pass, ap (λ j. position_or_len p (drop j xs)) there)
 
   -- where one is
-  pub first_to : (xs : List ℕ) (i stop found : ℕ) → i ≤ stop → stop ≤ length xs → stop ≤ i + 64 → found ≡ mask_l (map p (chunk i (stop - i) xs)) → found ≢ 0
+  first_to : (xs : List ℕ) (i stop found : ℕ) → i ≤ stop → stop ≤ length xs → stop ≤ i + 64 → found ≡ mask_l (map p (chunk i (stop - i) xs)) → found ≢ 0
       → (position_or_len p (drop i xs) ≡ count_trailing_zeros 64 found) × (i + count_trailing_zeros 64 found < stop)
   first_to xs i stop found order inside near is some =
       let c = chunk i (stop - i) xs in
@@ -114,7 +123,7 @@ module _ (p : ℕ → Bool) where
       (stopped xs i (stop - i) (omega arith) (omega arith) some_there ∙ sym same, omega (arith, size, differs))
 
   -- the marks behind it
-  pub behind_to : (xs : List ℕ) (i stop found k : ℕ) → i + k < stop → found ≡ mask_l (map p (chunk i (stop - i) xs)) → found / 2 ^ k / 2 ≡ mask_l (map p (chunk (i + k + 1) (stop - (i + k + 1)) xs))
+  behind_to : (xs : List ℕ) (i stop found k : ℕ) → i + k < stop → found ≡ mask_l (map p (chunk i (stop - i) xs)) → found / 2 ^ k / 2 ≡ mask_l (map p (chunk (i + k + 1) (stop - (i + k + 1)) xs))
   behind_to xs i stop found k lt is =
       let m = mask_l (map p (chunk i (stop - i) xs)) in
       let there : i + suc k ≡ i + k + 1 = omega arith in
@@ -124,6 +133,59 @@ module _ (p : ℕ → Bool) where
       ∙ ap (λ d. m / d) (sym (pow-suc 2 k))
       ∙ sym (shifted xs i (stop - i) (suc k) (omega arith))
       ∙ ap₂ (λ j l. mask_l (map p (chunk j l xs))) there left
+
+  -- the marks up to a place, without the first of them
+  abbrev pub left : List ℕ → ℕ → ℕ → ℕ → ℕ
+  left xs at gone stop = mask_l (map p (chunk (at + gone) (stop - (at + gone)) xs)) * 2 ^ gone
+
+  -- of the next 64 bytes
+  pub all_left : (xs : List ℕ) (at : ℕ) → at ≤ length xs → mask_l (map p (take 64 (drop at xs))) ≡ left xs at 0 (min (at + 64) (length xs))
+  all_left xs at inside =
+      let stop = min (at + 64) (length xs) in
+      let there : at ≡ at + 0 = omega arith in
+      marks_to xs at inside ∙ ap (λ i. mask_l (map p (chunk i (stop - i) xs))) there ∙ sym (mul-one _)
+
+  module _ (xs : List ℕ) (at gone stop found : ℕ) (order : at + gone ≤ stop) (inside : stop ≤ length xs) (near : stop ≤ at + 64) (is : found ≡ left xs at gone stop) where
+    abbrev behind_gone : ℕ
+    behind_gone = mask_l (map p (chunk (at + gone) (stop - (at + gone)) xs))
+
+    -- where none is left
+    pub none_left : found ≡ 0 → at + gone + position_or_len p (drop (at + gone) xs) ≡ stop + position_or_len p (drop stop xs)
+    none_left none = none_to xs (at + gone) stop order inside (no_bits behind_gone gone (sym is ∙ none))
+
+    module _ (some : found ≢ 0) (fits : found < 2 ^ 64) where
+      some_behind : behind_gone ≢ 0
+      some_behind e = some (is ∙ ap (λ m. m * 2 ^ gone) e ∙ zero-mul (2 ^ gone))
+
+      small_behind : behind_gone < 2 ^ 64
+      small_behind = omega (arith, up_le behind_gone gone, fits, is)
+
+      fits_up : left xs at gone stop < 2 ^ 64
+      fits_up = omega (arith, fits, is)
+
+      some_up : 0 < left xs at gone stop
+      some_up = omega (arith, some, is)
+
+      first_behind : (position_or_len p (drop (at + gone) xs) ≡ count_trailing_zeros 64 behind_gone) × (at + gone + count_trailing_zeros 64 behind_gone < stop)
+      first_behind = first_to xs (at + gone) stop behind_gone order inside (omega arith) refl some_behind
+
+      lowest : count_trailing_zeros 64 found ≡ gone + count_trailing_zeros 64 behind_gone
+      lowest = ap (count_trailing_zeros 64) is ∙ lowest_up behind_gone gone (omega (arith, some_behind)) small_behind fits_up some_up
+
+      -- the first that is left
+      pub first_left : (at + count_trailing_zeros 64 found ≡ at + gone + position_or_len p (drop (at + gone) xs)) × (at + count_trailing_zeros 64 found < stop)
+      first_left = (omega (arith, lowest, first_behind), omega (arith, lowest, first_behind))
+
+      -- those that are left then
+      pub next_left : bit_and found (found - 1) ≡ left xs at (count_trailing_zeros 64 found + 1) stop
+      next_left =
+          let k = count_trailing_zeros 64 behind_gone in
+          let there : at + gone + k + 1 ≡ at + (gone + k + 1) = omega arith in
+          let place : gone + k + 1 ≡ count_trailing_zeros 64 found + 1 = omega (arith, lowest) in
+          ap (λ n. bit_and n (n - 1)) is
+          ∙ without_lowest_up behind_gone gone (omega (arith, some_behind)) small_behind fits_up some_up
+          ∙ ap (λ m. m * 2 ^ (gone + k + 1)) (behind_to xs (at + gone) stop behind_gone k first_behind.1 refl ∙ ap (λ i. mask_l (map p (chunk i (stop - i) xs))) there)
+          ∙ ap (λ n. left xs at n stop) place
 
   -- the next part of what is left, added
   pub part_next : (xs : List ℕ) (from end : ℕ) (before all : List (List ℕ)) → from ≤ length xs → end ≡ from + position_or_len p (drop from xs) → end < length xs

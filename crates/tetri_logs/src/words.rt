@@ -67,24 +67,22 @@ fn add_parts<'a>(
     mark: u8,
     line: &'a [u8],
     mut begin: usize,
-    mut at: usize,
+    at: usize,
 ) -> Result<usize, AllocError>
     requires long { 64 ≤ length line.now }
     requires inside { at < length line.now }
-    requires order { begin ≤ length line.now }
+    requires order { begin ≤ at }
     requires next { next_place mark line.now begin ≡ next_place mark line.now at }
-    ensures inside { IfOk result (λ last. last ≤ length line.now) }
+    ensures inside { IfOk result (λ last. last ≤ min (at + 64) (length line.now)) }
     ensures next { IfOk result (λ last. next_place mark line.now last ≡ next_place mark line.now (min (at + 64) (length line.now))) }
     ensures parts { IfOk result (λ last. map (λ x. x.now) parts.new.items ++ parts_at mark (drop last line.now) ≡ map (λ x. x.now) parts.old.items ++ parts_at mark (drop begin line.now)) }
 {
     let mut found = marks_from(line, at, mark);
     while found != 0 {
-        let skip = found.trailing_zeros() as usize;
-        let end = at + skip;
+        let end = at + found.trailing_zeros() as usize;
         parts.push(&line[begin..end])?;
         begin = end + 1;
-        at = end + 1;
-        found = (found >> skip) >> 1;
+        found &= found - 1;
     }
     Ok(begin)
 }

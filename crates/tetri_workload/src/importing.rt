@@ -21,8 +21,8 @@ use crate::ends::seems_turned;
 use crate::head::{Head, head_of};
 use crate::intake::Halt;
 use crate::kinds::{Kinds, are_mixed, fitted};
-use crate::ordering::{by_line, by_slot, by_submission};
-use crate::reading::Reading;
+use crate::ordering::{by_line, by_slot, by_submission, turn};
+use crate::reading::{FIRST_HELD, Reading};
 use crate::taking::{Taken, take_all};
 use crate::text::trace_text;
 use std::alloc::{AllocError, Global};
@@ -119,6 +119,7 @@ fn draw_listed(
 {
     let draft = settings_of(options, log.facts)?;
     let mut jobs = kinds.settle(alloc, nodes, log.jobs)?;
+    turn(&mut jobs);
     by_submission(&mut jobs)?;
     let settings = begun(&draft, &jobs);
     match gap_of(options, &settings, &jobs) {
@@ -188,7 +189,7 @@ fn draw_in_turn<'a>(
     };
     let mut read = Reading::new(alloc, options, head)?;
     read.add(alloc, kinds, &draft, nodes, false, first)?;
-    let ended = read.add_lines(alloc, kinds, &draft, nodes, false, walk)?;
+    let ended = read.add_lines(alloc, kinds, &draft, nodes, false, FIRST_HELD, walk)?;
     read.sort()?;
     let Some(settings) = begun_by(&draft, &read.intake.held) else {
         return Err(Halt::OutOfTurn);

@@ -23,6 +23,9 @@ use std::alloc::{AllocError, Global};
 use tetri_cluster::NodeText;
 use tetri_logs::{Entries, Entry, Facts, Log, Options, Reject, Settings, Walk, with_fact};
 
+// As many jobs are held back before slot 0 is known.
+pub(crate) const FIRST_HELD: usize = 32_768;
+
 // As many jobs are held back before some are handled.
 const MOST_HELD: usize = 131_072;
 
@@ -230,6 +233,7 @@ impl<'a> Reading<'a> {
         settings: &Settings,
         nodes: &[NodeText],
         known: bool,
+        most: usize,
         walk: &mut Walk<'a>,
     ) -> Result<bool, Halt>
         requires good { AreGood settings.now }
@@ -241,10 +245,10 @@ impl<'a> Reading<'a> {
         ensures marks { OnOk result (HasMarks self.new.intake.taken) }
         ensures facts { OnOk result (self.new.facts ≡ self.old.facts) }
         ensures few { IfOk result (λ ended. ended ≡ false → self.new.comments + walk.new.bytes ≤ self.old.comments + walk.old.bytes) }
-        ensures shorter { IfOk result (λ ended. ended ≡ false → length self.old.intake.held.items < 131072 → walk.new.bytes < walk.old.bytes) }
+        ensures shorter { IfOk result (λ ended. ended ≡ false → length self.old.intake.held.items < most → walk.new.bytes < walk.old.bytes) }
         ensures read { IfOk result (λ ended. (x : ℕ) → (known ≡ true → x ≡ settings.now.origin) → (o : Options) → (es : List Entry) → IsReadOf (begun_at settings.now x) o nodes.now es walk.old.entries self.old → IsReadOf (begun_at settings.now x) o nodes.now es (behind ended walk.new.entries) self.new) }
     {
-        while self.intake.held.len() < MOST_HELD {
+        while self.intake.held.len() < most {
             let read = walk.next(alloc);
             if self.passes(alloc, settings, nodes, known, &read)? {
                 continue;
@@ -309,7 +313,7 @@ impl<'a> Reading<'a> {
             self.release(alloc, settings, STILL_HELD)?;
             let full = self.intake.taken.is_full(settings);
             self.release(alloc, settings, still_held(full))?;
-            done = self.add_lines(alloc, kinds, settings, nodes, true, walk)?;
+            done = self.add_lines(alloc, kinds, settings, nodes, true, MOST_HELD, walk)?;
         }
         self.release(alloc, settings, 0)?;
         Ok(())
