@@ -1,9 +1,8 @@
 -- A list put in order of a number of each item, and lists in which what has one number stays in its order.
-use Rattle.std.proofs.Common.{◌≡◌, ◌+◌, ◌<◌, ◌≤◌, ◌∙◌, ◌++◌, ℕ, zero, suc, List, Bool, true, false, [], ◌∷◌, length, map, get_or, cond, refl, ap, sym, subst, append_assoc, arith, nat_cmp, is_lt}
+use Rattle.std.proofs.Common.{◌≡◌, ◌+◌, ◌<◌, ◌≤◌, ◌∙◌, ◌++◌, ℕ, zero, suc, List, Bool, true, false, [], ◌∷◌, length, map, get_or, cond, refl, ap, sym, subst, arith, nat_cmp, is_lt}
 use Rattle.std.specs.Prelude.{All, filter, nat_le, if◌then◌else◌}
 use Rattle.std.specs.List.Sorted.{IsPermutation, IsSortedByKey, ties}
 use Rattle.std.proofs.lemmas.Bool.Decides.{nat_tests}
-use Rattle.std.proofs.lemmas.List.{append-nil}
 use Rattle.std.proofs.lemmas.List.Elements.{All-head, All-tail, All-weaker, filter-append}
 use Rattle.std.proofs.lemmas.List.Sorted.{All-permutation, IsPermutation-append_left, IsPermutation-append_right, IsPermutation-cons, IsPermutation-map, IsPermutation-middle, IsPermutation-refl, IsPermutation-sym, IsPermutation-to_front, IsPermutation-trans}
 use Rattle.tetri_workload.specs.Ordering.{IsMoveBy, IsOrderBy}
@@ -215,19 +214,6 @@ module _ {X : Type 0} (key : X → ℕ) where
     moved = IsPermutation-sym (ys ++ x ∷ []) (x ∷ ys) (IsPermutation-to_front ys x);
     stable = λ z. filter-past (tied key z) x ys (All-weaker (λ y. key x ≡ key y → ⊥) (λ y. tied key z x ≡ true → tied key z y ≡ true → ⊥) (λ y apart. both_tied z x y apart) ys differ);
   }
-
-  other_number : (x y : X) → key y < key x → key x ≡ key y → ⊥
-  other_number x y less same = omega arith
-
-  -- two parts change places, where what is in the second has lower numbers than what is in the first
-  pub IsMoveBy-turned : (xs ys : List X) → All (λ y. All (λ x. key y < key x) xs) ys → IsMoveBy key (xs ++ ys) (ys ++ xs)
-  IsMoveBy-turned [] ys lower = subst (λ us. IsMoveBy key ys us) (sym (append-nil ys)) (IsMoveBy-refl ys)
-  IsMoveBy-turned (x ∷ xs) ys lower =
-      let rest : All (λ y. All (λ z. key y < key z) xs) ys = All-weaker (λ y. All (λ z. key y < key z) (x ∷ xs)) (λ y. All (λ z. key y < key z) xs) (λ y each. All-tail (λ z. key y < key z) x xs each) ys lower in
-      let differ : All (λ y. key x ≡ key y → ⊥) ys = All-weaker (λ y. All (λ z. key y < key z) (x ∷ xs)) (λ y. key x ≡ key y → ⊥) (λ y each same. other_number x y (All-head (λ z. key y < key z) x xs each) same) ys lower in
-      let one = IsMoveBy-append (x ∷ []) (xs ++ ys) (ys ++ xs) (IsMoveBy-turned xs ys rest) in
-      let two = IsMoveBy-before xs (x ∷ ys) (ys ++ x ∷ []) (IsMoveBy-past x ys differ) in
-      subst (λ us. IsMoveBy key (x ∷ (xs ++ ys)) us) (append_assoc ys (x ∷ []) xs) (IsMoveBy-trans (x ∷ (xs ++ ys)) (x ∷ (ys ++ xs)) ((ys ++ x ∷ []) ++ xs) one two)
 
   -- both have one order
   pub IsOrderBy-moved : (xs ys zs : List X) → IsMoveBy key xs ys → IsOrderBy key ys zs → IsOrderBy key xs zs

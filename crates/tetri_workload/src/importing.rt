@@ -21,7 +21,7 @@ use crate::ends::seems_turned;
 use crate::head::{Head, head_of};
 use crate::intake::Halt;
 use crate::kinds::{Kinds, are_mixed, fitted};
-use crate::ordering::{by_line, by_slot, by_submission, turn};
+use crate::ordering::{by_line, by_slot, by_submission};
 use crate::reading::{FIRST_HELD, Reading};
 use crate::taking::{Taken, take_all};
 use crate::text::trace_text;
@@ -119,7 +119,6 @@ fn draw_listed(
 {
     let draft = settings_of(options, log.facts)?;
     let mut jobs = kinds.settle(alloc, nodes, log.jobs)?;
-    turn(&mut jobs);
     by_submission(&mut jobs)?;
     let settings = begun(&draft, &jobs);
     match gap_of(options, &settings, &jobs) {
