@@ -1,7 +1,9 @@
 // Logs that are imported.
 mod asked;
+mod orders;
 
 use asked::options_of;
+pub use orders::take_in_order;
 use std::alloc::{AllocError, Global};
 use tetri_cluster::NodeText;
 use tetri_hosts::{HostsFault, read_nodes};

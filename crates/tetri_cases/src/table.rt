@@ -68,6 +68,7 @@ fn judge_section(
         "made plan" => made_plan(alloc, given, tally, more, body),
         "made parts" => made_run(alloc, given, tally, "parts trace", body),
         "made admit" => made_run(alloc, given, tally, "admit trace", body),
+        "made log" => imports::take_in_order(alloc, given, more, body),
         "no plan" => runs::no_plan(alloc, given, tally, more),
         "check" => runs::check(alloc, given, tally, more),
         _ => judge_more(alloc, given, tally, word, more, body),

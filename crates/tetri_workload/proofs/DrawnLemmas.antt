@@ -19,6 +19,7 @@ use Rattle.tetri_workload.specs.Kinds.{are_mixed, settled, settled_all}
 use Rattle.tetri_workload.specs.Ordering.{IsMoveBy}
 use Rattle.tetri_workload.specs.Reading.{AreJoined, ComeInTurn, HasBridge, IsHandled, IsRead, jobs_of}
 use Rattle.tetri_workload.specs.Taking.{nothing_taken, so_far, taken_all, with_left}
+use Rattle.tetri_workload.specs.Waiting.{all_waiting}
 use Rattle.tetri_workload.specs.declared.importing.Drawn.{Drawn}
 use Rattle.tetri_workload.specs.declared.intake.Intake.{Intake}
 use Rattle.tetri_workload.specs.declared.reading.Reading.{Reading}
@@ -79,7 +80,7 @@ pub drawn-of : (es : List Entry) (nodes : List NodeText) (o : Options) (d : Draw
     → AreGood s
     → Contains (jobs_of nodes es) first
     → IsRead s o nodes es r
-    → r.intake.held.items ≡ []
+    → all_waiting r.intake.waiting ≡ []
     → d.settings ≡ s
     → so_far d.taken ≡ so_far r.intake.taken
     → d.left.items ≡ r.left.items
@@ -90,12 +91,12 @@ drawn-of es nodes o d draft s r first timed settings begins good has read none i
     let order = read.handled.0 in
     let h = read.handled.1 in
     let sorted = ordered submit_of order in
-    let whole : order ++ r.intake.held.items ≡ order = ap (λ js. order ++ js) none ∙ append-nil order in
+    let whole : order ++ all_waiting r.intake.waiting ≡ order = ap (λ js. order ++ js) none ∙ append-nil order in
     let moves : IsMoveBy submit_of all order = subst (IsMoveBy submit_of all) whole h.moved in
     let comes : ComeInTurn s nothing_taken 0 order = subst (ComeInTurn s nothing_taken 0) (append-nil order) (h.turns [] tt) in
     let same : IsAlike (taken_all s sorted) (taken_all s order) = alike s nothing_taken 0 order (timed-moved all order moves.moved (timed-settled nodes (jobs_in es) timed)) comes in
     let tally : so_far d.taken ≡ taken_all s order = taken ∙ h.tally in
-    let together : gap_of o s sorted ≡ None = none-by s o all order r.intake.held.items r.intake r.intake.joined refl moves.moved h in
+    let together : gap_of o s sorted ≡ None = none-by s o all order (all_waiting r.intake.waiting) r.intake r.intake.joined refl moves.moved h in
     let counted = comments ∙ read.comments in (
       draft,
       sorted,

@@ -20,14 +20,13 @@ use Rattle.tetri_logs.specs.Scale.{moment_of}
 use Rattle.tetri_logs.specs.declared.entry.LoggedJob.{LoggedJob}
 use Rattle.tetri_logs.specs.declared.options.Options.{Options}
 use Rattle.tetri_logs.specs.declared.options.Settings.{Settings}
-use Rattle.tetri_workload.specs.Marks.{AreSecondsMarked, is_marked, place_of_second}
 use Rattle.tetri_workload.specs.Ordering.{IsMoveBy}
 use Rattle.tetri_workload.specs.Reading.{AreHandled, AreJoined, AreWanted, ComeInTurn, HasBridge, HasPlaced, IsHandled, IsJoinedBy, IsNear, MayLeave, is_placed, last_behind}
 use Rattle.tetri_workload.specs.Taking.{is_full, left_out, named, nothing_taken, so_far, with_logged, with_placed}
 use Rattle.tetri_workload.specs.declared.intake.Intake.{Intake}
-use Rattle.tetri_workload.specs.declared.marks.Marks.{Marks}
 use Rattle.tetri_workload.proofs.OrderLemmas.{IsMoveBy-append, IsMoveBy-before, IsMoveBy-past, IsMoveBy-sym, IsMoveBy-trans}
 use Rattle.tetri_workload.proofs.EntryLemmas.{submit_of}
+use Rattle.tetri_workload.proofs.WaitingLemmas.{IsApart}
 
 -- ---- with more jobs that have come
 bridge-more : (s : Settings) (jobs more : List LoggedJob) → HasBridge s jobs → HasBridge s (jobs ++ more)
@@ -168,7 +167,7 @@ left-step s o all rest i j job order cause h refused left last placed begins was
     )
 
 -- a job outside the wanted part of the log is left out at once: none of those within it was submitted in its second
-apart : (s : Settings) (job : LoggedJob) (jobs : List LoggedJob) → is_outside s (moment_of s job.account) ≡ true → AreWanted s jobs → All (λ j. submit_of job ≡ submit_of j → ⊥) jobs
+apart : (s : Settings) (job : LoggedJob) (jobs : List LoggedJob) → is_outside s (moment_of s job.account) ≡ true → AreWanted s jobs → IsApart (submit_of job) jobs
 apart s job jobs outside wanted = λ k d within same. absurd (differ (ap (λ n. is_outside s (s.start + n)) same) outside (wanted k d within))
   where
     differ : {a b : Bool} → a ≡ b → a ≡ true → b ≡ false → ⊥
@@ -278,28 +277,11 @@ pub wanted-behind : (s : Settings) (xs ys : List LoggedJob) → AreWanted s (xs 
 wanted-behind s [] ys wanted = wanted
 wanted-behind s (x ∷ xs) ys wanted = wanted-behind s xs ys (All-tail (λ j. is_outside s (moment_of s j.account) ≡ false) x (xs ++ ys) wanted)
 
--- ---- the seconds of those that are held back
--- with one job more
-pub marked-more : (before after : Marks) (jobs : List LoggedJob) (job : LoggedJob) → is_marked after (place_of_second job.account.submit) ≡ true
-    → ((other : ℕ) → is_marked before other ≡ true → is_marked after other ≡ true)
-    → AreSecondsMarked before jobs → AreSecondsMarked after (jobs ++ job ∷ [])
-marked-more before after jobs job own others marked =
-    All-push (λ j. is_marked after (place_of_second j.account.submit) ≡ true) jobs job
-    (All-weaker (λ j. is_marked before (place_of_second j.account.submit) ≡ true) (λ j. is_marked after (place_of_second j.account.submit) ≡ true) (λ j is. others (place_of_second j.account.submit) is) jobs marked)
-    own
-
--- a job whose second is not marked was submitted in that of none of these
-apart-unmarked : (seconds : Marks) (jobs : List LoggedJob) (job : LoggedJob) → AreSecondsMarked seconds jobs → is_marked seconds (place_of_second job.account.submit) ≡ false
-    → All (λ j. submit_of job ≡ submit_of j → ⊥) jobs
-apart-unmarked seconds jobs job marked none =
-    All-weaker (λ j. is_marked seconds (place_of_second j.account.submit) ≡ true) (λ j. submit_of job ≡ submit_of j → ⊥)
-    (λ j is same. true≢false (sym is ∙ ap (λ n. is_marked seconds (place_of_second n)) (sym same) ∙ none)) jobs marked
-
--- such a job comes before those that are held back
-pub comes-first : (s : Settings) (o : Options) (all held : List LoggedJob) (i : Intake) (job : LoggedJob) (seconds : Marks) → AreSecondsMarked seconds held
-    → is_marked seconds (place_of_second job.account.submit) ≡ false
-    → AreHandled s o all held i → AreHandled s o (all ++ job ∷ []) (job ∷ held) i
-comes-first s o all held i job seconds marked none given =
-    put_in_order s o (all ++ job ∷ []) (held ++ job ∷ []) (job ∷ held) i
-    (IsMoveBy-sym submit_of (job ∷ held) (held ++ job ∷ []) (IsMoveBy-past submit_of job held (apart-unmarked seconds held job marked none)))
-    (arrived s o all held i job given)
+-- ---- a job that passes those that wait
+-- a job that was submitted in the second of none of these comes before them
+pub comes-first : (s : Settings) (o : Options) (all rest : List LoggedJob) (i : Intake) (job : LoggedJob) → IsApart (submit_of job) rest
+    → AreHandled s o all rest i → AreHandled s o (all ++ job ∷ []) (job ∷ rest) i
+comes-first s o all rest i job apart given =
+    put_in_order s o (all ++ job ∷ []) (rest ++ job ∷ []) (job ∷ rest) i
+    (IsMoveBy-sym submit_of (job ∷ rest) (rest ++ job ∷ []) (IsMoveBy-past submit_of job rest apart))
+    (arrived s o all rest i job given)

@@ -6,6 +6,7 @@ pub mod FullLemmas
 pub mod EntryLemmas
 pub mod InTurnLemmas
 pub mod BeginLemmas
+pub mod WaitingLemmas
 pub mod IntakeLemmas
 pub mod ReadLemmas
 pub mod ImportLemmas

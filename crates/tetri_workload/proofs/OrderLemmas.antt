@@ -18,7 +18,7 @@ module _ {X : Type 0} (key : X → ℕ) where
   ordered [] = []
   ordered (x ∷ xs) = insert x (ordered xs)
 
-  abbrev tied : X → X → Bool
+  abbrev pub tied : X → X → Bool
   tied x y = ties (λ a b. is_lt (nat_cmp (key a) (key b))) x y
 
   -- ---- the same items
@@ -138,7 +138,7 @@ module _ {X : Type 0} (key : X → ℕ) where
   pub ordered-first : (x : X) (xs : List X) → All (λ y. key x ≤ key y) xs → ordered (x ∷ xs) ≡ x ∷ ordered xs
   ordered-first x xs lowest = insert-first x (ordered xs) (All-permutation (λ y. key x ≤ key y) xs (ordered xs) (moved-ordered xs) lowest)
 
-filter-map : {X Y : Type 0} (p : Y → Bool) (f : X → Y) (xs : List X) → filter p (map f xs) ≡ map f (filter (λ x. p (f x)) xs)
+pub filter-map : {X Y : Type 0} (p : Y → Bool) (f : X → Y) (xs : List X) → filter p (map f xs) ≡ map f (filter (λ x. p (f x)) xs)
 filter-map p f [] = refl
 filter-map p f (x ∷ xs) = map-by (p (f x)) (filter-map p f xs)
   where

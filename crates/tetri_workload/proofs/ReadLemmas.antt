@@ -14,16 +14,16 @@ use Rattle.tetri_logs.specs.declared.options.Options.{Options}
 use Rattle.tetri_logs.specs.declared.options.Settings.{Settings}
 use Rattle.tetri_logs.proofs.LogLaws.{comments-append, facts_in-append, left_in-append}
 use Rattle.tetri_workload.specs.Kinds.{are_mixed, settled, settled_all}
-use Rattle.tetri_workload.specs.Marks.{AreSecondsMarked}
 use Rattle.tetri_workload.specs.Reading.{AreHandled, AreWanted, IsRead, IsReadOf, jobs_of}
+use Rattle.tetri_workload.specs.Waiting.{IsOrderly, all_waiting}
 use Rattle.tetri_workload.specs.declared.reading.Reading.{Reading}
 use Rattle.tetri_workload.proofs.EntryLemmas.{jobs_of-append}
 
 -- what is handled of the jobs of some entries is so of those with others that have none
 handled-none : (s : Settings) (o : Options) (nodes : List NodeText) (es more : List Entry) (r : Reading) → jobs_of nodes more ≡ []
-    → AreHandled s o (jobs_of nodes es) r.intake.held.items r.intake → AreHandled s o (jobs_of nodes (es ++ more)) r.intake.held.items r.intake
+    → AreHandled s o (jobs_of nodes es) (all_waiting r.intake.waiting) r.intake → AreHandled s o (jobs_of nodes (es ++ more)) (all_waiting r.intake.waiting) r.intake
 handled-none s o nodes es more r none given =
-    subst (λ js. AreHandled s o js r.intake.held.items r.intake) (sym (jobs_of-append nodes es more ∙ ap (λ js. jobs_of nodes es ++ js) none ∙ append-nil (jobs_of nodes es))) given
+    subst (λ js. AreHandled s o js (all_waiting r.intake.waiting) r.intake) (sym (jobs_of-append nodes es more ∙ ap (λ js. jobs_of nodes es ++ js) none ∙ append-nil (jobs_of nodes es))) given
 
 -- where nodes do not differ, a job stays as it is
 pub settled-alike : (nodes : List NodeText) (job : LoggedJob) → are_mixed nodes ≡ false → job ∷ [] ≡ settled_all nodes (job ∷ [])
@@ -35,19 +35,19 @@ pub read-job : (s : Settings) (o : Options) (nodes : List NodeText) (es : List E
     → r.left.items ≡ q.left.items
     → r.facts ≡ q.facts
     → r.comments ≡ q.comments
-    → AreWanted s r.intake.held.items
-    → AreSecondsMarked r.intake.seconds r.intake.held.items
-    → AreHandled s o (jobs_of nodes es ++ settled ∷ []) r.intake.held.items r.intake
+    → AreWanted s (all_waiting r.intake.waiting)
+    → IsOrderly r.intake.waiting
+    → AreHandled s o (jobs_of nodes es ++ settled ∷ []) (all_waiting r.intake.waiting) r.intake
     → IsRead s o nodes (es ++ Job job ∷ []) r
-read-job s o nodes es q r job settled given is left facts comments wanted marked handled =
+read-job s o nodes es q r job settled given is left facts comments wanted orderly handled =
     let zero : count is_comment (Job job ∷ []) ≡ 0 = refl in
     record {
       left = left ∙ given.left ∙ sym (left_in-append es (Job job ∷ []) ∙ append-nil (left_in es));
       facts = facts ∙ given.facts ∙ sym (facts_in-append no_facts es (Job job ∷ []));
       comments = omega (arith, comments, given.comments, comments-append es (Job job ∷ []), zero);
       wanted = wanted;
-      marked = marked;
-      handled = subst (λ js. AreHandled s o js r.intake.held.items r.intake) (ap (λ js. jobs_of nodes es ++ js) is ∙ sym (jobs_of-append nodes es (Job job ∷ []))) handled;
+      orderly = orderly;
+      handled = subst (λ js. AreHandled s o js (all_waiting r.intake.waiting) r.intake) (ap (λ js. jobs_of nodes es ++ js) is ∙ sym (jobs_of-append nodes es (Job job ∷ []))) handled;
     }
 
 -- a comment
@@ -64,9 +64,9 @@ read-comment s o nodes es q r fact none given intake left facts comments =
       left = left ∙ given.left ∙ sym (left_in-append es (Comment fact ∷ []) ∙ append-nil (left_in es));
       facts = facts ∙ ap (λ f. with_fact f fact) given.facts ∙ sym (facts_in-append no_facts es (Comment fact ∷ []));
       comments = omega (arith, comments, given.comments, comments-append es (Comment fact ∷ []), one);
-      wanted = subst (λ i. AreWanted s i.held.items) (sym intake) given.wanted;
-      marked = subst (λ i. AreSecondsMarked i.seconds i.held.items) (sym intake) given.marked;
-      handled = handled-none s o nodes es (Comment fact ∷ []) r none (subst (λ i. AreHandled s o (jobs_of nodes es) i.held.items i) (sym intake) given.handled);
+      wanted = subst (λ i. AreWanted s (all_waiting i.waiting)) (sym intake) given.wanted;
+      orderly = subst (λ i. IsOrderly i.waiting) (sym intake) given.orderly;
+      handled = handled-none s o nodes es (Comment fact ∷ []) r none (subst (λ i. AreHandled s o (jobs_of nodes es) (all_waiting i.waiting) i) (sym intake) given.handled);
     }
 
 -- a line, or a task, that brings no job
@@ -83,9 +83,9 @@ read-left s o nodes es q r reject none given intake left facts comments =
       left = left ∙ ap (λ rs. rs ++ reject ∷ []) given.left ∙ sym (left_in-append es (Left reject ∷ []));
       facts = facts ∙ given.facts ∙ sym (facts_in-append no_facts es (Left reject ∷ []));
       comments = omega (arith, comments, given.comments, comments-append es (Left reject ∷ []), zero);
-      wanted = subst (λ i. AreWanted s i.held.items) (sym intake) given.wanted;
-      marked = subst (λ i. AreSecondsMarked i.seconds i.held.items) (sym intake) given.marked;
-      handled = handled-none s o nodes es (Left reject ∷ []) r none (subst (λ i. AreHandled s o (jobs_of nodes es) i.held.items i) (sym intake) given.handled);
+      wanted = subst (λ i. AreWanted s (all_waiting i.waiting)) (sym intake) given.wanted;
+      orderly = subst (λ i. IsOrderly i.waiting) (sym intake) given.orderly;
+      handled = handled-none s o nodes es (Left reject ∷ []) r none (subst (λ i. AreHandled s o (jobs_of nodes es) (all_waiting i.waiting) i) (sym intake) given.handled);
     }
 
 -- the entries of some lists, one behind the other

@@ -2,6 +2,7 @@ pub mod Kinds
 pub mod Known
 pub mod Partitions
 pub mod Marks
+pub mod Waiting
 pub mod Taking
 pub mod Head
 pub mod Reading

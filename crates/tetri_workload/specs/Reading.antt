@@ -12,9 +12,9 @@ use Rattle.tetri_logs.specs.declared.entry.LoggedJob.{LoggedJob}
 use Rattle.tetri_logs.specs.declared.options.Options.{Options}
 use Rattle.tetri_logs.specs.declared.options.Settings.{Settings}
 use Rattle.tetri_workload.specs.Kinds.{settled_all}
-use Rattle.tetri_workload.specs.Marks.{AreSecondsMarked}
 use Rattle.tetri_workload.specs.Ordering.{IsMoveBy}
 use Rattle.tetri_workload.specs.Taking.{Tally, is_full, nothing_taken, so_far, taken_all, with_logged}
+use Rattle.tetri_workload.specs.Waiting.{IsOrderly, all_waiting}
 use Rattle.tetri_workload.specs.declared.intake.Intake.{Intake}
 use Rattle.tetri_workload.specs.declared.reading.Reading.{Reading}
 
@@ -109,9 +109,9 @@ pub record IsRead (s : Settings) (o : Options) (nodes : List NodeText) (es : Lis
   pub left : r.left.items ≡ left_in es
   pub facts : r.facts ≡ facts_in no_facts es
   pub comments : r.comments ≡ count is_comment es
-  pub wanted : AreWanted s r.intake.held.items
-  pub marked : AreSecondsMarked r.intake.seconds r.intake.held.items
-  pub handled : AreHandled s o (jobs_of nodes es) r.intake.held.items r.intake
+  pub wanted : AreWanted s (all_waiting r.intake.waiting)
+  pub orderly : IsOrderly r.intake.waiting
+  pub handled : AreHandled s o (jobs_of nodes es) (all_waiting r.intake.waiting) r.intake
 
 -- the same of the first lines of a log with these entries, where the others are not read yet
 abbrev pub IsReadOf : Settings → Options → List NodeText → List Entry → List Entry → Reading → Type 0

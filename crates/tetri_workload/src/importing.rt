@@ -15,16 +15,18 @@ ghost use Rattle.tetri_workload.specs.Kinds.{are_mixed, fitted};
 ghost use Rattle.tetri_workload.specs.Known.{AreKnown};
 ghost use Rattle.tetri_workload.specs.Saying.{IsAsked};
 ghost use Rattle.tetri_workload.specs.Taking.{so_far};
+ghost use Rattle.tetri_workload.specs.Waiting.{all_waiting};
 
 use crate::confirming::is_read_as;
-use crate::ends::seems_turned;
 use crate::head::{Head, head_of};
 use crate::intake::Halt;
 use crate::kinds::{Kinds, are_mixed, fitted};
 use crate::ordering::{by_line, by_slot, by_submission};
 use crate::reading::{FIRST_HELD, Reading};
+use crate::samples::later_from;
 use crate::taking::{Taken, take_all};
 use crate::text::trace_text;
+use crate::waiting::Waiting;
 use std::alloc::{AllocError, Global};
 use std::mem;
 use tetri_cluster::NodeText;
@@ -152,27 +154,46 @@ fn draw_sorted(
     draw_listed(alloc, kinds, options, nodes, log)
 }
 
-// With slot 0 at the first of these jobs that may begin.
+// With slot 0 at the first of these jobs, in order of submission, that may begin.
 fn begun_by(draft: &Settings, jobs: &[LoggedJob<'_>]) -> Option<Settings>
     requires { AreGood draft.now }
     ensures begun { IfSome result (λ s. (job : LoggedJob) × Contains jobs.now job × (begun_with draft.now job.account ≡ Some s)) }
     ensures good { IfSome result AreGood }
     ensures small { IfSome result (λ s. s.origin < 2 ^ 33) }
 {
+    let mut first = None;
+    let mut submit = u64::MAX;
     for job in jobs {
-        if let Some(settings) = begun_with(draft, job.account) {
-            return Some(settings);
+        if u64::from(job.account.submit) < submit
+            && let Some(settings) = begun_with(draft, job.account)
+        {
+            first = Some(settings);
+            submit = u64::from(job.account.submit);
         }
     }
-    None
+    first
 }
 
-// What is taken of a log whose jobs are taken as they come, where its first lines and that of its first job are read.
+// The same of the jobs that wait: of those that are held back, or else of the others.
+fn begun_among(draft: &Settings, waiting: &Waiting<'_>) -> Option<Settings>
+    requires { AreGood draft.now }
+    ensures begun { IfSome result (λ s. (job : LoggedJob) × Contains (all_waiting waiting.now) job × (begun_with draft.now job.account ≡ Some s)) }
+    ensures good { IfSome result AreGood }
+    ensures small { IfSome result (λ s. s.origin < 2 ^ 33) }
+{
+    match begun_by(draft, &waiting.held) {
+        Some(settings) => Some(settings),
+        None => begun_by(draft, &waiting.later),
+    }
+}
+
+// What is taken of a log whose jobs are taken as they come, but for those that come later, where its first lines and that of its first job are read.
 fn draw_in_turn<'a>(
     alloc: Global,
     kinds: &mut Kinds,
     options: &Options,
     nodes: &[NodeText],
+    later_from: u64,
     head: Log<'a>,
     first: Entries<'a>,
     walk: &mut Walk<'a>,
@@ -186,11 +207,10 @@ fn draw_in_turn<'a>(
     let Ok(draft) = settings_of(options, head.facts) else {
         return Err(Halt::OutOfTurn);
     };
-    let mut read = Reading::new(alloc, options, head)?;
+    let mut read = Reading::new(alloc, options, later_from, head)?;
     read.add(alloc, kinds, &draft, nodes, false, first)?;
     let ended = read.add_lines(alloc, kinds, &draft, nodes, false, FIRST_HELD, walk)?;
-    read.sort()?;
-    let Some(settings) = begun_by(&draft, &read.intake.held) else {
+    let Some(settings) = begun_among(&draft, &read.intake.waiting) else {
         return Err(Halt::OutOfTurn);
     };
     read.finish(alloc, kinds, &settings, nodes, walk, ended)?;
@@ -217,15 +237,15 @@ fn draw(
     ensures drawn { IfOk result (IsDrawn (entries (are_mixed nodes.now) format log.now) nodes.now options.now) }
     ensures refused { IfErr result (IsRefused (entries (are_mixed nodes.now) format log.now) nodes.now options.now) }
 {
-    if seems_turned(alloc, format, log)? {
-        return draw_sorted(alloc, kinds, format, options, nodes, log);
-    }
+    let later_from = later_from(alloc, format, log)?;
     let mut walk = Walk::new(alloc, are_mixed(nodes), format, log);
     let Head { log: head, first } = head_of(alloc, &mut walk)?;
     let Some(first) = first else {
         return draw_listed(alloc, kinds, options, nodes, head);
     };
-    match draw_in_turn(alloc, kinds, options, nodes, head, first, &mut walk) {
+    match draw_in_turn(
+        alloc, kinds, options, nodes, later_from, head, first, &mut walk,
+    ) {
         Ok(drawn) => Ok(drawn),
         Err(Halt::NoMemory) => Err(ImportFault::NoMemory),
         Err(Halt::OutOfTurn) => {

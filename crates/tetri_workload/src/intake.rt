@@ -1,5 +1,5 @@
 // What is taken of the jobs of a log as they come.
-ghost use Rattle.std.specs.Prelude.{◌≡◌, ◌↔◌, ◌+◌, ◌*◌, ◌<◌, ◌≤◌, ◌^◌, ◌++◌, ◌∷◌, [], Bool, Err, IfOk, IsTrue, List, MatchOption, None, Ok, OnOk, Some, cond, drop, length, true, false, ℕ};
+ghost use Rattle.std.specs.Prelude.{◌≡◌, ◌↔◌, ◌+◌, ◌*◌, ◌<◌, ◌≤◌, ◌^◌, ◌++◌, ◌∷◌, [], All, Bool, Err, IfOk, IsTrue, List, MatchOption, None, Ok, OnOk, Some, cond, drop, length, true, false, ℕ};
 ghost use Rattle.tetri_logs.specs.Options.{AreGood};
 ghost use Rattle.tetri_logs.specs.Origin.{begun_at, is_in_run, may_begin};
 ghost use Rattle.tetri_logs.specs.Placing.{IsPlaced, place};
@@ -7,13 +7,13 @@ ghost use Rattle.tetri_logs.specs.Scale.{moment_of};
 ghost use Rattle.tetri_logs.specs.declared.entry.LoggedJob.{LoggedJob};
 ghost use Rattle.tetri_logs.specs.declared.options.Options.{Options};
 ghost use Rattle.tetri_logs.specs.declared.options.Settings.{Settings};
-ghost use Rattle.tetri_workload.specs.Marks.{AreSecondsMarked};
 ghost use Rattle.tetri_workload.specs.Reading.{AreHandled, AreWanted, IsJoinedBy, IsNear, IsTimely, MayLeave};
 ghost use Rattle.tetri_workload.specs.Taking.{HasMarks};
+ghost use Rattle.tetri_workload.specs.Waiting.{IsOrderly, all_waiting, jobs_at, jobs_from};
 
-use crate::marks::{Marks, place_of_second};
 use crate::ordering::by_submission;
 use crate::taking::Taken;
+use crate::waiting::{Listed, NEVER, Waiting, end_of_part, part_of};
 use std::alloc::{AllocError, Global};
 use std::mem;
 use tetri_logs::{
@@ -40,20 +40,20 @@ impl From<AllocError> for Halt {
     }
 }
 
-/// What is taken of the jobs so far, and which are held back.
+// As many jobs, or about as many, are put in order of submission at first where they come later, and each time twice as many then.
+const FIRST_PART: usize = 131_072;
+
+/// What is taken of the jobs so far, and which wait.
 #[derive(Drop)]
 pub struct Intake<'a> {
     pub taken: Taken,
-    /// In the order of the log.
-    pub held: Vec<LoggedJob<'a>>,
+    pub waiting: Waiting<'a>,
     /// When the last job was submitted, by the log's clock, that had a place and found the trace not full yet.
     pub last: u32,
     /// When the last job was submitted that had a place.
     pub placed: Option<u32>,
     /// Whether jobs that come too late for the trace leave no gap, whatever else comes.
     pub joined: bool,
-    // A mark for the second of each job that is held back, and perhaps others.
-    seconds: Marks,
 }
 
 // Without the first so many of these jobs. The others keep their memory.
@@ -64,17 +64,6 @@ fn drop_first(jobs: &mut Vec<LoggedJob<'_>>, many: usize)
     let left = jobs.len() - many;
     jobs.rotate_left(many);
     jobs.truncate(left);
-}
-
-// A mark for the second of each of these jobs.
-fn seconds_of(alloc: Global, jobs: &[LoggedJob<'_>]) -> Result<Marks, AllocError>
-    ensures { IfOk result (λ seconds. AreSecondsMarked seconds jobs.now) }
-{
-    let mut seconds = Marks::new(alloc)?;
-    for job in jobs {
-        seconds.add(place_of_second(job.account.submit));
-    }
-    Ok(seconds)
 }
 
 // The last second behind a job with a place: its own, unless it found the trace full.
@@ -102,19 +91,23 @@ fn is_near(settings: &Settings, placed: Option<u32>, account: Account) -> bool
 }
 
 impl<'a> Intake<'a> {
-    /// No jobs.
-    pub(crate) fn new(alloc: Global, options: &Options) -> Result<Intake<'a>, AllocError>
+    /// No jobs. Those come later that are submitted in this second of the log's clock or behind it.
+    pub(crate) fn new(
+        alloc: Global,
+        options: &Options,
+        later_from: u64,
+    ) -> Result<Intake<'a>, AllocError>
         ensures handled { IfOk result (λ i. (s : Settings) → AreHandled s options.now [] [] i) }
-        ensures held { IfOk result (λ i. i.held.items ≡ []) }
+        ensures none { IfOk result (λ i. all_waiting i.waiting ≡ []) }
+        ensures orderly { IfOk result (λ i. IsOrderly i.waiting) }
         ensures marks { IfOk result (λ i. HasMarks i.taken) }
     {
         Ok(Intake {
             taken: Taken::new(alloc)?,
-            held: Vec::new(alloc),
+            waiting: Waiting::new(alloc, later_from)?,
             last: 0,
             placed: None,
             joined: options.from.is_some(),
-            seconds: Marks::new(alloc)?,
         })
     }
 
@@ -172,8 +165,7 @@ impl<'a> Intake<'a> {
         requires placed { IsPlaced placing.now }
         requires marks { HasMarks self.old.taken }
         ensures marks { OnOk result (HasMarks self.new.taken) }
-        ensures held { OnOk result (self.new.held ≡ self.old.held) }
-        ensures seconds { OnOk result (self.new.seconds ≡ self.old.seconds) }
+        ensures waiting { OnOk result (self.new.waiting ≡ self.old.waiting) }
         ensures handled { OnOk result ((o : Options) → (all rest : List LoggedJob) → AreHandled settings.now o all (job.now ∷ rest) self.old → AreHandled settings.now o all rest self.new) }
     {
         let submit = job.account.submit;
@@ -193,8 +185,7 @@ impl<'a> Intake<'a> {
         requires place { place settings.now job.now.account ≡ Err cause }
         requires marks { HasMarks self.old.taken }
         ensures marks { OnOk result (HasMarks self.new.taken) }
-        ensures held { OnOk result (self.new.held ≡ self.old.held) }
-        ensures seconds { OnOk result (self.new.seconds ≡ self.old.seconds) }
+        ensures waiting { OnOk result (self.new.waiting ≡ self.old.waiting) }
         ensures handled { OnOk result ((o : Options) → (all rest : List LoggedJob) → AreHandled settings.now o all (job.now ∷ rest) self.old → AreHandled settings.now o all rest self.new) }
     {
         let Some(joined) = self.joined_behind(settings, job.account) else {
@@ -217,8 +208,7 @@ impl<'a> Intake<'a> {
         requires small { settings.now.origin < 2 ^ 33 }
         requires marks { HasMarks self.old.taken }
         ensures marks { OnOk result (HasMarks self.new.taken) }
-        ensures held { OnOk result (self.new.held ≡ self.old.held) }
-        ensures seconds { OnOk result (self.new.seconds ≡ self.old.seconds) }
+        ensures waiting { OnOk result (self.new.waiting ≡ self.old.waiting) }
         ensures handled { OnOk result ((o : Options) → (all rest : List LoggedJob) → AreHandled settings.now o all (job.now ∷ rest) self.old → AreHandled settings.now o all rest self.new) }
     {
         match place(settings, &job.account) {
@@ -227,26 +217,25 @@ impl<'a> Intake<'a> {
         }
     }
 
-    // A job outside the wanted part of the log is left out, and any other one held back.
+    // A job outside the wanted part of the log is left out, and any other one waits.
     #[inline(always)]
     fn hold(&mut self, settings: &Settings, job: LoggedJob<'a>) -> Result<(), AllocError>
         requires marks { HasMarks self.old.taken }
         ensures marks { OnOk result (HasMarks self.new.taken) }
-        ensures wanted { OnOk result (AreWanted settings.now self.old.held.items → AreWanted settings.now self.new.held.items) }
-        ensures marked { OnOk result (AreSecondsMarked self.old.seconds self.old.held.items → AreSecondsMarked self.new.seconds self.new.held.items) }
-        ensures handled { OnOk result ((x : ℕ) → (o : Options) → (all : List LoggedJob) → AreWanted settings.now self.old.held.items → AreHandled (begun_at settings.now x) o all self.old.held.items self.old → AreHandled (begun_at settings.now x) o (all ++ job.entry ∷ []) self.new.held.items self.new) }
+        ensures wanted { OnOk result (IsOrderly self.old.waiting → AreWanted settings.now (all_waiting self.old.waiting) → AreWanted settings.now (all_waiting self.new.waiting)) }
+        ensures orderly { OnOk result (IsOrderly self.old.waiting → IsOrderly self.new.waiting) }
+        ensures handled { OnOk result ((x : ℕ) → (o : Options) → (all : List LoggedJob) → IsOrderly self.old.waiting → AreWanted settings.now (all_waiting self.old.waiting) → AreHandled (begun_at settings.now x) o all (all_waiting self.old.waiting) self.old → AreHandled (begun_at settings.now x) o (all ++ job.entry ∷ []) (all_waiting self.new.waiting) self.new) }
     {
         if is_outside(settings, moment_of(settings, job.account)) {
             self.taken.leave(job.line, Cause::Outside)?;
             return Ok(());
         }
-        self.seconds.add(place_of_second(job.account.submit));
-        self.held.push(job)?;
+        self.waiting.add(job)?;
         Ok(())
     }
 
-    /// Whether a job that comes, where slot 0 is known, passes those that are held back: it is handled behind a trace that is full, and left out where it has
-    /// no place and by the marks none of those that are held back was submitted in its second. Any other one is to be held back.
+    /// Whether a job that comes, where slot 0 is known, passes those that wait: it is handled behind a trace that is full where none is held back, and left
+    /// out where it has no place and by the marks none that waits was submitted in its second. Any other one is to wait.
     #[inline(always)]
     pub(crate) fn passes(
         &mut self,
@@ -258,17 +247,19 @@ impl<'a> Intake<'a> {
         requires small { settings.now.origin < 2 ^ 33 }
         requires marks { HasMarks self.old.taken }
         ensures marks { OnOk result (HasMarks self.new.taken) }
-        ensures held { OnOk result (self.new.held ≡ self.old.held) }
-        ensures seconds { OnOk result (self.new.seconds ≡ self.old.seconds) }
+        ensures waiting { OnOk result (self.new.waiting ≡ self.old.waiting) }
         ensures stays { IfOk result (λ passed. passed ≡ false → self.new ≡ self.old) }
-        ensures handled { IfOk result (λ passed. passed ≡ true → (o : Options) → (all : List LoggedJob) → AreSecondsMarked self.old.seconds self.old.held.items → AreHandled settings.now o all self.old.held.items self.old → AreHandled settings.now o (all ++ job.now ∷ []) self.new.held.items self.new) }
+        ensures handled { IfOk result (λ passed. passed ≡ true → (o : Options) → (all : List LoggedJob) → IsOrderly self.old.waiting → AreHandled settings.now o all (all_waiting self.old.waiting) self.old → AreHandled settings.now o (all ++ job.now ∷ []) (all_waiting self.new.waiting) self.new) }
     {
-        if self.held.is_empty() && self.taken.is_full(settings) {
+        let submit = job.account.submit;
+        if self.waiting.held.is_empty()
+            && u64::from(submit) < self.waiting.later_from
+            && self.taken.is_full(settings)
+        {
             self.handle(alloc, settings, job)?;
             return Ok(true);
         }
-        let second = place_of_second(job.account.submit);
-        if self.seconds.has(second) || !self.is_timely(settings, job.account) {
+        if self.waiting.may_share(submit) || !self.is_timely(settings, job.account) {
             return Ok(false);
         }
         match place(settings, &job.account) {
@@ -280,7 +271,7 @@ impl<'a> Intake<'a> {
         }
     }
 
-    // A job that comes, where slot 0 is known. It is held back unless it passes those that are.
+    // A job that comes, where slot 0 is known. It waits unless it passes those that do.
     #[inline(always)]
     fn add_known(
         &mut self,
@@ -292,9 +283,9 @@ impl<'a> Intake<'a> {
         requires small { settings.now.origin < 2 ^ 33 }
         requires marks { HasMarks self.old.taken }
         ensures marks { OnOk result (HasMarks self.new.taken) }
-        ensures wanted { OnOk result (AreWanted settings.now self.old.held.items → AreWanted settings.now self.new.held.items) }
-        ensures marked { OnOk result (AreSecondsMarked self.old.seconds self.old.held.items → AreSecondsMarked self.new.seconds self.new.held.items) }
-        ensures handled { OnOk result ((o : Options) → (all : List LoggedJob) → AreWanted settings.now self.old.held.items → AreSecondsMarked self.old.seconds self.old.held.items → AreHandled settings.now o all self.old.held.items self.old → AreHandled settings.now o (all ++ job.entry ∷ []) self.new.held.items self.new) }
+        ensures wanted { OnOk result (IsOrderly self.old.waiting → AreWanted settings.now (all_waiting self.old.waiting) → AreWanted settings.now (all_waiting self.new.waiting)) }
+        ensures orderly { OnOk result (IsOrderly self.old.waiting → IsOrderly self.new.waiting) }
+        ensures handled { OnOk result ((o : Options) → (all : List LoggedJob) → IsOrderly self.old.waiting → AreWanted settings.now (all_waiting self.old.waiting) → AreHandled settings.now o all (all_waiting self.old.waiting) self.old → AreHandled settings.now o (all ++ job.entry ∷ []) (all_waiting self.new.waiting) self.new) }
     {
         if !self.passes(alloc, settings, &job)? {
             self.hold(settings, job)?;
@@ -315,9 +306,9 @@ impl<'a> Intake<'a> {
         requires small { known ≡ true → settings.now.origin < 2 ^ 33 }
         requires marks { HasMarks self.old.taken }
         ensures marks { OnOk result (HasMarks self.new.taken) }
-        ensures wanted { OnOk result (AreWanted settings.now self.old.held.items → AreWanted settings.now self.new.held.items) }
-        ensures marked { OnOk result (AreSecondsMarked self.old.seconds self.old.held.items → AreSecondsMarked self.new.seconds self.new.held.items) }
-        ensures handled { OnOk result ((x : ℕ) → (known ≡ true → x ≡ settings.now.origin) → (o : Options) → (all : List LoggedJob) → AreWanted settings.now self.old.held.items → AreSecondsMarked self.old.seconds self.old.held.items → AreHandled (begun_at settings.now x) o all self.old.held.items self.old → AreHandled (begun_at settings.now x) o (all ++ job.entry ∷ []) self.new.held.items self.new) }
+        ensures wanted { OnOk result (IsOrderly self.old.waiting → AreWanted settings.now (all_waiting self.old.waiting) → AreWanted settings.now (all_waiting self.new.waiting)) }
+        ensures orderly { OnOk result (IsOrderly self.old.waiting → IsOrderly self.new.waiting) }
+        ensures handled { OnOk result ((x : ℕ) → (known ≡ true → x ≡ settings.now.origin) → (o : Options) → (all : List LoggedJob) → IsOrderly self.old.waiting → AreWanted settings.now (all_waiting self.old.waiting) → AreHandled (begun_at settings.now x) o all (all_waiting self.old.waiting) self.old → AreHandled (begun_at settings.now x) o (all ++ job.entry ∷ []) (all_waiting self.new.waiting) self.new) }
     {
         if known {
             self.add_known(alloc, settings, job)?;
@@ -338,14 +329,107 @@ impl<'a> Intake<'a> {
         requires small { settings.now.origin < 2 ^ 33 }
         requires marks { HasMarks self.old.taken }
         ensures marks { OnOk result (HasMarks self.new.taken) }
-        ensures held { OnOk result (self.new.held ≡ self.old.held) }
-        ensures seconds { OnOk result (self.new.seconds ≡ self.old.seconds) }
+        ensures waiting { OnOk result (self.new.waiting ≡ self.old.waiting) }
         ensures handled { OnOk result ((o : Options) → (all rest : List LoggedJob) → AreHandled settings.now o all (jobs.now ++ rest) self.old → AreHandled settings.now o all rest self.new) }
     {
         for job in jobs {
             self.handle(alloc, settings, job)?;
         }
         Ok(())
+    }
+
+    // The same of some jobs of a list.
+    fn handle_each(
+        &mut self,
+        alloc: Global,
+        settings: &Settings,
+        jobs: &[LoggedJob<'_>],
+        part: &[Listed],
+    ) -> Result<(), Halt>
+        requires good { AreGood settings.now }
+        requires small { settings.now.origin < 2 ^ 33 }
+        requires marks { HasMarks self.old.taken }
+        requires within { All (λ l. l.place < length jobs.now) part.now }
+        ensures marks { OnOk result (HasMarks self.new.taken) }
+        ensures waiting { OnOk result (self.new.waiting ≡ self.old.waiting) }
+        ensures handled { OnOk result ((o : Options) → (all rest : List LoggedJob) → AreHandled settings.now o all (jobs_at jobs.now part.now ++ rest) self.old → AreHandled settings.now o all rest self.new) }
+    {
+        for listed in part {
+            self.handle(alloc, settings, &jobs[listed.place])?;
+        }
+        Ok(())
+    }
+
+    // Those of these jobs that were submitted in the first second or later and before the other, in order of submission, if they come in their turn.
+    fn handle_part(
+        &mut self,
+        alloc: Global,
+        settings: &Settings,
+        jobs: &[LoggedJob<'_>],
+        first: u64,
+        end: u64,
+    ) -> Result<(), Halt>
+        requires good { AreGood settings.now }
+        requires small { settings.now.origin < 2 ^ 33 }
+        requires marks { HasMarks self.old.taken }
+        requires behind { first ≤ end }
+        ensures marks { OnOk result (HasMarks self.new.taken) }
+        ensures waiting { OnOk result (self.new.waiting ≡ self.old.waiting) }
+        ensures handled { OnOk result ((o : Options) → (all rest : List LoggedJob) → AreHandled settings.now o all (jobs_from first jobs.now ++ rest) self.old → AreHandled settings.now o all (jobs_from end jobs.now ++ rest) self.new) }
+    {
+        let part = part_of(alloc, jobs, first, end)?;
+        self.handle_each(alloc, settings, jobs, &part)?;
+        Ok(())
+    }
+
+    // Those of these jobs that were submitted in this second or later, if they come in their turn.
+    fn handle_from(
+        &mut self,
+        alloc: Global,
+        settings: &Settings,
+        jobs: &[LoggedJob<'_>],
+        first: u64,
+    ) -> Result<(), Halt>
+        requires good { AreGood settings.now }
+        requires small { settings.now.origin < 2 ^ 33 }
+        requires marks { HasMarks self.old.taken }
+        ensures marks { OnOk result (HasMarks self.new.taken) }
+        ensures waiting { OnOk result (self.new.waiting ≡ self.old.waiting) }
+        ensures handled { OnOk result ((o : Options) → (all rest : List LoggedJob) → AreHandled settings.now o all (jobs_from first jobs.now ++ rest) self.old → AreHandled settings.now o all rest self.new) }
+    {
+        for job in jobs {
+            if u64::from(job.account.submit) < first {
+                continue;
+            }
+            self.handle(alloc, settings, job)?;
+        }
+        Ok(())
+    }
+
+    // The earliest of these jobs, in order of submission, until the trace is full, if they come in their turn. The others were submitted in the second that
+    // is told or later.
+    fn handle_first(
+        &mut self,
+        alloc: Global,
+        settings: &Settings,
+        jobs: &[LoggedJob<'_>],
+    ) -> Result<u64, Halt>
+        requires good { AreGood settings.now }
+        requires small { settings.now.origin < 2 ^ 33 }
+        requires marks { HasMarks self.old.taken }
+        ensures marks { OnOk result (HasMarks self.new.taken) }
+        ensures waiting { OnOk result (self.new.waiting ≡ self.old.waiting) }
+        ensures handled { IfOk result (λ first. (o : Options) → (all rest : List LoggedJob) → AreHandled settings.now o all (jobs.now ++ rest) self.old → AreHandled settings.now o all (jobs_from first jobs.now ++ rest) self.new) }
+    {
+        let mut first = 0;
+        let mut wanted = FIRST_PART;
+        while first < NEVER && !self.taken.is_full(settings) {
+            let end = end_of_part(alloc, jobs, first, wanted)?;
+            self.handle_part(alloc, settings, jobs, first, end)?;
+            first = end;
+            wanted = wanted.saturating_mul(2);
+        }
+        Ok(first)
     }
 
     /// The jobs that are held back, in order of submission, until so many are left, if they come in their turn.
@@ -359,21 +443,37 @@ impl<'a> Intake<'a> {
         requires small { settings.now.origin < 2 ^ 33 }
         requires marks { HasMarks self.old.taken }
         ensures marks { OnOk result (HasMarks self.new.taken) }
-        ensures few { OnOk result (length self.new.held.items ≤ left) }
-        ensures wanted { OnOk result (AreWanted settings.now self.old.held.items → AreWanted settings.now self.new.held.items) }
-        ensures marked { OnOk result (AreSecondsMarked self.old.seconds self.old.held.items → AreSecondsMarked self.new.seconds self.new.held.items) }
-        ensures handled { OnOk result ((o : Options) → (all : List LoggedJob) → AreHandled settings.now o all self.old.held.items self.old → AreHandled settings.now o all self.new.held.items self.new) }
+        ensures few { OnOk result (length self.new.waiting.held.items ≤ left) }
+        ensures wanted { OnOk result (AreWanted settings.now (all_waiting self.old.waiting) → AreWanted settings.now (all_waiting self.new.waiting)) }
+        ensures orderly { OnOk result (IsOrderly self.old.waiting → IsOrderly self.new.waiting) }
+        ensures handled { OnOk result ((o : Options) → (all : List LoggedJob) → AreHandled settings.now o all (all_waiting self.old.waiting) self.old → AreHandled settings.now o all (all_waiting self.new.waiting) self.new) }
     {
-        if self.held.len() <= left {
+        if self.waiting.held.len() <= left {
             return Ok(());
         }
-        by_submission(&mut self.held)?;
-        let many = self.held.len().saturating_sub(left);
-        let mut jobs = mem::replace(&mut self.held, Vec::new(alloc));
+        let mut jobs = mem::replace(&mut self.waiting.held, Vec::new(alloc));
+        by_submission(&mut jobs)?;
+        let many = jobs.len().saturating_sub(left);
         self.handle_all(alloc, settings, &jobs[..many])?;
         drop_first(&mut jobs, many);
-        self.seconds = seconds_of(alloc, &jobs)?;
-        self.held = jobs;
+        self.waiting.hold(alloc, jobs)?;
+        Ok(())
+    }
+
+    /// All jobs that wait, if they come in their turn: in order of submission, but for those that come later where the trace is full.
+    pub(crate) fn release_all(&mut self, alloc: Global, settings: &Settings) -> Result<(), Halt>
+        requires good { AreGood settings.now }
+        requires small { settings.now.origin < 2 ^ 33 }
+        requires marks { HasMarks self.old.taken }
+        ensures marks { OnOk result (HasMarks self.new.taken) }
+        ensures none { OnOk result (all_waiting self.new.waiting ≡ []) }
+        ensures orderly { OnOk result (IsOrderly self.old.waiting → IsOrderly self.new.waiting) }
+        ensures handled { OnOk result ((o : Options) → (all : List LoggedJob) → AreHandled settings.now o all (all_waiting self.old.waiting) self.old → AreHandled settings.now o all [] self.new) }
+    {
+        self.release(alloc, settings, 0)?;
+        let jobs = mem::replace(&mut self.waiting.later, Vec::new(alloc));
+        let first = self.handle_first(alloc, settings, &jobs)?;
+        self.handle_from(alloc, settings, &jobs, first)?;
         Ok(())
     }
 }

@@ -2,7 +2,6 @@
 #![tactic(auto)]
 
 mod confirming;
-mod ends;
 mod head;
 mod importing;
 mod intake;
@@ -11,10 +10,12 @@ mod marks;
 mod ordering;
 mod partitions;
 mod reading;
+mod samples;
 mod shelf;
 mod taking;
 mod telling;
 mod text;
+mod waiting;
 
 pub use importing::{ImportFault, Imported, import};
 pub use partitions::add_partition;

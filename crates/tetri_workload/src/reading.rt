@@ -12,13 +12,12 @@ ghost use Rattle.tetri_logs.specs.declared.options.Options.{Options};
 ghost use Rattle.tetri_logs.specs.declared.options.Settings.{Settings};
 ghost use Rattle.tetri_workload.specs.Head.{IsSaidBy};
 ghost use Rattle.tetri_workload.specs.Known.{AreKnown};
-ghost use Rattle.tetri_workload.specs.Ordering.{IsOrderBy};
 ghost use Rattle.tetri_workload.specs.Reading.{IsRead, IsReadOf, behind};
 ghost use Rattle.tetri_workload.specs.Taking.{HasMarks};
+ghost use Rattle.tetri_workload.specs.Waiting.{all_waiting};
 
 use crate::intake::{Halt, Intake};
 use crate::kinds::{Kinds, are_mixed};
-use crate::ordering::by_submission;
 use std::alloc::{AllocError, Global};
 use tetri_cluster::NodeText;
 use tetri_logs::{Entries, Entry, Facts, Log, Options, Reject, Settings, Walk, with_fact};
@@ -62,10 +61,11 @@ fn is_comment(entry: &Entry<'_>) -> bool
 }
 
 impl<'a> Reading<'a> {
-    /// What stands before the first job.
+    /// What stands before the first job. Those jobs come later that are submitted in this second of the log's clock or behind it.
     pub(crate) fn new(
         alloc: Global,
         options: &Options,
+        later_from: u64,
         head: Log<'a>,
     ) -> Result<Reading<'a>, AllocError>
         ensures read { IfOk result (λ r. (s : Settings) → (nodes : List NodeText) → (first : List Entry) → jobs_in first ≡ [] → IsSaidBy first head.entry → IsRead s options.now nodes first r) }
@@ -74,7 +74,7 @@ impl<'a> Reading<'a> {
         ensures comments { IfOk result (λ r. r.comments ≡ head.entry.comments) }
     {
         Ok(Reading {
-            intake: Intake::new(alloc, options)?,
+            intake: Intake::new(alloc, options, later_from)?,
             left: head.left,
             facts: head.facts,
             comments: head.comments,
@@ -212,7 +212,7 @@ impl<'a> Reading<'a> {
         ensures marks { OnOk result (HasMarks self.new.intake.taken) }
         ensures facts { OnOk result (self.new.facts ≡ self.old.facts) }
         ensures comments { OnOk result (self.new.comments ≡ self.old.comments) }
-        ensures held { OnOk result (self.new.intake.held ≡ self.old.intake.held) }
+        ensures held { OnOk result (self.new.intake.waiting ≡ self.old.intake.waiting) }
         ensures stays { IfOk result (λ passed. passed ≡ false → self.new ≡ self.old) }
         ensures read { IfOk result (λ passed. passed ≡ true → (found : Entries) × (read.now ≡ Ok (Some found)) × ((x : ℕ) → (known ≡ true → x ≡ settings.now.origin) → (o : Options) → (es : List Entry) → IsRead (begun_at settings.now x) o nodes.now es self.old → IsRead (begun_at settings.now x) o nodes.now (es ++ entries_in found) self.new)) }
     {
@@ -245,10 +245,10 @@ impl<'a> Reading<'a> {
         ensures marks { OnOk result (HasMarks self.new.intake.taken) }
         ensures facts { OnOk result (self.new.facts ≡ self.old.facts) }
         ensures few { IfOk result (λ ended. ended ≡ false → self.new.comments + walk.new.bytes ≤ self.old.comments + walk.old.bytes) }
-        ensures shorter { IfOk result (λ ended. ended ≡ false → length self.old.intake.held.items < most → walk.new.bytes < walk.old.bytes) }
+        ensures shorter { IfOk result (λ ended. ended ≡ false → length self.old.intake.waiting.held.items < most → walk.new.bytes < walk.old.bytes) }
         ensures read { IfOk result (λ ended. (x : ℕ) → (known ≡ true → x ≡ settings.now.origin) → (o : Options) → (es : List Entry) → IsReadOf (begun_at settings.now x) o nodes.now es walk.old.entries self.old → IsReadOf (begun_at settings.now x) o nodes.now es (behind ended walk.new.entries) self.new) }
     {
-        while self.intake.held.len() < most {
+        while self.intake.waiting.held.len() < most {
             let read = walk.next(alloc);
             if self.passes(alloc, settings, nodes, known, &read)? {
                 continue;
@@ -261,25 +261,13 @@ impl<'a> Reading<'a> {
         Ok(false)
     }
 
-    /// Puts the jobs that are held back in order of submission.
-    pub(crate) fn sort(&mut self) -> Result<(), AllocError>
-        ensures ordered { OnOk result (IsOrderBy (λ j. j.account.submit) self.old.intake.held.items self.new.intake.held.items) }
-        ensures marks { HasMarks self.old.intake.taken → OnOk result (HasMarks self.new.intake.taken) }
-        ensures facts { OnOk result (self.new.facts ≡ self.old.facts) }
-        ensures comments { OnOk result (self.new.comments ≡ self.old.comments) }
-        ensures read { OnOk result ((s : Settings) → (o : Options) → (nodes : List NodeText) → (es : List Entry) → IsRead s o nodes es self.old → IsRead s o nodes es self.new) }
-    {
-        by_submission(&mut self.intake.held)?;
-        Ok(())
-    }
-
     // The jobs that are held back, in order of submission, until so many are left, if they come in their turn.
     fn release(&mut self, alloc: Global, settings: &Settings, left: usize) -> Result<(), Halt>
         requires good { AreGood settings.now }
         requires small { settings.now.origin < 2 ^ 33 }
         requires marks { HasMarks self.old.intake.taken }
         ensures marks { OnOk result (HasMarks self.new.intake.taken) }
-        ensures few { OnOk result (length self.new.intake.held.items ≤ left) }
+        ensures few { OnOk result (length self.new.intake.waiting.held.items ≤ left) }
         ensures facts { OnOk result (self.new.facts ≡ self.old.facts) }
         ensures comments { OnOk result (self.new.comments ≡ self.old.comments) }
         ensures read { OnOk result ((o : Options) → (nodes : List NodeText) → (es : List Entry) → IsRead settings.now o nodes es self.old → IsRead settings.now o nodes es self.new) }
@@ -288,7 +276,20 @@ impl<'a> Reading<'a> {
         Ok(())
     }
 
-    /// What the other lines say, if there are some, and what is taken of all jobs. Jobs are held back until the trace is full.
+    // All jobs that wait, if they come in their turn.
+    fn release_all(&mut self, alloc: Global, settings: &Settings) -> Result<(), Halt>
+        requires good { AreGood settings.now }
+        requires small { settings.now.origin < 2 ^ 33 }
+        requires marks { HasMarks self.old.intake.taken }
+        ensures none { OnOk result (all_waiting self.new.intake.waiting ≡ []) }
+        ensures facts { OnOk result (self.new.facts ≡ self.old.facts) }
+        ensures read { OnOk result ((o : Options) → (nodes : List NodeText) → (es : List Entry) → IsRead settings.now o nodes es self.old → IsRead settings.now o nodes es self.new) }
+    {
+        self.intake.release_all(alloc, settings)?;
+        Ok(())
+    }
+
+    /// What the other lines say, if there are some, and what is taken of all jobs. Jobs are held back until the trace is full. None waits then.
     pub(crate) fn finish(
         &mut self,
         alloc: Global,
@@ -305,7 +306,7 @@ impl<'a> Reading<'a> {
         requires few { ended ≡ false → self.old.comments + walk.old.bytes < 2 ^ 64 }
         ensures known { OnOk result (AreKnown nodes.now kinds.new) }
         ensures read { OnOk result ((o : Options) → (es : List Entry) → IsReadOf settings.now o nodes.now es (behind ended walk.old.entries) self.old → IsRead settings.now o nodes.now es self.new) }
-        ensures none { OnOk result (self.new.intake.held.items ≡ []) }
+        ensures none { OnOk result (all_waiting self.new.intake.waiting ≡ []) }
         ensures facts { OnOk result (self.new.facts ≡ self.old.facts) }
     {
         let mut done = ended;
@@ -315,7 +316,7 @@ impl<'a> Reading<'a> {
             self.release(alloc, settings, still_held(full))?;
             done = self.add_lines(alloc, kinds, settings, nodes, true, MOST_HELD, walk)?;
         }
-        self.release(alloc, settings, 0)?;
+        self.release_all(alloc, settings)?;
         Ok(())
     }
 }

@@ -9,6 +9,7 @@ use Rattle.tetri_logs.specs.Reading.{facts_in, no_facts}
 use Rattle.tetri_logs.specs.Scale.{moment_of}
 use Rattle.tetri_logs.specs.declared.entry.LoggedJob.{LoggedJob}
 use Rattle.tetri_workload.specs.Reading.{IsRead, IsReadOf, behind, jobs_of}
+use Rattle.tetri_workload.specs.Waiting.{all_waiting}
 use Rattle.tetri_workload.proofs.BeginLemmas.{begun-as}
 use Rattle.tetri_workload.proofs.DrawnLemmas.{drawn-of}
 use Rattle.tetri_workload.proofs.EntryLemmas.{jobs_of-append}
@@ -19,7 +20,7 @@ add_lines-requires-clause-few c = omega (arith, c.in_ok-add.ensures.comments, c.
 
 pub finish-requires-clause-few : goal.finish-requires-clause-few
 finish-requires-clause-few c = λ more.
-    omega (arith, c.in_ok-sort.ensures.comments, c.in_ok-ended.ensures.few more, c.in_ok-add.ensures.comments, c.in_ok-read.ensures.comments, c.requires.few, c.requires.one)
+    omega (arith, c.in_ok-ended.ensures.few more, c.in_ok-add.ensures.comments, c.in_ok-read.ensures.comments, c.requires.few, c.requires.one)
 
 pub returns-clause-drawn : goal.returns-clause-drawn
 returns-clause-drawn c = λ es timed headed.
@@ -28,9 +29,9 @@ returns-clause-drawn c = λ es timed headed.
     let draft = c.in-Ok.draft in
     let s = c.in-Some.settings in
     let line = entries_in c.args.first in
-    let sorted = c.sort.new.self in
-    let found : (job : LoggedJob) × Contains sorted.intake.held.items job × (begun_with draft job.account ≡ Some s) =
-    subst (λ jobs. (job : LoggedJob) × Contains jobs job × (begun_with draft job.account ≡ Some s)) c.deref.ensures.value c.in-Some.ensures.begun in
+    let waits = c.add_lines.new.self in
+    let waiting = all_waiting waits.intake.waiting in
+    let found : (job : LoggedJob) × Contains waiting job × (begun_with draft job.account ≡ Some s) = c.in-Some.ensures.begun in
     let first = found.0 in
     let second = moment_of draft first.account in
     let b = begun_at draft second in
@@ -42,18 +43,16 @@ returns-clause-drawn c = λ es timed headed.
     let read : IsReadOf b o nodes es (behind c.in_ok-ended.ended c.add_lines.new.walk.entries) c.add_lines.new.self =
     c.in_ok-ended.ensures.read second never o es (before ++ line, append_assoc before line c.args.walk.now.entries ∙ headed.1, added) in
     let rest = behind c.in_ok-ended.ended c.add_lines.new.walk.entries in
-    let ordered : IsRead b o nodes read.0 sorted = c.in_ok-sort.ensures.read b o nodes read.0 read.2 in
-    let h = ordered.handled.1 in
-    let held = sorted.intake.held.items in
+    let handled = read.2.handled in
     let there : Contains (jobs_of nodes read.0) first =
-    Contains-permutation (ordered.handled.0 ++ held) (jobs_of nodes read.0) first (IsPermutation-sym (jobs_of nodes read.0) (ordered.handled.0 ++ held) h.moved.moved)
-    (Contains-append_right ordered.handled.0 held first found.1) in
+    Contains-permutation (handled.0 ++ waiting) (jobs_of nodes read.0) first (IsPermutation-sym (jobs_of nodes read.0) (handled.0 ++ waiting) handled.1.moved.moved)
+    (Contains-append_right handled.0 waiting first found.1) in
     let has : Contains (jobs_of nodes es) first =
     subst (λ xs. Contains (jobs_of nodes xs) first) read.1
     (subst (λ js. Contains js first) (sym (jobs_of-append nodes read.0 rest)) (Contains-append_left (jobs_of nodes read.0) (jobs_of nodes rest) first there)) in
     let end = c.in_ok-finish.ensures in
-    let last : IsRead s o nodes es c.finish.new.self = end.read o es (read.0, read.1, subst (λ t. IsRead t o nodes read.0 sorted) is ordered) in
+    let last : IsRead s o nodes es c.finish.new.self = end.read o es (read.0, read.1, subst (λ t. IsRead t o nodes read.0 waits) is read.2) in
     let facts : c.finish.new.self.facts ≡ c.args.head.facts =
-    end.facts ∙ c.in_ok-sort.ensures.facts ∙ c.in_ok-ended.ensures.facts ∙ c.in_ok-add.ensures.facts ∙ c.in_ok-read.ensures.facts in
+    end.facts ∙ c.in_ok-ended.ensures.facts ∙ c.in_ok-add.ensures.facts ∙ c.in_ok-read.ensures.facts in
     let settings : settings_of o (facts_in no_facts es) ≡ Ok draft = ap (settings_of o) (sym last.facts ∙ facts) ∙ sym c.in-Ok.ensures.value in
     drawn-of es nodes o _ draft s c.finish.new.self first timed settings found.2 c.in-Some.ensures.good has last end.none refl refl refl refl

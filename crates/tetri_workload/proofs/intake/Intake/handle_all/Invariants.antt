@@ -10,7 +10,6 @@ invariant-loop-job l =
     let first = l.fn.self in
     record {
       marks : HasMarks l.self.taken;
-      held : l.self.held ≡ first.held;
-      seconds : l.self.seconds ≡ first.seconds;
+      waiting : l.self.waiting ≡ first.waiting;
       handled : (o : Options) → (all rest : List LoggedJob) → AreHandled l.settings o all (take l.job-index l.jobs ++ rest) first → AreHandled l.settings o all rest l.self;
     }

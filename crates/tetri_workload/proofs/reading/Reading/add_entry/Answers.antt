@@ -16,8 +16,8 @@ returns-in_ok-add-in-Job-clause-read c = λ x at o es given.
     let added = c.in_ok-add-in-Job.ensures in
     let r : Reading = record { intake = c.add.new.self; left = q.left; facts = q.facts; comments = q.comments } in
     subst (λ e. IsRead b o nodes (es ++ e ∷ []) r) (sym c.in-Job.is)
-    (read-job b o nodes es q r c.in-Job.job job given c.in_ok-job-in-Job.ensures.job refl refl refl (added.wanted given.wanted) (added.marked given.marked)
-    (added.handled x at o (jobs_of nodes es) given.wanted given.marked given.handled))
+    (read-job b o nodes es q r c.in-Job.job job given c.in_ok-job-in-Job.ensures.job refl refl refl (added.wanted given.orderly given.wanted) (added.orderly given.orderly)
+    (added.handled x at o (jobs_of nodes es) given.orderly given.wanted given.handled))
 
 pub returns-else-not-are_same-clause-read : goal.returns-else-not-are_same-clause-read
 returns-else-not-are_same-clause-read c = λ x at o es given.

@@ -17,7 +17,7 @@ invariant-loop-alloc l =
       facts : l.self.facts ≡ first.facts;
       few : l.self.comments + l.walk.bytes ≤ first.comments + lines.bytes;
       within : l.walk.bytes ≤ lines.bytes;
-      shorter : l.most ≤ length l.self.intake.held.items → length first.intake.held.items < l.most → l.walk.bytes < lines.bytes;
+      shorter : l.most ≤ length l.self.intake.waiting.held.items → length first.intake.waiting.held.items < l.most → l.walk.bytes < lines.bytes;
       read : (x : ℕ) → (l.known ≡ true → x ≡ l.settings.origin) → (o : Options) → (es : List Entry)
           → IsReadOf (begun_at l.settings x) o l.nodes es lines.entries first → IsReadOf (begun_at l.settings x) o l.nodes es l.walk.entries l.self;
     }

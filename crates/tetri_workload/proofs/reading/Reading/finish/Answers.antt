@@ -30,4 +30,4 @@ returns-clause-read c = λ o es given.
     let ended : c.loop-done.done ≡ true = search (rules, c.loop-done-test.false) in
     let read = c.loop-done.invariant.read o es given in
     let all : read.0 ≡ es = sym (append-nil read.0) ∙ ap (λ b. read.0 ++ behind b c.loop-done.walk.entries) (sym ended) ∙ read.1 in
-    subst (λ xs. IsRead s o nodes xs c.release-2.new.self) all (c.in_ok-release-3.ensures.read o nodes read.0 read.2)
+    subst (λ xs. IsRead s o nodes xs c.release_all.new.self) all (c.in_ok-release_all.ensures.read o nodes read.0 read.2)

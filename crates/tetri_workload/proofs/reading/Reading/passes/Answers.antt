@@ -4,8 +4,8 @@ use Rattle.tetri_logs.specs.Origin.{begun_at}
 use Rattle.tetri_logs.specs.declared.entry.Entries.TheVariants.{One}
 use Rattle.tetri_logs.specs.declared.entry.Entry.TheVariants.{Job}
 use Rattle.tetri_workload.specs.Kinds.{are_mixed}
-use Rattle.tetri_workload.specs.Marks.{AreSecondsMarked}
 use Rattle.tetri_workload.specs.Reading.{AreHandled, AreWanted, IsRead, jobs_of}
+use Rattle.tetri_workload.specs.Waiting.{IsOrderly, all_waiting}
 use Rattle.tetri_workload.specs.declared.reading.Reading.{Reading}
 use Rattle.tetri_workload.proofs.ReadLemmas.{read-job, settled-alike}
 use Rattle.tetri_workload.proofs.reading.Reading.passes.Goals as goal
@@ -30,12 +30,12 @@ returns-in_ok-passed-in-Ok-Some-One-Job-clause-read c = λ passed.
       λ x at o es given.
           let is : x ≡ s.origin = at (search (rules, c.if-known.true)) in
           let jobs = jobs_of nodes es in
-          let before : AreHandled s o jobs i.held.items i = subst (λ n. AreHandled (begun_at s n) o jobs i.held.items i) is given.handled in
-          let after : AreHandled (begun_at s x) o (jobs ++ job ∷ []) j.held.items j =
-          subst (λ n. AreHandled (begun_at s n) o (jobs ++ job ∷ []) j.held.items j) (sym is) (done.handled passed o jobs given.marked before) in
+          let before : AreHandled s o jobs (all_waiting i.waiting) i = subst (λ n. AreHandled (begun_at s n) o jobs (all_waiting i.waiting) i) is given.handled in
+          let after : AreHandled (begun_at s x) o (jobs ++ job ∷ []) (all_waiting j.waiting) j =
+          subst (λ n. AreHandled (begun_at s n) o (jobs ++ job ∷ []) (all_waiting j.waiting) j) (sym is) (done.handled passed o jobs given.orderly before) in
           subst (λ f. IsRead (begun_at s x) o nodes (es ++ entries_in f) r) (sym one)
           (read-job (begun_at s x) o nodes es q r job job given (settled-alike nodes job alike) refl refl refl
-          (subst (λ v. AreWanted s v.items) (sym done.held) given.wanted)
-          (subst (λ m. AreSecondsMarked m j.held.items) (sym done.seconds) (subst (λ v. AreSecondsMarked i.seconds v.items) (sym done.held) given.marked))
+          (subst (λ w. AreWanted s (all_waiting w)) (sym done.waiting) given.wanted)
+          (subst IsOrderly (sym done.waiting) given.orderly)
           after),
     )
