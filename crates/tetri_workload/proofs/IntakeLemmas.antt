@@ -1,8 +1,8 @@
 -- Jobs that come, that are handled, and that are put in order.
 use Rattle.std.proofs.Common.{◌≡◌, ◌+◌, ◌*◌, ◌<◌, ◌≤◌, ◌∙◌, ◌++◌, ◌∷◌, ◌⊎◌, inl, inr, [], ℕ, List, Bool, true, false, cond, not, ◌&&◌, refl, ap, sym, subst, arith, append_assoc, true≢false}
-use Rattle.std.specs.Prelude.{All, Contains, IfSome, Option, Some, None, Ok, Err, is_ok, nat_lt}
+use Rattle.std.specs.Prelude.{Contains, IfSome, Option, Some, None, Ok, Err, is_ok, nat_lt}
 use Rattle.std.proofs.lemmas.Bool.Decides.{nat_tests}
-use Rattle.std.proofs.lemmas.List.Elements.{All-push, All-tail, All-weaker, Contains-append_left, Contains-append_right, Contains-push}
+use Rattle.std.proofs.lemmas.List.Elements.{All-push, All-tail, Contains-append_left, Contains-append_right, Contains-push}
 use Rattle.std.proofs.lemmas.List.Sorted.{Contains-permutation, IsPermutation-sym}
 use Rattle.std.proofs.lemmas.List.Sums.{fold-append}
 use Rattle.std.proofs.lemmas.Option.{IfSome_then}

@@ -1,5 +1,5 @@
 -- Jobs that wait, and parts of them.
-use Rattle.std.proofs.Common.{◌≡◌, ◌+◌, ◌<◌, ◌≤◌, ◌∙◌, ◌++◌, ◌∷◌, [], ℕ, List, Bool, true, false, cond, length, map, get_or, refl, ap, ap₂, sym, subst, arith, append_assoc, true≢false, nat_cmp, is_lt}
+use Rattle.std.proofs.Common.{◌≡◌, ◌+◌, ◌<◌, ◌≤◌, ◌∙◌, ◌++◌, ◌∷◌, [], ℕ, List, Bool, true, false, cond, length, map, refl, ap, ap₂, sym, subst, arith, append_assoc, true≢false, nat_cmp, is_lt}
 use Rattle.std.specs.Prelude.{◌&&◌, ◌||◌, All, filter, nat_le, nat_lt, not}
 use Rattle.std.specs.List.Sorted.{IsSortedByKey}
 use Rattle.std.proofs.lemmas.Bool.Decides.{nat_tests}

@@ -1,5 +1,5 @@
 -- Jobs that wait until they are handled.
-use Rattle.std.specs.Prelude.{◌≡◌, ◌≤◌, ℕ, ◌&&◌, All, List, [], ◌++◌, filter, map, nat_le, nat_lt, slice_index_or, None}
+use Rattle.std.specs.Prelude.{◌≤◌, ℕ, ◌&&◌, All, List, [], ◌++◌, filter, map, nat_le, nat_lt, slice_index_or, None}
 use Rattle.tetri_logs.specs.declared.entry.LoggedJob.{LoggedJob}
 use Rattle.tetri_workload.specs.Marks.{AreSecondsMarked}
 use Rattle.tetri_workload.specs.declared.waiting.Listed.{Listed}

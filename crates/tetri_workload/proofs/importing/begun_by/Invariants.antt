@@ -1,4 +1,4 @@
-use Rattle.std.proofs.Common.{◌≡◌, ◌<◌, ◌^◌, take}
+use Rattle.std.proofs.Common.{◌≡◌, ◌<◌, ◌^◌}
 use Rattle.std.specs.Prelude.{Contains, IfSome, Some}
 use Rattle.tetri_logs.specs.Options.{AreGood}
 use Rattle.tetri_logs.specs.Origin.{begun_with}

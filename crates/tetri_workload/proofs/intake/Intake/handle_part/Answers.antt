@@ -1,4 +1,4 @@
-use Rattle.std.proofs.Common.{◌≡◌, ◌++◌, append_assoc, subst, sym}
+use Rattle.std.proofs.Common.{◌++◌, append_assoc, subst, sym}
 use Rattle.tetri_workload.specs.Ordering.{IsMoveBy}
 use Rattle.tetri_workload.specs.Reading.{AreHandled}
 use Rattle.tetri_workload.specs.Waiting.{jobs_at, jobs_between, jobs_from}
