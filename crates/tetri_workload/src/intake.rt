@@ -467,6 +467,7 @@ impl<'a> Intake<'a> {
         requires marks { HasMarks self.old.taken }
         ensures marks { OnOk result (HasMarks self.new.taken) }
         ensures none { OnOk result (all_waiting self.new.waiting ≡ []) }
+        ensures few { OnOk result (length self.new.waiting.held.items ≤ 0) }
         ensures orderly { OnOk result (IsOrderly self.old.waiting → IsOrderly self.new.waiting) }
         ensures handled { OnOk result ((o : Options) → (all : List LoggedJob) → AreHandled settings.now o all (all_waiting self.old.waiting) self.old → AreHandled settings.now o all [] self.new) }
     {

@@ -1,5 +1,5 @@
 // What the lines of a log say, as they are read.
-ghost use Rattle.std.specs.Prelude.{◌≡◌, ◌↔◌, ◌+◌, ◌<◌, ◌≤◌, ◌^◌, ◌++◌, ◌∷◌, [], IfOk, IsTrue, List, Ok, OnOk, Some, cond, false, length, true, ℕ};
+ghost use Rattle.std.specs.Prelude.{◌≡◌, ◌↔◌, ◌+◌, ◌<◌, ◌≤◌, ◌^◌, ◌++◌, ◌∷◌, [], IfOk, IsTrue, List, Ok, OnOk, Some, false, length, true, ℕ};
 ghost use Rattle.tetri_base.specs.Lists.{count};
 ghost use Rattle.tetri_logs.specs.Entry.{entries_in};
 ghost use Rattle.tetri_logs.specs.Options.{AreGood};
@@ -45,13 +45,6 @@ fn are_same(one: Facts, other: Facts) -> bool
     ensures { IsTrue result ↔ (one ≡ other) }
 {
     one == other
-}
-
-// How many jobs are still held back: none where the trace is full.
-fn still_held(full: bool) -> usize
-    ensures { result ≡ cond full 0 65536 }
-{
-    if full { 0 } else { STILL_HELD }
 }
 
 fn is_comment(entry: &Entry<'_>) -> bool
@@ -281,15 +274,37 @@ impl<'a> Reading<'a> {
         requires good { AreGood settings.now }
         requires small { settings.now.origin < 2 ^ 33 }
         requires marks { HasMarks self.old.intake.taken }
+        ensures marks { OnOk result (HasMarks self.new.intake.taken) }
         ensures none { OnOk result (all_waiting self.new.intake.waiting ≡ []) }
+        ensures few { OnOk result (length self.new.intake.waiting.held.items ≤ 0) }
         ensures facts { OnOk result (self.new.facts ≡ self.old.facts) }
+        ensures comments { OnOk result (self.new.comments ≡ self.old.comments) }
         ensures read { OnOk result ((o : Options) → (nodes : List NodeText) → (es : List Entry) → IsRead settings.now o nodes es self.old → IsRead settings.now o nodes es self.new) }
     {
         self.intake.release_all(alloc, settings)?;
         Ok(())
     }
 
-    /// What the other lines say, if there are some, and what is taken of all jobs. Jobs are held back until the trace is full. None waits then.
+    // The jobs that are held back, in order of submission, until some are left, and all that wait where the trace is full then, if they come in their turn.
+    fn release_most(&mut self, alloc: Global, settings: &Settings) -> Result<(), Halt>
+        requires good { AreGood settings.now }
+        requires small { settings.now.origin < 2 ^ 33 }
+        requires marks { HasMarks self.old.intake.taken }
+        ensures marks { OnOk result (HasMarks self.new.intake.taken) }
+        ensures few { OnOk result (length self.new.intake.waiting.held.items ≤ 65536) }
+        ensures facts { OnOk result (self.new.facts ≡ self.old.facts) }
+        ensures comments { OnOk result (self.new.comments ≡ self.old.comments) }
+        ensures read { OnOk result ((o : Options) → (nodes : List NodeText) → (es : List Entry) → IsRead settings.now o nodes es self.old → IsRead settings.now o nodes es self.new) }
+    {
+        self.release(alloc, settings, STILL_HELD)?;
+        if self.intake.taken.is_full(settings) {
+            self.release_all(alloc, settings)?;
+            return Ok(());
+        }
+        Ok(())
+    }
+
+    /// What the other lines say, if there are some, and what is taken of all jobs, none of which waits then. Jobs are held back until the trace is full.
     pub(crate) fn finish(
         &mut self,
         alloc: Global,
@@ -311,9 +326,7 @@ impl<'a> Reading<'a> {
     {
         let mut done = ended;
         while !done {
-            self.release(alloc, settings, STILL_HELD)?;
-            let full = self.intake.taken.is_full(settings);
-            self.release(alloc, settings, still_held(full))?;
+            self.release_most(alloc, settings)?;
             done = self.add_lines(alloc, kinds, settings, nodes, true, MOST_HELD, walk)?;
         }
         self.release_all(alloc, settings)?;

@@ -8,19 +8,18 @@ loop-done-preserved c =
     let s = c.args.settings.now in
     let nodes = c.args.nodes.now in
     let inv = c.loop-done.invariant in
-    let first = c.in_ok-release.ensures in
-    let second = c.in_ok-release-2.ensures in
+    let released = c.in_ok-release_most.ensures in
     let added = c.in_ok-done.ensures in
     let more_lines : c.loop-done.done ≡ false = search (rules, c.loop-done-test.true) in
     record {
       known = added.known;
       marks = added.marks;
-      facts = added.facts ∙ second.facts ∙ first.facts ∙ inv.facts;
-      few = λ more. omega (arith, added.few more, second.comments, first.comments, inv.few more_lines);
+      facts = added.facts ∙ released.facts ∙ inv.facts;
+      few = λ more. omega (arith, added.few more, released.comments, inv.few more_lines);
       read = λ o es given.
           let read = inv.read o es given in
           added.read s.origin (λ _. refl) o es
-          (read.0, ap (λ b. read.0 ++ behind b c.loop-done.walk.entries) (sym more_lines) ∙ read.1, second.read o nodes read.0 (first.read o nodes read.0 read.2));
+          (read.0, ap (λ b. read.0 ++ behind b c.loop-done.walk.entries) (sym more_lines) ∙ read.1, released.read o nodes read.0 read.2);
     }
 
 pub returns-clause-read : goal.returns-clause-read
