@@ -187,6 +187,10 @@ module _ (p : ℕ → Bool) where
           ∙ ap (λ m. m * 2 ^ (gone + k + 1)) (behind_to xs (at + gone) stop behind_gone k first_behind.1 refl ∙ ap (λ i. mask_l (map p (chunk i (stop - i) xs))) there)
           ∙ ap (λ n. left xs at n stop) place
 
+  -- the next such byte is in the text, or the text ends there
+  pub place_inside : (xs : List ℕ) (from : ℕ) → from ≤ length xs → from + position_or_len p (drop from xs) ≤ length xs
+  place_inside xs from inside = omega (arith, prefix_len-le-length (λ y. not (p y)) (drop from xs), length-drop from xs)
+
   -- the next part of what is left, added
   pub part_next : (xs : List ℕ) (from end : ℕ) (before all : List (List ℕ)) → from ≤ length xs → end ≡ from + position_or_len p (drop from xs) → end < length xs
       → before ++ slice_split p (drop from xs) ≡ all → (before ++ slice_range xs from end ∷ []) ++ slice_split p (drop (end + 1) xs) ≡ all

@@ -5,6 +5,7 @@
 mod account;
 mod calendar;
 mod comments;
+mod early;
 mod entry;
 mod header;
 mod job_name;
@@ -28,6 +29,7 @@ mod words;
 
 pub use account::Account;
 pub use comments::Fact;
+pub use early::{Early, early_jobs};
 pub use entry::{Cause, Entries, Entry, Format, LoggedJob, Reject, read_entries};
 pub use header::Header;
 pub use job_name::JobName;

@@ -5,6 +5,7 @@ ghost use Rattle.tetri_logs.specs.Entry.{entries_in};
 ghost use Rattle.tetri_logs.specs.Reading.{is_comment};
 ghost use Rattle.tetri_logs.specs.Walk.{unread};
 
+use crate::early::Bound;
 use crate::entry::{Entries, Format, line_entries};
 use crate::layout::{Layout, first_layout};
 use crate::lines::next_line;
@@ -47,6 +48,38 @@ impl<'a> Walk<'a> {
             seats: Seats::new(alloc, mixed),
             words: Vec::new(alloc),
         }
+    }
+
+    /// Other lines, laid out as those behind the line that was read last, where nodes differ or not as there.
+    pub(crate) fn over(&self, alloc: Global, lines: &'a [u8]) -> Walk<'a> {
+        Walk {
+            rest: lines,
+            number: 0,
+            layout: self.layout,
+            seats: Seats::new(alloc, self.seats.are_mixed()),
+            words: Vec::new(alloc),
+        }
+    }
+
+    /// How the lines are laid out that are not read yet.
+    pub(crate) fn layout(&self) -> &Layout {
+        &self.layout
+    }
+
+    /// Passes over lines, as far as one that seems to tell of a job submitted before.
+    pub(crate) fn skip_to(&mut self, bound: &Bound)
+        ensures { self.new.bytes ≤ self.old.bytes }
+    {
+        let mut rest = self.rest;
+        let mut passed = 0;
+        while let Some((line, behind)) = next_line(rest)
+            && !bound.is_behind_line(&self.layout, line)
+        {
+            rest = behind;
+            passed += 1;
+        }
+        self.rest = rest;
+        self.number += passed;
     }
 
     /// What the next line is. `None` exactly where there is none. Its only error is want of memory.
