@@ -1,7 +1,7 @@
 -- What is taken of a log whose jobs come in their turn is what is taken of it in order of submission.
-use Rattle.std.proofs.Common.{◌≡◌, ◌∙◌, ◌++◌, inl, inr, List, Bool, true, false, [], map, cond, refl, ap, sym, subst, arith}
+use Rattle.std.proofs.Common.{◌≡◌, ◌≤◌, ◌∙◌, ◌++◌, inl, inr, List, Bool, true, false, [], length, map, cond, refl, ap, sym, subst, arith}
 use Rattle.std.specs.Prelude.{All, Contains, None, Some, Ok}
-use Rattle.std.proofs.lemmas.List.{append-nil}
+use Rattle.std.proofs.lemmas.List.{append-nil, take_all}
 use Rattle.std.proofs.lemmas.List.Elements.{All-map, All-weaker}
 use Rattle.std.proofs.lemmas.List.Sorted.{All-permutation, Contains-permutation}
 use Rattle.std.specs.List.Sorted.{IsPermutation}
@@ -16,17 +16,18 @@ use Rattle.tetri_logs.specs.declared.options.Settings.{Settings}
 use Rattle.tetri_logs.proofs.LogLaws.{all_entries}
 use Rattle.tetri_workload.specs.Import.{IsDrawn}
 use Rattle.tetri_workload.specs.Kinds.{are_mixed, settled, settled_all}
+use Rattle.tetri_workload.specs.Listed.{jobs_before, jobs_from}
 use Rattle.tetri_workload.specs.Ordering.{IsMoveBy}
 use Rattle.tetri_workload.specs.Reading.{AreJoined, ComeInTurn, HasBridge, IsHandled, IsRead, jobs_of}
 use Rattle.tetri_workload.specs.Taking.{nothing_taken, so_far, taken_all, with_left}
-use Rattle.tetri_workload.specs.Waiting.{all_waiting}
 use Rattle.tetri_workload.specs.declared.importing.Drawn.{Drawn}
 use Rattle.tetri_workload.specs.declared.intake.Intake.{Intake}
 use Rattle.tetri_workload.specs.declared.reading.Reading.{Reading}
 use Rattle.tetri_workload.proofs.BeginLemmas.{begun-of, no_gap-bridge, no_gap-early, no_gap-from}
 use Rattle.tetri_workload.proofs.ImportLemmas.{moved-of, whole-of}
 use Rattle.tetri_workload.proofs.InTurnLemmas.{IsAlike, alike}
-use Rattle.tetri_workload.proofs.OrderLemmas.{IsOrderBy-moved, IsOrderBy-ordered, ordered}
+use Rattle.tetri_workload.proofs.ListedLemmas.{parted}
+use Rattle.tetri_workload.proofs.OrderLemmas.{IsMoveBy-trans, IsOrderBy-moved, IsOrderBy-ordered, ordered}
 use Rattle.tetri_workload.proofs.EntryLemmas.{submit_of}
 
 -- ---- jobs that stand on one line
@@ -72,6 +73,15 @@ none-by : (s : Settings) (o : Options) (all order rest : List LoggedJob) (i : In
 none-by s o all order rest i true is moved h = joined-none s o all order moved (h.joined is)
 none-by s o all order rest i false is moved h = no_gap-early o s order (h.early is)
 
+-- ---- all early jobs
+-- where each of them has been met, all jobs are those and the others
+pub all_met : (s : Settings) (o : Options) (nodes : List NodeText) (es : List Entry) (r : Reading) → IsRead s o nodes es r → length r.early.items ≤ r.met
+    → IsMoveBy submit_of (jobs_of nodes es) (r.early.items ++ jobs_from r.before (jobs_of nodes es))
+all_met s o nodes es r read met =
+    let all = jobs_of nodes es in
+    let early : jobs_before r.before all ≡ r.early.items = read.met ∙ take_all r.met r.early.items met in
+    subst (λ js. IsMoveBy submit_of all (js ++ jobs_from r.before all)) early (parted r.before all)
+
 -- ---- what is drawn
 pub drawn-of : (es : List Entry) (nodes : List NodeText) (o : Options) (d : Drawn) (draft s : Settings) (r : Reading) (first : LoggedJob)
     → AreTimedByLine (jobs_in es)
@@ -80,23 +90,26 @@ pub drawn-of : (es : List Entry) (nodes : List NodeText) (o : Options) (d : Draw
     → AreGood s
     → Contains (jobs_of nodes es) first
     → IsRead s o nodes es r
-    → all_waiting r.intake.waiting ≡ []
+    → r.intake.waiting.held.items ≡ []
+    → length r.early.items ≤ r.met
     → d.settings ≡ s
     → so_far d.taken ≡ so_far r.intake.taken
     → d.left.items ≡ r.left.items
     → d.comments ≡ r.comments
     → IsDrawn es nodes o d
-drawn-of es nodes o d draft s r first timed settings begins good has read none is taken left comments =
+drawn-of es nodes o d draft s r first timed settings begins good has read none met is taken left comments =
     let all = jobs_of nodes es in
     let order = read.handled.0 in
     let h = read.handled.1 in
     let sorted = ordered submit_of order in
-    let whole : order ++ all_waiting r.intake.waiting ≡ order = ap (λ js. order ++ js) none ∙ append-nil order in
-    let moves : IsMoveBy submit_of all order = subst (IsMoveBy submit_of all) whole h.moved in
+    let whole : order ++ r.intake.waiting.held.items ≡ order = ap (λ js. order ++ js) none ∙ append-nil order in
+    let parts = r.early.items ++ jobs_from r.before all in
+    let moved : IsMoveBy submit_of parts order = subst (IsMoveBy submit_of parts) whole h.moved in
+    let moves : IsMoveBy submit_of all order = IsMoveBy-trans submit_of all parts order (all_met s o nodes es r read met) moved in
     let comes : ComeInTurn s nothing_taken 0 order = subst (ComeInTurn s nothing_taken 0) (append-nil order) (h.turns [] tt) in
     let same : IsAlike (taken_all s sorted) (taken_all s order) = alike s nothing_taken 0 order (timed-moved all order moves.moved (timed-settled nodes (jobs_in es) timed)) comes in
     let tally : so_far d.taken ≡ taken_all s order = taken ∙ h.tally in
-    let together : gap_of o s sorted ≡ None = none-by s o all order (all_waiting r.intake.waiting) r.intake r.intake.joined refl moves.moved h in
+    let together : gap_of o s sorted ≡ None = none-by s o parts order r.intake.waiting.held.items r.intake r.intake.joined refl moved.moved h in
     let counted = comments ∙ read.comments in (
       draft,
       sorted,

@@ -3,6 +3,7 @@ use Rattle.std.proofs.Common.{◌≡◌, ◌∙◌, ◌++◌, [], ℕ, List, Boo
 use Rattle.std.proofs.lemmas.List.{map-append}
 use Rattle.tetri_cluster.specs.declared.cluster.NodeText.{NodeText}
 use Rattle.tetri_logs.specs.Reading.{jobs_in}
+use Rattle.tetri_logs.specs.declared.account.Account.{Account}
 use Rattle.tetri_logs.specs.declared.entry.Entry.{Entry}
 use Rattle.tetri_logs.specs.declared.entry.LoggedJob.{LoggedJob}
 use Rattle.tetri_logs.proofs.LogLaws.{jobs_in-append}
@@ -36,3 +37,14 @@ jobs_of-none nodes es none = ap (settled_all nodes) none ∙ settled-none nodes
 -- the jobs of some entries and of others
 pub jobs_of-append : (nodes : List NodeText) (xs ys : List Entry) → jobs_of nodes (xs ++ ys) ≡ jobs_of nodes xs ++ jobs_of nodes ys
 jobs_of-append nodes xs ys = ap (settled_all nodes) (jobs_in-append xs ys) ∙ settled-append nodes (jobs_in xs) (jobs_in ys)
+
+-- two jobs that agree in all that is said of them
+abbrev job_of : ℕ → List ℕ → Account → List ℕ → LoggedJob
+job_of line name account set = record { line = line; name = name; account = account; set = set }
+
+pub same_job : (a b : LoggedJob) → a.line ≡ b.line → a.account ≡ b.account → a.name ≡ b.name → a.set ≡ b.set → a ≡ b
+same_job a b line account name set =
+    ap (λ n. job_of n a.name a.account a.set) line
+    ∙ ap (λ c. job_of b.line a.name c a.set) account
+    ∙ ap (λ n. job_of b.line n b.account a.set) name
+    ∙ ap (λ t. job_of b.line b.name b.account t) set

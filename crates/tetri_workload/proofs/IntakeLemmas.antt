@@ -52,20 +52,20 @@ joined-more s o jobs more (inr bridge) = inr (bridge-more s jobs more bridge)
 placed-more : (s : Settings) (jobs more : List LoggedJob) (submit : ℕ) → HasPlaced s jobs submit → HasPlaced s (jobs ++ more) submit
 placed-more s jobs more submit has = (has.0, Contains-append_left jobs more has.0 has.1, has.2, has.3)
 
--- ---- a job that comes, and jobs that are put in order
-pub arrived : (s : Settings) (o : Options) (all rest : List LoggedJob) (i : Intake) (job : LoggedJob) → AreHandled s o all rest i → AreHandled s o (all ++ job ∷ []) (rest ++ job ∷ []) i
-arrived s o all rest i job given =
+-- ---- jobs that come, and jobs that are put in order
+pub arrived : (s : Settings) (o : Options) (all rest : List LoggedJob) (i : Intake) (more : List LoggedJob) → AreHandled s o all rest i → AreHandled s o (all ++ more) (rest ++ more) i
+arrived s o all rest i more given =
     let order = given.0 in
     let h = given.1 in (
       order,
       record {
-        moved = subst (IsMoveBy submit_of (all ++ job ∷ [])) (append_assoc order rest (job ∷ [])) (IsMoveBy-before submit_of (job ∷ []) all (order ++ rest) h.moved);
+        moved = subst (IsMoveBy submit_of (all ++ more)) (append_assoc order rest more) (IsMoveBy-before submit_of more all (order ++ rest) h.moved);
         tally = h.tally;
         turns = h.turns;
         begins = h.begins;
         early = h.early;
-        joined = λ is. joined-more s o all (job ∷ []) (h.joined is);
-        placed = IfSome_then i.placed h.placed (λ submit has. placed-more s all (job ∷ []) submit has);
+        joined = λ is. joined-more s o all more (h.joined is);
+        placed = IfSome_then i.placed h.placed (λ submit has. placed-more s all more submit has);
       },
     )
 
@@ -185,7 +185,7 @@ left-outside s o all held i j job outside wanted left last placed joined given =
     let more = all ++ job ∷ [] in
     let never : may_begin s job.account ≡ true → ⊥ = λ is. true≢false (sym is ∙ outside-begins s job.account outside) in
     let first : AreHandled s o more (job ∷ held) i =
-    put_in_order s o more (held ++ job ∷ []) (job ∷ held) i (IsMoveBy-sym submit_of (job ∷ held) (held ++ job ∷ []) (IsMoveBy-past submit_of job held (apart s job held outside wanted))) (arrived s o all held i job given) in
+    put_in_order s o more (held ++ job ∷ []) (job ∷ held) i (IsMoveBy-sym submit_of (job ∷ held) (held ++ job ∷ []) (IsMoveBy-past submit_of job held (apart s job held outside wanted))) (arrived s o all held i (job ∷ []) given) in
     let h = first.1 in
     left-step s o more held i j job first.0 Outside h (outside-placeless s job.account outside) left last placed (λ is. absurd (never is)) (λ is. sym joined ∙ is) (λ not is. absurd (never is))
     (λ is. h.joined (sym joined ∙ is))
@@ -284,4 +284,4 @@ pub comes-first : (s : Settings) (o : Options) (all rest : List LoggedJob) (i : 
 comes-first s o all rest i job apart given =
     put_in_order s o (all ++ job ∷ []) (rest ++ job ∷ []) (job ∷ rest) i
     (IsMoveBy-sym submit_of (job ∷ rest) (rest ++ job ∷ []) (IsMoveBy-past submit_of job rest apart))
-    (arrived s o all rest i job given)
+    (arrived s o all rest i (job ∷ []) given)

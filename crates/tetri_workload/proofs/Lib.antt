@@ -4,11 +4,14 @@ pub mod SameLemmas
 pub mod TakingLemmas
 pub mod FullLemmas
 pub mod EntryLemmas
+pub mod AccountLemmas
 pub mod InTurnLemmas
 pub mod BeginLemmas
 pub mod WaitingLemmas
+pub mod ListedLemmas
 pub mod IntakeLemmas
 pub mod ReadLemmas
 pub mod ImportLemmas
 pub mod DrawnLemmas
 pub mod MarkLemmas
+pub mod BitLemmas

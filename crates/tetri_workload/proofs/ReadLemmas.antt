@@ -1,10 +1,10 @@
 -- What is said by the lines so far, with one entry more.
-use Rattle.std.proofs.Common.{◌≡◌, ◌+◌, ◌∙◌, ◌++◌, ◌∷◌, [], List, ap, cond, false, map, refl, sym, subst, arith, append_assoc}
-use Rattle.std.specs.Prelude.{Option}
+use Rattle.std.proofs.Common.{◌≡◌, ◌+◌, ◌∙◌, ◌++◌, ◌∷◌, [], List, ap, ap₂, cond, false, map, refl, sym, subst, take, true, arith, append_assoc}
+use Rattle.std.specs.Prelude.{Option, nat_lt}
 use Rattle.std.proofs.lemmas.List.{append-nil}
 use Rattle.tetri_base.specs.Lists.{count}
 use Rattle.tetri_cluster.specs.declared.cluster.NodeText.{NodeText}
-use Rattle.tetri_logs.specs.Reading.{is_comment, left_in, no_facts, with_fact}
+use Rattle.tetri_logs.specs.Reading.{facts_in, is_comment, left_in, no_facts, with_fact}
 use Rattle.tetri_logs.specs.declared.comments.Fact.{Fact}
 use Rattle.tetri_logs.specs.declared.entry.Entry.{Entry}
 use Rattle.tetri_logs.specs.declared.entry.Entry.TheVariants.{Job, Comment, Left}
@@ -14,78 +14,152 @@ use Rattle.tetri_logs.specs.declared.options.Options.{Options}
 use Rattle.tetri_logs.specs.declared.options.Settings.{Settings}
 use Rattle.tetri_logs.proofs.LogLaws.{comments-append, facts_in-append, left_in-append}
 use Rattle.tetri_workload.specs.Kinds.{are_mixed, settled, settled_all}
+use Rattle.tetri_workload.specs.Listed.{jobs_before, jobs_from}
 use Rattle.tetri_workload.specs.Reading.{AreHandled, AreWanted, IsRead, IsReadOf, jobs_of}
-use Rattle.tetri_workload.specs.Waiting.{IsOrderly, all_waiting}
+use Rattle.tetri_workload.specs.Waiting.{HasSeconds}
 use Rattle.tetri_workload.specs.declared.reading.Reading.{Reading}
-use Rattle.tetri_workload.proofs.EntryLemmas.{jobs_of-append}
-
--- what is handled of the jobs of some entries is so of those with others that have none
-handled-none : (s : Settings) (o : Options) (nodes : List NodeText) (es more : List Entry) (r : Reading) → jobs_of nodes more ≡ []
-    → AreHandled s o (jobs_of nodes es) (all_waiting r.intake.waiting) r.intake → AreHandled s o (jobs_of nodes (es ++ more)) (all_waiting r.intake.waiting) r.intake
-handled-none s o nodes es more r none given =
-    subst (λ js. AreHandled s o js (all_waiting r.intake.waiting) r.intake) (sym (jobs_of-append nodes es more ∙ ap (λ js. jobs_of nodes es ++ js) none ∙ append-nil (jobs_of nodes es))) given
+use Rattle.tetri_workload.proofs.EntryLemmas.{jobs_of-append, submit_of}
+use Rattle.tetri_workload.proofs.ListedLemmas.{before-early, before-late, from-early, from-late}
 
 -- where nodes do not differ, a job stays as it is
 pub settled-alike : (nodes : List NodeText) (job : LoggedJob) → are_mixed nodes ≡ false → job ∷ [] ≡ settled_all nodes (job ∷ [])
 settled-alike nodes job alike = sym (ap (λ b. cond b (map (settled nodes) (job ∷ [])) (job ∷ [])) alike)
 
--- a job
-pub read-job : (s : Settings) (o : Options) (nodes : List NodeText) (es : List Entry) (q r : Reading) (job settled : LoggedJob) → IsRead s o nodes es q
-    → settled ∷ [] ≡ settled_all nodes (job ∷ [])
-    → r.left.items ≡ q.left.items
-    → r.facts ≡ q.facts
-    → r.comments ≡ q.comments
-    → AreWanted s (all_waiting r.intake.waiting)
-    → IsOrderly r.intake.waiting
-    → AreHandled s o (jobs_of nodes es ++ settled ∷ []) (all_waiting r.intake.waiting) r.intake
-    → IsRead s o nodes (es ++ Job job ∷ []) r
-read-job s o nodes es q r job settled given is left facts comments wanted orderly handled =
-    let zero : count is_comment (Job job ∷ []) ≡ 0 = refl in
+-- the early jobs stay as they are
+pub record IsKept (q r : Reading) : Type 0 where
+  pub early : r.early ≡ q.early
+  pub before : r.before ≡ q.before
+
+-- ---- entries without a job
+pub read-kept : (s : Settings) (o : Options) (nodes : List NodeText) (es more : List Entry) (q r : Reading) → IsRead s o nodes es q → jobs_of nodes more ≡ []
+    → r.intake ≡ q.intake
+    → IsKept q r
+    → r.met ≡ q.met
+    → r.left.items ≡ left_in (es ++ more)
+    → r.facts ≡ facts_in no_facts (es ++ more)
+    → r.comments ≡ count is_comment (es ++ more)
+    → IsRead s o nodes (es ++ more) r
+read-kept s o nodes es more q r given none intake kept met left facts comments =
+    let same : jobs_of nodes (es ++ more) ≡ jobs_of nodes es = jobs_of-append nodes es more ∙ ap (λ js. jobs_of nodes es ++ js) none ∙ append-nil (jobs_of nodes es) in
+    let all : r.early.items ++ jobs_from r.before (jobs_of nodes (es ++ more)) ≡ q.early.items ++ jobs_from q.before (jobs_of nodes es) =
+    ap₂ (λ e js. e.items ++ js) kept.early (ap₂ jobs_from kept.before same) in
     record {
-      left = left ∙ given.left ∙ sym (left_in-append es (Job job ∷ []) ∙ append-nil (left_in es));
-      facts = facts ∙ given.facts ∙ sym (facts_in-append no_facts es (Job job ∷ []));
-      comments = omega (arith, comments, given.comments, comments-append es (Job job ∷ []), zero);
-      wanted = wanted;
-      orderly = orderly;
-      handled = subst (λ js. AreHandled s o js (all_waiting r.intake.waiting) r.intake) (ap (λ js. jobs_of nodes es ++ js) is ∙ sym (jobs_of-append nodes es (Job job ∷ []))) handled;
+      left = left;
+      facts = facts;
+      comments = comments;
+      wanted = subst (λ i. AreWanted s i.waiting.held.items) (sym intake) given.wanted;
+      seconds = subst (λ i. HasSeconds i.waiting) (sym intake) given.seconds;
+      met = ap₂ jobs_before kept.before same ∙ given.met ∙ sym (ap₂ (λ n e. take n e.items) met kept.early);
+      handled = subst (λ js. AreHandled s o js r.intake.waiting.held.items r.intake) (sym all)
+          (subst (λ i. AreHandled s o (q.early.items ++ jobs_from q.before (jobs_of nodes es)) i.waiting.held.items i) (sym intake) given.handled);
     }
 
 -- a comment
 pub read-comment : (s : Settings) (o : Options) (nodes : List NodeText) (es : List Entry) (q r : Reading) (fact : Option Fact) → jobs_of nodes (Comment fact ∷ []) ≡ []
     → IsRead s o nodes es q
     → r.intake ≡ q.intake
+    → IsKept q r
+    → r.met ≡ q.met
     → r.left.items ≡ q.left.items
     → r.facts ≡ with_fact q.facts fact
     → r.comments ≡ q.comments + 1
     → IsRead s o nodes (es ++ Comment fact ∷ []) r
-read-comment s o nodes es q r fact none given intake left facts comments =
+read-comment s o nodes es q r fact none given intake kept met left facts comments =
     let one : count is_comment (Comment fact ∷ []) ≡ 1 = refl in
-    record {
-      left = left ∙ given.left ∙ sym (left_in-append es (Comment fact ∷ []) ∙ append-nil (left_in es));
-      facts = facts ∙ ap (λ f. with_fact f fact) given.facts ∙ sym (facts_in-append no_facts es (Comment fact ∷ []));
-      comments = omega (arith, comments, given.comments, comments-append es (Comment fact ∷ []), one);
-      wanted = subst (λ i. AreWanted s (all_waiting i.waiting)) (sym intake) given.wanted;
-      orderly = subst (λ i. IsOrderly i.waiting) (sym intake) given.orderly;
-      handled = handled-none s o nodes es (Comment fact ∷ []) r none (subst (λ i. AreHandled s o (jobs_of nodes es) (all_waiting i.waiting) i) (sym intake) given.handled);
-    }
+    read-kept s o nodes es (Comment fact ∷ []) q r given none intake kept met
+    (left ∙ given.left ∙ sym (left_in-append es (Comment fact ∷ []) ∙ append-nil (left_in es)))
+    (facts ∙ ap (λ f. with_fact f fact) given.facts ∙ sym (facts_in-append no_facts es (Comment fact ∷ [])))
+    (omega (arith, comments, given.comments, comments-append es (Comment fact ∷ []), one))
 
 -- a line, or a task, that brings no job
 pub read-left : (s : Settings) (o : Options) (nodes : List NodeText) (es : List Entry) (q r : Reading) (reject : Reject) → jobs_of nodes (Left reject ∷ []) ≡ []
     → IsRead s o nodes es q
     → r.intake ≡ q.intake
+    → IsKept q r
+    → r.met ≡ q.met
     → r.left.items ≡ q.left.items ++ reject ∷ []
     → r.facts ≡ q.facts
     → r.comments ≡ q.comments
     → IsRead s o nodes (es ++ Left reject ∷ []) r
-read-left s o nodes es q r reject none given intake left facts comments =
+read-left s o nodes es q r reject none given intake kept met left facts comments =
     let zero : count is_comment (Left reject ∷ []) ≡ 0 = refl in
+    read-kept s o nodes es (Left reject ∷ []) q r given none intake kept met
+    (left ∙ ap (λ rs. rs ++ reject ∷ []) given.left ∙ sym (left_in-append es (Left reject ∷ [])))
+    (facts ∙ given.facts ∙ sym (facts_in-append no_facts es (Left reject ∷ [])))
+    (omega (arith, comments, given.comments, comments-append es (Left reject ∷ []), zero))
+
+-- ---- a job
+-- what else a line with one says
+pub record IsPlain (q r : Reading) : Type 0 where
+  pub left : r.left.items ≡ q.left.items
+  pub facts : r.facts ≡ q.facts
+  pub comments : r.comments ≡ q.comments
+
+jobs-with : (nodes : List NodeText) (es : List Entry) (job settled : LoggedJob) → settled ∷ [] ≡ settled_all nodes (job ∷ []) → jobs_of nodes (es ++ Job job ∷ []) ≡ jobs_of nodes es ++ settled ∷ []
+jobs-with nodes es job settled is = jobs_of-append nodes es (Job job ∷ []) ∙ ap (λ js. jobs_of nodes es ++ js) (sym is)
+
+job-left : (es : List Entry) (job : LoggedJob) (q r : Reading) → q.left.items ≡ left_in es → IsPlain q r → r.left.items ≡ left_in (es ++ Job job ∷ [])
+job-left es job q r given plain = plain.left ∙ given ∙ sym (left_in-append es (Job job ∷ []) ∙ append-nil (left_in es))
+
+job-facts : (es : List Entry) (job : LoggedJob) (q r : Reading) → q.facts ≡ facts_in no_facts es → IsPlain q r → r.facts ≡ facts_in no_facts (es ++ Job job ∷ [])
+job-facts es job q r given plain = plain.facts ∙ given ∙ sym (facts_in-append no_facts es (Job job ∷ []))
+
+job-comments : (es : List Entry) (job : LoggedJob) (q r : Reading) → q.comments ≡ count is_comment es → IsPlain q r → r.comments ≡ count is_comment (es ++ Job job ∷ [])
+job-comments es job q r given plain =
+    let zero : count is_comment (Job job ∷ []) ≡ 0 = refl in
+    let same = plain.comments in
+    omega (arith, same, given, comments-append es (Job job ∷ []), zero)
+
+-- one that is none of the early ones
+pub read-job : (s : Settings) (o : Options) (nodes : List NodeText) (es : List Entry) (q r : Reading) (job settled : LoggedJob) → IsRead s o nodes es q
+    → settled ∷ [] ≡ settled_all nodes (job ∷ [])
+    → nat_lt (submit_of settled) q.before ≡ false
+    → IsPlain q r
+    → IsKept q r
+    → r.met ≡ q.met
+    → AreWanted s r.intake.waiting.held.items
+    → HasSeconds r.intake.waiting
+    → AreHandled s o ((q.early.items ++ jobs_from q.before (jobs_of nodes es)) ++ settled ∷ []) r.intake.waiting.held.items r.intake
+    → IsRead s o nodes (es ++ Job job ∷ []) r
+read-job s o nodes es q r job settled given is late plain kept met wanted seconds handled =
+    let jobs = jobs_of nodes es in
+    let more = jobs-with nodes es job settled is in
+    let all : r.early.items ++ jobs_from r.before (jobs_of nodes (es ++ Job job ∷ [])) ≡ (q.early.items ++ jobs_from q.before jobs) ++ settled ∷ [] =
+    ap₂ (λ e js. e.items ++ js) kept.early (ap₂ jobs_from kept.before more ∙ from-late q.before jobs settled late)
+    ∙ sym (append_assoc q.early.items (jobs_from q.before jobs) (settled ∷ [])) in
     record {
-      left = left ∙ ap (λ rs. rs ++ reject ∷ []) given.left ∙ sym (left_in-append es (Left reject ∷ []));
-      facts = facts ∙ given.facts ∙ sym (facts_in-append no_facts es (Left reject ∷ []));
-      comments = omega (arith, comments, given.comments, comments-append es (Left reject ∷ []), zero);
-      wanted = subst (λ i. AreWanted s (all_waiting i.waiting)) (sym intake) given.wanted;
-      orderly = subst (λ i. IsOrderly i.waiting) (sym intake) given.orderly;
-      handled = handled-none s o nodes es (Left reject ∷ []) r none (subst (λ i. AreHandled s o (jobs_of nodes es) (all_waiting i.waiting) i) (sym intake) given.handled);
+      left = job-left es job q r given.left plain;
+      facts = job-facts es job q r given.facts plain;
+      comments = job-comments es job q r given.comments plain;
+      wanted = wanted;
+      seconds = seconds;
+      met = ap₂ jobs_before kept.before more ∙ before-late q.before jobs settled late ∙ given.met ∙ sym (ap₂ (λ n e. take n e.items) met kept.early);
+      handled = subst (λ js. AreHandled s o js r.intake.waiting.held.items r.intake) (sym all) handled;
+    }
+
+-- the next one of the early ones
+pub read-met : (s : Settings) (o : Options) (nodes : List NodeText) (es : List Entry) (q r : Reading) (job settled : LoggedJob) → IsRead s o nodes es q
+    → settled ∷ [] ≡ settled_all nodes (job ∷ [])
+    → nat_lt (submit_of settled) q.before ≡ true
+    → IsPlain q r
+    → r.intake ≡ q.intake
+    → IsKept q r
+    → take r.met r.early.items ≡ take q.met q.early.items ++ settled ∷ []
+    → IsRead s o nodes (es ++ Job job ∷ []) r
+read-met s o nodes es q r job settled given is early plain intake kept met =
+    let jobs = jobs_of nodes es in
+    let more = jobs-with nodes es job settled is in
+    let all : r.early.items ++ jobs_from r.before (jobs_of nodes (es ++ Job job ∷ [])) ≡ q.early.items ++ jobs_from q.before jobs =
+    ap₂ (λ e js. e.items ++ js) kept.early (ap₂ jobs_from kept.before more ∙ from-early q.before jobs settled early) in
+    record {
+      left = job-left es job q r given.left plain;
+      facts = job-facts es job q r given.facts plain;
+      comments = job-comments es job q r given.comments plain;
+      wanted = subst (λ i. AreWanted s i.waiting.held.items) (sym intake) given.wanted;
+      seconds = subst (λ i. HasSeconds i.waiting) (sym intake) given.seconds;
+      met = ap₂ jobs_before kept.before more ∙ before-early q.before jobs settled early ∙ ap (λ js. js ++ settled ∷ []) given.met ∙ sym met;
+      handled = subst (λ js. AreHandled s o js r.intake.waiting.held.items r.intake) (sym all)
+          (subst (λ i. AreHandled s o (q.early.items ++ jobs_from q.before jobs) i.waiting.held.items i) (sym intake) given.handled);
     }
 
 -- the entries of some lists, one behind the other

@@ -1,5 +1,6 @@
 pub mod Kinds
 pub mod Known
+pub mod Listed
 pub mod Partitions
 pub mod Marks
 pub mod Waiting

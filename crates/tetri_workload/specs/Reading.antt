@@ -1,5 +1,5 @@
 -- What is taken of a log as its lines are read.
-use Rattle.std.specs.Prelude.{◌≡◌, ◌+◌, ◌*◌, ◌<◌, ◌≤◌, ◌⊎◌, ℕ, All, Bool, Contains, IfSome, List, [], ◌∷◌, ◌++◌, not, ◌&&◌, false, true, Option, None, Some, is_ok, is_some, if◌then◌else◌}
+use Rattle.std.specs.Prelude.{◌≡◌, take, ◌+◌, ◌*◌, ◌<◌, ◌≤◌, ◌⊎◌, ℕ, All, Bool, Contains, IfSome, List, [], ◌∷◌, ◌++◌, not, ◌&&◌, false, true, Option, None, Some, is_ok, is_some, if◌then◌else◌}
 use Rattle.tetri_cluster.specs.declared.cluster.NodeText.{NodeText}
 use Rattle.tetri_base.specs.Lists.{count}
 use Rattle.tetri_logs.specs.Origin.{is_in_run, may_begin}
@@ -12,9 +12,10 @@ use Rattle.tetri_logs.specs.declared.entry.LoggedJob.{LoggedJob}
 use Rattle.tetri_logs.specs.declared.options.Options.{Options}
 use Rattle.tetri_logs.specs.declared.options.Settings.{Settings}
 use Rattle.tetri_workload.specs.Kinds.{settled_all}
+use Rattle.tetri_workload.specs.Listed.{jobs_before, jobs_from}
 use Rattle.tetri_workload.specs.Ordering.{IsMoveBy}
 use Rattle.tetri_workload.specs.Taking.{Tally, is_full, nothing_taken, so_far, taken_all, with_logged}
-use Rattle.tetri_workload.specs.Waiting.{IsOrderly, all_waiting}
+use Rattle.tetri_workload.specs.Waiting.{HasSeconds}
 use Rattle.tetri_workload.specs.declared.intake.Intake.{Intake}
 use Rattle.tetri_workload.specs.declared.reading.Reading.{Reading}
 
@@ -104,14 +105,16 @@ pub record IsHandled (s : Settings) (o : Options) (all rest : List LoggedJob) (i
 abbrev pub AreHandled : Settings → Options → List LoggedJob → List LoggedJob → Intake → Type 0
 AreHandled s o all rest i = (order : List LoggedJob) × IsHandled s o all rest i order
 
--- what is said by lines with these entries, and what is taken of their jobs
+-- What is said by lines with these entries, and what is taken of their jobs, and of the early ones before their lines are read. Of those
+-- lines the early jobs are the first so many that are known.
 pub record IsRead (s : Settings) (o : Options) (nodes : List NodeText) (es : List Entry) (r : Reading) : Type 0 where
   pub left : r.left.items ≡ left_in es
   pub facts : r.facts ≡ facts_in no_facts es
   pub comments : r.comments ≡ count is_comment es
-  pub wanted : AreWanted s (all_waiting r.intake.waiting)
-  pub orderly : IsOrderly r.intake.waiting
-  pub handled : AreHandled s o (jobs_of nodes es) (all_waiting r.intake.waiting) r.intake
+  pub wanted : AreWanted s r.intake.waiting.held.items
+  pub seconds : HasSeconds r.intake.waiting
+  pub met : jobs_before r.before (jobs_of nodes es) ≡ take r.met r.early.items
+  pub handled : AreHandled s o (r.early.items ++ jobs_from r.before (jobs_of nodes es)) r.intake.waiting.held.items r.intake
 
 -- the same of the first lines of a log with these entries, where the others are not read yet
 abbrev pub IsReadOf : Settings → Options → List NodeText → List Entry → List Entry → Reading → Type 0

@@ -1,7 +1,7 @@
 // From a log to a trace.
 ghost use Rattle.std.specs.Prelude.{◌≡◌, ◌+◌, ◌<◌, ◌≤◌, ◌^◌, ◌++◌, All, Contains, IfErr, IfOk, IfSome, List, OnOk, Some, ℕ};
 ghost use Rattle.tetri_base.specs.Lists.{count};
-ghost use Rattle.tetri_logs.specs.Options.{AreGood};
+ghost use Rattle.tetri_logs.specs.Options.{AreGood, settings_of};
 ghost use Rattle.tetri_logs.specs.Entry.{entries_in};
 ghost use Rattle.tetri_logs.specs.Origin.{begun_with};
 ghost use Rattle.tetri_logs.specs.Reading.{AreTimedByLine, entries, is_comment, jobs_in};
@@ -15,7 +15,6 @@ ghost use Rattle.tetri_workload.specs.Kinds.{are_mixed, fitted};
 ghost use Rattle.tetri_workload.specs.Known.{AreKnown};
 ghost use Rattle.tetri_workload.specs.Saying.{IsAsked};
 ghost use Rattle.tetri_workload.specs.Taking.{so_far};
-ghost use Rattle.tetri_workload.specs.Waiting.{all_waiting};
 
 use crate::confirming::is_read_as;
 use crate::head::{Head, head_of};
@@ -23,16 +22,14 @@ use crate::intake::Halt;
 use crate::kinds::{Kinds, are_mixed, fitted};
 use crate::ordering::{by_line, by_slot, by_submission};
 use crate::reading::{FIRST_HELD, Reading};
-use crate::samples::later_from;
 use crate::taking::{Taken, take_all};
 use crate::text::trace_text;
-use crate::waiting::Waiting;
 use std::alloc::{AllocError, Global};
 use std::mem;
 use tetri_cluster::NodeText;
 use tetri_logs::{
-    Entries, Format, Log, LoggedJob, OptionFault, Options, Reject, Settings, Walk, begun,
-    begun_with, early_fault, gap_of, read_log, settings_of,
+    Early, Entries, Format, Log, LoggedJob, OptionFault, Options, Reject, Settings, Walk, begun,
+    begun_with, early_fault, early_jobs, gap_of, read_log, settings_of,
 };
 
 /// Why a log is not imported.
@@ -174,26 +171,90 @@ fn begun_by(draft: &Settings, jobs: &[LoggedJob<'_>]) -> Option<Settings>
     first
 }
 
-// The same of the jobs that wait: of those that are held back, or else of the others.
-fn begun_among(draft: &Settings, waiting: &Waiting<'_>) -> Option<Settings>
-    requires { AreGood draft.now }
-    ensures begun { IfSome result (λ s. (job : LoggedJob) × Contains (all_waiting waiting.now) job × (begun_with draft.now job.account ≡ Some s)) }
-    ensures good { IfSome result AreGood }
-    ensures small { IfSome result (λ s. s.origin < 2 ^ 33) }
+// What is drawn of a log by what was read of it.
+fn drawn_by(settings: Settings, read: Reading<'_>) -> Drawn
+    ensures settings { result.settings ≡ settings }
+    ensures taken { result.taken ≡ read.entry.intake.taken }
+    ensures left { result.left ≡ read.entry.left }
+    ensures comments { result.comments ≡ read.entry.comments }
 {
-    match begun_by(draft, &waiting.held) {
-        Some(settings) => Some(settings),
-        None => begun_by(draft, &waiting.later),
+    let intake = read.intake;
+    Drawn {
+        settings,
+        taken: intake.taken,
+        left: read.left,
+        comments: read.comments,
     }
 }
 
-// What is taken of a log whose jobs are taken as they come, but for those that come later, where its first lines and that of its first job are read.
+// What is taken of a log whose jobs are taken as they come, where its first lines and that of its first job are read.
 fn draw_in_turn<'a>(
     alloc: Global,
     kinds: &mut Kinds,
     options: &Options,
     nodes: &[NodeText],
-    later_from: u64,
+    draft: &Settings,
+    head: Log<'a>,
+    first: Entries<'a>,
+    walk: &mut Walk<'a>,
+) -> Result<Drawn, Halt>
+    requires draft { settings_of options.now head.facts ≡ Ok draft.now }
+    requires good { AreGood draft.now }
+    requires known { AreKnown nodes.now kinds.old }
+    requires few { head.comments + walk.old.bytes + 1 < 2 ^ 64 }
+    requires one { count is_comment (entries_in first) ≤ 1 }
+    ensures known { OnOk result (AreKnown nodes.now kinds.new) }
+    ensures drawn { IfOk result (λ drawn. (es : List Entry) → AreTimedByLine (jobs_in es) → IsHead es (entries_in first.entry ++ walk.old.entries) head.entry → IsDrawn es nodes.now options.now drawn) }
+{
+    let mut read = Reading::new(alloc, options, head)?;
+    read.add(alloc, kinds, draft, nodes, false, first)?;
+    let ended = read.add_lines(alloc, kinds, draft, nodes, false, FIRST_HELD, walk)?;
+    let Some(settings) = begun_by(draft, &read.intake.waiting.held) else {
+        return Err(Halt::OutOfTurn);
+    };
+    read.finish(alloc, kinds, &settings, nodes, walk, ended)?;
+    Ok(drawn_by(settings, read))
+}
+
+// The same where these jobs come first.
+fn draw_early<'a>(
+    alloc: Global,
+    kinds: &mut Kinds,
+    options: &Options,
+    nodes: &[NodeText],
+    draft: &Settings,
+    early: Early<'a>,
+    head: Log<'a>,
+    first: Entries<'a>,
+    walk: &mut Walk<'a>,
+) -> Result<Drawn, Halt>
+    requires draft { settings_of options.now head.facts ≡ Ok draft.now }
+    requires good { AreGood draft.now }
+    requires known { AreKnown nodes.now kinds.old }
+    requires few { head.comments + walk.old.bytes + 1 < 2 ^ 64 }
+    requires one { count is_comment (entries_in first) ≤ 1 }
+    ensures known { OnOk result (AreKnown nodes.now kinds.new) }
+    ensures drawn { IfOk result (λ drawn. (es : List Entry) → AreTimedByLine (jobs_in es) → IsHead es (entries_in first.entry ++ walk.old.entries) head.entry → IsDrawn es nodes.now options.now drawn) }
+{
+    let before = early.before;
+    let jobs = kinds.settle(alloc, nodes, early.jobs)?;
+    let Some(settings) = begun_by(draft, &jobs) else {
+        return Err(Halt::OutOfTurn);
+    };
+    let early = Early { jobs, before };
+    let mut read = Reading::with_early(alloc, options, &settings, early, head)?;
+    read.add(alloc, kinds, &settings, nodes, true, first)?;
+    read.finish(alloc, kinds, &settings, nodes, walk, false)?;
+    Ok(drawn_by(settings, read))
+}
+
+// The same, where it is guessed which jobs come first.
+fn draw_by_lines<'a>(
+    alloc: Global,
+    kinds: &mut Kinds,
+    options: &Options,
+    nodes: &[NodeText],
+    log: &'a [u8],
     head: Log<'a>,
     first: Entries<'a>,
     walk: &mut Walk<'a>,
@@ -207,20 +268,13 @@ fn draw_in_turn<'a>(
     let Ok(draft) = settings_of(options, head.facts) else {
         return Err(Halt::OutOfTurn);
     };
-    let mut read = Reading::new(alloc, options, later_from, head)?;
-    read.add(alloc, kinds, &draft, nodes, false, first)?;
-    let ended = read.add_lines(alloc, kinds, &draft, nodes, false, FIRST_HELD, walk)?;
-    let Some(settings) = begun_among(&draft, &read.intake.waiting) else {
-        return Err(Halt::OutOfTurn);
-    };
-    read.finish(alloc, kinds, &settings, nodes, walk, ended)?;
-    let intake = read.intake;
-    Ok(Drawn {
-        settings,
-        taken: intake.taken,
-        left: read.left,
-        comments: read.comments,
-    })
+    let early = early_jobs(alloc, &draft, walk, log)?;
+    if early.jobs.is_empty() {
+        return draw_in_turn(alloc, kinds, options, nodes, &draft, head, first, walk);
+    }
+    draw_early(
+        alloc, kinds, options, nodes, &draft, early, head, first, walk,
+    )
 }
 
 // What is taken of a log.
@@ -237,15 +291,12 @@ fn draw(
     ensures drawn { IfOk result (IsDrawn (entries (are_mixed nodes.now) format log.now) nodes.now options.now) }
     ensures refused { IfErr result (IsRefused (entries (are_mixed nodes.now) format log.now) nodes.now options.now) }
 {
-    let later_from = later_from(alloc, format, log)?;
     let mut walk = Walk::new(alloc, are_mixed(nodes), format, log);
     let Head { log: head, first } = head_of(alloc, &mut walk)?;
     let Some(first) = first else {
         return draw_listed(alloc, kinds, options, nodes, head);
     };
-    match draw_in_turn(
-        alloc, kinds, options, nodes, later_from, head, first, &mut walk,
-    ) {
+    match draw_by_lines(alloc, kinds, options, nodes, log, head, first, &mut walk) {
         Ok(drawn) => Ok(drawn),
         Err(Halt::NoMemory) => Err(ImportFault::NoMemory),
         Err(Halt::OutOfTurn) => {

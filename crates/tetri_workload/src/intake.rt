@@ -7,13 +7,15 @@ ghost use Rattle.tetri_logs.specs.Scale.{moment_of};
 ghost use Rattle.tetri_logs.specs.declared.entry.LoggedJob.{LoggedJob};
 ghost use Rattle.tetri_logs.specs.declared.options.Options.{Options};
 ghost use Rattle.tetri_logs.specs.declared.options.Settings.{Settings};
+ghost use Rattle.tetri_workload.specs.Listed.{jobs_at};
 ghost use Rattle.tetri_workload.specs.Reading.{AreHandled, AreWanted, IsJoinedBy, IsNear, IsTimely, MayLeave};
 ghost use Rattle.tetri_workload.specs.Taking.{HasMarks};
-ghost use Rattle.tetri_workload.specs.Waiting.{IsOrderly, all_waiting, jobs_at, jobs_from};
+ghost use Rattle.tetri_workload.specs.Waiting.{HasSeconds};
 
+use crate::listed::{Listed, listed_in_order};
 use crate::ordering::by_submission;
 use crate::taking::Taken;
-use crate::waiting::{Listed, NEVER, Waiting, end_of_part, part_of};
+use crate::waiting::Waiting;
 use std::alloc::{AllocError, Global};
 use std::mem;
 use tetri_logs::{
@@ -39,9 +41,6 @@ impl From<AllocError> for Halt {
         Halt::NoMemory
     }
 }
-
-// As many jobs, or about as many, are put in order of submission at first where they come later, and each time twice as many then.
-const FIRST_PART: usize = 131_072;
 
 /// What is taken of the jobs so far, and which wait.
 #[derive(Drop)]
@@ -91,20 +90,16 @@ fn is_near(settings: &Settings, placed: Option<u32>, account: Account) -> bool
 }
 
 impl<'a> Intake<'a> {
-    /// No jobs. Those come later that are submitted in this second of the log's clock or behind it.
-    pub(crate) fn new(
-        alloc: Global,
-        options: &Options,
-        later_from: u64,
-    ) -> Result<Intake<'a>, AllocError>
+    /// No jobs.
+    pub(crate) fn new(alloc: Global, options: &Options) -> Result<Intake<'a>, AllocError>
         ensures handled { IfOk result (λ i. (s : Settings) → AreHandled s options.now [] [] i) }
-        ensures none { IfOk result (λ i. all_waiting i.waiting ≡ []) }
-        ensures orderly { IfOk result (λ i. IsOrderly i.waiting) }
+        ensures none { IfOk result (λ i. i.waiting.held.items ≡ []) }
+        ensures seconds { IfOk result (λ i. HasSeconds i.waiting) }
         ensures marks { IfOk result (λ i. HasMarks i.taken) }
     {
         Ok(Intake {
             taken: Taken::new(alloc)?,
-            waiting: Waiting::new(alloc, later_from)?,
+            waiting: Waiting::new(alloc)?,
             last: 0,
             placed: None,
             joined: options.from.is_some(),
@@ -222,9 +217,9 @@ impl<'a> Intake<'a> {
     fn hold(&mut self, settings: &Settings, job: LoggedJob<'a>) -> Result<(), AllocError>
         requires marks { HasMarks self.old.taken }
         ensures marks { OnOk result (HasMarks self.new.taken) }
-        ensures wanted { OnOk result (IsOrderly self.old.waiting → AreWanted settings.now (all_waiting self.old.waiting) → AreWanted settings.now (all_waiting self.new.waiting)) }
-        ensures orderly { OnOk result (IsOrderly self.old.waiting → IsOrderly self.new.waiting) }
-        ensures handled { OnOk result ((x : ℕ) → (o : Options) → (all : List LoggedJob) → IsOrderly self.old.waiting → AreWanted settings.now (all_waiting self.old.waiting) → AreHandled (begun_at settings.now x) o all (all_waiting self.old.waiting) self.old → AreHandled (begun_at settings.now x) o (all ++ job.entry ∷ []) (all_waiting self.new.waiting) self.new) }
+        ensures wanted { OnOk result (AreWanted settings.now self.old.waiting.held.items → AreWanted settings.now self.new.waiting.held.items) }
+        ensures seconds { OnOk result (HasSeconds self.old.waiting → HasSeconds self.new.waiting) }
+        ensures handled { OnOk result ((x : ℕ) → (o : Options) → (all : List LoggedJob) → AreWanted settings.now self.old.waiting.held.items → AreHandled (begun_at settings.now x) o all self.old.waiting.held.items self.old → AreHandled (begun_at settings.now x) o (all ++ job.entry ∷ []) self.new.waiting.held.items self.new) }
     {
         if is_outside(settings, moment_of(settings, job.account)) {
             self.taken.leave(job.line, Cause::Outside)?;
@@ -234,8 +229,8 @@ impl<'a> Intake<'a> {
         Ok(())
     }
 
-    /// Whether a job that comes, where slot 0 is known, passes those that wait: it is handled behind a trace that is full where none is held back, and left
-    /// out where it has no place and by the marks none that waits was submitted in its second. Any other one is to wait.
+    /// Whether a job that comes, where slot 0 is known, passes those that wait: it is handled where none does and the trace is full, and left out where it has
+    /// no place and by the marks none that waits was submitted in its second. Any other one is to wait.
     #[inline(always)]
     pub(crate) fn passes(
         &mut self,
@@ -249,13 +244,10 @@ impl<'a> Intake<'a> {
         ensures marks { OnOk result (HasMarks self.new.taken) }
         ensures waiting { OnOk result (self.new.waiting ≡ self.old.waiting) }
         ensures stays { IfOk result (λ passed. passed ≡ false → self.new ≡ self.old) }
-        ensures handled { IfOk result (λ passed. passed ≡ true → (o : Options) → (all : List LoggedJob) → IsOrderly self.old.waiting → AreHandled settings.now o all (all_waiting self.old.waiting) self.old → AreHandled settings.now o (all ++ job.now ∷ []) (all_waiting self.new.waiting) self.new) }
+        ensures handled { IfOk result (λ passed. passed ≡ true → (o : Options) → (all : List LoggedJob) → HasSeconds self.old.waiting → AreHandled settings.now o all self.old.waiting.held.items self.old → AreHandled settings.now o (all ++ job.now ∷ []) self.new.waiting.held.items self.new) }
     {
         let submit = job.account.submit;
-        if self.waiting.held.is_empty()
-            && u64::from(submit) < self.waiting.later_from
-            && self.taken.is_full(settings)
-        {
+        if self.waiting.held.is_empty() && self.taken.is_full(settings) {
             self.handle(alloc, settings, job)?;
             return Ok(true);
         }
@@ -283,9 +275,9 @@ impl<'a> Intake<'a> {
         requires small { settings.now.origin < 2 ^ 33 }
         requires marks { HasMarks self.old.taken }
         ensures marks { OnOk result (HasMarks self.new.taken) }
-        ensures wanted { OnOk result (IsOrderly self.old.waiting → AreWanted settings.now (all_waiting self.old.waiting) → AreWanted settings.now (all_waiting self.new.waiting)) }
-        ensures orderly { OnOk result (IsOrderly self.old.waiting → IsOrderly self.new.waiting) }
-        ensures handled { OnOk result ((o : Options) → (all : List LoggedJob) → IsOrderly self.old.waiting → AreWanted settings.now (all_waiting self.old.waiting) → AreHandled settings.now o all (all_waiting self.old.waiting) self.old → AreHandled settings.now o (all ++ job.entry ∷ []) (all_waiting self.new.waiting) self.new) }
+        ensures wanted { OnOk result (AreWanted settings.now self.old.waiting.held.items → AreWanted settings.now self.new.waiting.held.items) }
+        ensures seconds { OnOk result (HasSeconds self.old.waiting → HasSeconds self.new.waiting) }
+        ensures handled { OnOk result ((o : Options) → (all : List LoggedJob) → HasSeconds self.old.waiting → AreWanted settings.now self.old.waiting.held.items → AreHandled settings.now o all self.old.waiting.held.items self.old → AreHandled settings.now o (all ++ job.entry ∷ []) self.new.waiting.held.items self.new) }
     {
         if !self.passes(alloc, settings, &job)? {
             self.hold(settings, job)?;
@@ -306,9 +298,9 @@ impl<'a> Intake<'a> {
         requires small { known ≡ true → settings.now.origin < 2 ^ 33 }
         requires marks { HasMarks self.old.taken }
         ensures marks { OnOk result (HasMarks self.new.taken) }
-        ensures wanted { OnOk result (IsOrderly self.old.waiting → AreWanted settings.now (all_waiting self.old.waiting) → AreWanted settings.now (all_waiting self.new.waiting)) }
-        ensures orderly { OnOk result (IsOrderly self.old.waiting → IsOrderly self.new.waiting) }
-        ensures handled { OnOk result ((x : ℕ) → (known ≡ true → x ≡ settings.now.origin) → (o : Options) → (all : List LoggedJob) → IsOrderly self.old.waiting → AreWanted settings.now (all_waiting self.old.waiting) → AreHandled (begun_at settings.now x) o all (all_waiting self.old.waiting) self.old → AreHandled (begun_at settings.now x) o (all ++ job.entry ∷ []) (all_waiting self.new.waiting) self.new) }
+        ensures wanted { OnOk result (AreWanted settings.now self.old.waiting.held.items → AreWanted settings.now self.new.waiting.held.items) }
+        ensures seconds { OnOk result (HasSeconds self.old.waiting → HasSeconds self.new.waiting) }
+        ensures handled { OnOk result ((x : ℕ) → (known ≡ true → x ≡ settings.now.origin) → (o : Options) → (all : List LoggedJob) → HasSeconds self.old.waiting → AreWanted settings.now self.old.waiting.held.items → AreHandled (begun_at settings.now x) o all self.old.waiting.held.items self.old → AreHandled (begun_at settings.now x) o (all ++ job.entry ∷ []) self.new.waiting.held.items self.new) }
     {
         if known {
             self.add_known(alloc, settings, job)?;
@@ -344,92 +336,39 @@ impl<'a> Intake<'a> {
         alloc: Global,
         settings: &Settings,
         jobs: &[LoggedJob<'_>],
-        part: &[Listed],
+        order: &[Listed],
     ) -> Result<(), Halt>
         requires good { AreGood settings.now }
         requires small { settings.now.origin < 2 ^ 33 }
         requires marks { HasMarks self.old.taken }
-        requires within { All (λ l. l.place < length jobs.now) part.now }
+        requires within { All (λ l. l.place < length jobs.now) order.now }
         ensures marks { OnOk result (HasMarks self.new.taken) }
         ensures waiting { OnOk result (self.new.waiting ≡ self.old.waiting) }
-        ensures handled { OnOk result ((o : Options) → (all rest : List LoggedJob) → AreHandled settings.now o all (jobs_at jobs.now part.now ++ rest) self.old → AreHandled settings.now o all rest self.new) }
+        ensures handled { OnOk result ((o : Options) → (all rest : List LoggedJob) → AreHandled settings.now o all (jobs_at jobs.now order.now ++ rest) self.old → AreHandled settings.now o all rest self.new) }
     {
-        for listed in part {
+        for listed in order {
             self.handle(alloc, settings, &jobs[listed.place])?;
         }
         Ok(())
     }
 
-    // Those of these jobs that were submitted in the first second or later and before the other, in order of submission, if they come in their turn.
-    fn handle_part(
+    /// These jobs, in order of submission, if they come in their turn.
+    pub(crate) fn handle_listed(
         &mut self,
         alloc: Global,
         settings: &Settings,
         jobs: &[LoggedJob<'_>],
-        first: u64,
-        end: u64,
-    ) -> Result<(), Halt>
-        requires good { AreGood settings.now }
-        requires small { settings.now.origin < 2 ^ 33 }
-        requires marks { HasMarks self.old.taken }
-        requires behind { first ≤ end }
-        ensures marks { OnOk result (HasMarks self.new.taken) }
-        ensures waiting { OnOk result (self.new.waiting ≡ self.old.waiting) }
-        ensures handled { OnOk result ((o : Options) → (all rest : List LoggedJob) → AreHandled settings.now o all (jobs_from first jobs.now ++ rest) self.old → AreHandled settings.now o all (jobs_from end jobs.now ++ rest) self.new) }
-    {
-        let part = part_of(alloc, jobs, first, end)?;
-        self.handle_each(alloc, settings, jobs, &part)?;
-        Ok(())
-    }
-
-    // Those of these jobs that were submitted in this second or later, if they come in their turn.
-    fn handle_from(
-        &mut self,
-        alloc: Global,
-        settings: &Settings,
-        jobs: &[LoggedJob<'_>],
-        first: u64,
     ) -> Result<(), Halt>
         requires good { AreGood settings.now }
         requires small { settings.now.origin < 2 ^ 33 }
         requires marks { HasMarks self.old.taken }
         ensures marks { OnOk result (HasMarks self.new.taken) }
         ensures waiting { OnOk result (self.new.waiting ≡ self.old.waiting) }
-        ensures handled { OnOk result ((o : Options) → (all rest : List LoggedJob) → AreHandled settings.now o all (jobs_from first jobs.now ++ rest) self.old → AreHandled settings.now o all rest self.new) }
+        ensures handled { OnOk result ((o : Options) → (all rest : List LoggedJob) → AreHandled settings.now o all (jobs.now ++ rest) self.old → AreHandled settings.now o all rest self.new) }
     {
-        for job in jobs {
-            if u64::from(job.account.submit) < first {
-                continue;
-            }
-            self.handle(alloc, settings, job)?;
-        }
+        let order = listed_in_order(alloc, jobs)?;
+        self.handle_each(alloc, settings, jobs, &order)?;
         Ok(())
-    }
-
-    // The earliest of these jobs, in order of submission, until the trace is full, if they come in their turn. The others were submitted in the second that
-    // is told or later.
-    fn handle_first(
-        &mut self,
-        alloc: Global,
-        settings: &Settings,
-        jobs: &[LoggedJob<'_>],
-    ) -> Result<u64, Halt>
-        requires good { AreGood settings.now }
-        requires small { settings.now.origin < 2 ^ 33 }
-        requires marks { HasMarks self.old.taken }
-        ensures marks { OnOk result (HasMarks self.new.taken) }
-        ensures waiting { OnOk result (self.new.waiting ≡ self.old.waiting) }
-        ensures handled { IfOk result (λ first. (o : Options) → (all rest : List LoggedJob) → AreHandled settings.now o all (jobs.now ++ rest) self.old → AreHandled settings.now o all (jobs_from first jobs.now ++ rest) self.new) }
-    {
-        let mut first = 0;
-        let mut wanted = FIRST_PART;
-        while first < NEVER && !self.taken.is_full(settings) {
-            let end = end_of_part(alloc, jobs, first, wanted)?;
-            self.handle_part(alloc, settings, jobs, first, end)?;
-            first = end;
-            wanted = wanted.saturating_mul(2);
-        }
-        Ok(first)
     }
 
     /// The jobs that are held back, in order of submission, until so many are left, if they come in their turn.
@@ -444,9 +383,9 @@ impl<'a> Intake<'a> {
         requires marks { HasMarks self.old.taken }
         ensures marks { OnOk result (HasMarks self.new.taken) }
         ensures few { OnOk result (length self.new.waiting.held.items ≤ left) }
-        ensures wanted { OnOk result (AreWanted settings.now (all_waiting self.old.waiting) → AreWanted settings.now (all_waiting self.new.waiting)) }
-        ensures orderly { OnOk result (IsOrderly self.old.waiting → IsOrderly self.new.waiting) }
-        ensures handled { OnOk result ((o : Options) → (all : List LoggedJob) → AreHandled settings.now o all (all_waiting self.old.waiting) self.old → AreHandled settings.now o all (all_waiting self.new.waiting) self.new) }
+        ensures wanted { OnOk result (AreWanted settings.now self.old.waiting.held.items → AreWanted settings.now self.new.waiting.held.items) }
+        ensures seconds { OnOk result (HasSeconds self.old.waiting → HasSeconds self.new.waiting) }
+        ensures handled { OnOk result ((o : Options) → (all : List LoggedJob) → AreHandled settings.now o all self.old.waiting.held.items self.old → AreHandled settings.now o all self.new.waiting.held.items self.new) }
     {
         if self.waiting.held.len() <= left {
             return Ok(());
@@ -457,24 +396,6 @@ impl<'a> Intake<'a> {
         self.handle_all(alloc, settings, &jobs[..many])?;
         drop_first(&mut jobs, many);
         self.waiting.hold(alloc, jobs)?;
-        Ok(())
-    }
-
-    /// All jobs that wait, if they come in their turn: in order of submission, but for those that come later where the trace is full.
-    pub(crate) fn release_all(&mut self, alloc: Global, settings: &Settings) -> Result<(), Halt>
-        requires good { AreGood settings.now }
-        requires small { settings.now.origin < 2 ^ 33 }
-        requires marks { HasMarks self.old.taken }
-        ensures marks { OnOk result (HasMarks self.new.taken) }
-        ensures none { OnOk result (all_waiting self.new.waiting ≡ []) }
-        ensures few { OnOk result (length self.new.waiting.held.items ≤ 0) }
-        ensures orderly { OnOk result (IsOrderly self.old.waiting → IsOrderly self.new.waiting) }
-        ensures handled { OnOk result ((o : Options) → (all : List LoggedJob) → AreHandled settings.now o all (all_waiting self.old.waiting) self.old → AreHandled settings.now o all [] self.new) }
-    {
-        self.release(alloc, settings, 0)?;
-        let jobs = mem::replace(&mut self.waiting.later, Vec::new(alloc));
-        let first = self.handle_first(alloc, settings, &jobs)?;
-        self.handle_from(alloc, settings, &jobs, first)?;
         Ok(())
     }
 }

@@ -91,7 +91,7 @@ fn members_of(alloc: Global, nodes: &[NodeText], set: &[u8]) -> Result<NodeSet, 
     members_with(alloc, nodes, &tags)
 }
 
-fn is_same(one: &[u8], other: &[u8]) -> bool
+pub(crate) fn is_same(one: &[u8], other: &[u8]) -> bool
     ensures { IsTrue result ↔ (one.now ≡ other.now) }
 {
     one == other

@@ -1,5 +1,5 @@
 // What the lines of a log say, as they are read.
-ghost use Rattle.std.specs.Prelude.{◌≡◌, ◌↔◌, ◌+◌, ◌<◌, ◌≤◌, ◌^◌, ◌++◌, ◌∷◌, [], IfOk, IsTrue, List, Ok, OnOk, Some, false, length, true, ℕ};
+ghost use Rattle.std.specs.Prelude.{◌≡◌, ◌↔◌, ◌+◌, ◌<◌, ◌≤◌, ◌^◌, ◌++◌, ◌∷◌, [], IfOk, IsTrue, List, Ok, OnOk, Some, false, length, take, true, ℕ};
 ghost use Rattle.tetri_base.specs.Lists.{count};
 ghost use Rattle.tetri_logs.specs.Entry.{entries_in};
 ghost use Rattle.tetri_logs.specs.Options.{AreGood};
@@ -14,13 +14,15 @@ ghost use Rattle.tetri_workload.specs.Head.{IsSaidBy};
 ghost use Rattle.tetri_workload.specs.Known.{AreKnown};
 ghost use Rattle.tetri_workload.specs.Reading.{IsRead, IsReadOf, behind};
 ghost use Rattle.tetri_workload.specs.Taking.{HasMarks};
-ghost use Rattle.tetri_workload.specs.Waiting.{all_waiting};
 
 use crate::intake::{Halt, Intake};
-use crate::kinds::{Kinds, are_mixed};
+use crate::kinds::{Kinds, are_mixed, is_same};
 use std::alloc::{AllocError, Global};
 use tetri_cluster::NodeText;
-use tetri_logs::{Entries, Entry, Facts, Log, Options, Reject, Settings, Walk, with_fact};
+use tetri_logs::{
+    Account, Early, Entries, Entry, Facts, Log, LoggedJob, Options, Reject, Settings, Walk,
+    with_fact,
+};
 
 // As many jobs are held back before slot 0 is known.
 pub(crate) const FIRST_HELD: usize = 32_768;
@@ -39,12 +41,39 @@ pub struct Reading<'a> {
     pub left: Vec<Reject>,
     pub facts: Facts,
     pub comments: usize,
+    /// Jobs that were handled before any line was read, in the order of the log.
+    pub early: Vec<LoggedJob<'a>>,
+    /// They are all jobs of the log that were submitted before this second of its clock.
+    pub before: u32,
+    /// How many of them stand on the lines so far.
+    pub met: usize,
 }
 
 fn are_same(one: Facts, other: Facts) -> bool
     ensures { IsTrue result ↔ (one ≡ other) }
 {
     one == other
+}
+
+fn is_same_account(one: Account, other: Account) -> bool
+    ensures { IsTrue result → (one ≡ other) }
+{
+    one == other
+}
+
+// Whether two jobs are the same.
+#[inline(always)]
+#[tactic(auto, using(crate::proofs::EntryLemmas::same_job))]
+fn is_same_job(one: &LoggedJob<'_>, other: &LoggedJob<'_>) -> bool
+    ensures { IsTrue result → (one.now ≡ other.now) }
+{
+    if one.line != other.line || !is_same_account(one.account, other.account) {
+        return false;
+    }
+    if !is_same(one.name.bytes(), other.name.bytes()) {
+        return false;
+    }
+    is_same(one.set.text().as_bytes(), other.set.text().as_bytes())
 }
 
 fn is_comment(entry: &Entry<'_>) -> bool
@@ -54,24 +83,76 @@ fn is_comment(entry: &Entry<'_>) -> bool
 }
 
 impl<'a> Reading<'a> {
-    /// What stands before the first job. Those jobs come later that are submitted in this second of the log's clock or behind it.
+    /// What stands before the first job.
     pub(crate) fn new(
         alloc: Global,
         options: &Options,
-        later_from: u64,
         head: Log<'a>,
     ) -> Result<Reading<'a>, AllocError>
         ensures read { IfOk result (λ r. (s : Settings) → (nodes : List NodeText) → (first : List Entry) → jobs_in first ≡ [] → IsSaidBy first head.entry → IsRead s options.now nodes first r) }
         ensures marks { IfOk result (λ r. HasMarks r.intake.taken) }
         ensures facts { IfOk result (λ r. r.facts ≡ head.entry.facts) }
         ensures comments { IfOk result (λ r. r.comments ≡ head.entry.comments) }
+        ensures early { IfOk result (λ r. r.early.items ≡ []) }
     {
         Ok(Reading {
-            intake: Intake::new(alloc, options, later_from)?,
+            intake: Intake::new(alloc, options)?,
             left: head.left,
             facts: head.facts,
             comments: head.comments,
+            early: Vec::new(alloc),
+            before: 0,
+            met: 0,
         })
+    }
+
+    /// The same, where these jobs are handled first.
+    pub(crate) fn with_early(
+        alloc: Global,
+        options: &Options,
+        settings: &Settings,
+        early: Early<'a>,
+        head: Log<'a>,
+    ) -> Result<Reading<'a>, Halt>
+        requires good { AreGood settings.now }
+        requires small { settings.now.origin < 2 ^ 33 }
+        ensures read { IfOk result (λ r. (nodes : List NodeText) → (first : List Entry) → jobs_in first ≡ [] → IsSaidBy first head.entry → IsRead settings.now options.now nodes first r) }
+        ensures marks { IfOk result (λ r. HasMarks r.intake.taken) }
+        ensures facts { IfOk result (λ r. r.facts ≡ head.entry.facts) }
+        ensures comments { IfOk result (λ r. r.comments ≡ head.entry.comments) }
+        ensures early { IfOk result (λ r. r.early.items ≡ early.entry.jobs.items) }
+    {
+        let mut intake = Intake::new(alloc, options)?;
+        intake.handle_listed(alloc, settings, &early.jobs)?;
+        Ok(Reading {
+            intake,
+            left: head.left,
+            facts: head.facts,
+            comments: head.comments,
+            early: early.jobs,
+            before: early.before,
+            met: 0,
+        })
+    }
+
+    // A job that was handled already, if it is the next one of these.
+    #[inline(always)]
+    fn meet(&mut self, job: &LoggedJob<'_>) -> Result<(), Halt>
+        ensures met { OnOk result (take self.new.met self.new.early.items ≡ take self.old.met self.old.early.items ++ job.now ∷ []) }
+        ensures early { self.new.early ≡ self.old.early }
+        ensures before { self.new.before ≡ self.old.before }
+        ensures left { self.new.left ≡ self.old.left }
+        ensures facts { self.new.facts ≡ self.old.facts }
+        ensures comments { self.new.comments ≡ self.old.comments }
+        ensures intake { self.new.intake ≡ self.old.intake }
+    {
+        match self.early.get(self.met) {
+            Some(next) if is_same_job(next, job) => {
+                self.met += 1;
+                Ok(())
+            }
+            _ => Err(Halt::OutOfTurn),
+        }
     }
 
     // A line, or a task, that brings no job.
@@ -80,6 +161,9 @@ impl<'a> Reading<'a> {
         ensures facts { self.new.facts ≡ self.old.facts }
         ensures comments { self.new.comments ≡ self.old.comments }
         ensures intake { self.new.intake ≡ self.old.intake }
+        ensures early { self.new.early ≡ self.old.early }
+        ensures before { self.new.before ≡ self.old.before }
+        ensures met { self.new.met ≡ self.old.met }
     {
         self.left.push(reject)?;
         Ok(())
@@ -104,12 +188,17 @@ impl<'a> Reading<'a> {
         ensures known { OnOk result (AreKnown nodes.now kinds.new) }
         ensures marks { OnOk result (HasMarks self.new.intake.taken) }
         ensures facts { OnOk result (self.new.facts ≡ self.old.facts) }
+        ensures early { OnOk result (self.new.early ≡ self.old.early) }
         ensures comments { OnOk result (self.new.comments ≡ self.old.comments + count is_comment (found.entry ∷ [])) }
         ensures read { OnOk result ((x : ℕ) → (known ≡ true → x ≡ settings.now.origin) → (o : Options) → (es : List Entry) → IsRead (begun_at settings.now x) o nodes.now es self.old → IsRead (begun_at settings.now x) o nodes.now (es ++ found.entry ∷ []) self.new) }
     {
         match found {
             Entry::Job(job) => {
                 let job = kinds.settle_one(alloc, nodes, job)?;
+                if job.account.submit < self.before {
+                    self.meet(&job)?;
+                    return Ok(());
+                }
                 self.intake.add(alloc, settings, known, job)?;
                 Ok(())
             }
@@ -145,6 +234,7 @@ impl<'a> Reading<'a> {
         ensures known { OnOk result (AreKnown nodes.now kinds.new) }
         ensures marks { OnOk result (HasMarks self.new.intake.taken) }
         ensures facts { OnOk result (self.new.facts ≡ self.old.facts) }
+        ensures early { OnOk result (self.new.early ≡ self.old.early) }
         ensures comments { OnOk result (self.new.comments ≡ self.old.comments + count is_comment tasks.entry.items) }
         ensures read { OnOk result ((x : ℕ) → (known ≡ true → x ≡ settings.now.origin) → (o : Options) → (es : List Entry) → IsRead (begun_at settings.now x) o nodes.now es self.old → IsRead (begun_at settings.now x) o nodes.now (es ++ tasks.entry.items) self.new) }
     {
@@ -176,6 +266,7 @@ impl<'a> Reading<'a> {
         ensures known { OnOk result (AreKnown nodes.now kinds.new) }
         ensures marks { OnOk result (HasMarks self.new.intake.taken) }
         ensures facts { OnOk result (self.new.facts ≡ self.old.facts) }
+        ensures early { OnOk result (self.new.early ≡ self.old.early) }
         ensures comments { OnOk result (self.new.comments ≡ self.old.comments + count is_comment (entries_in found.entry)) }
         ensures read { OnOk result ((x : ℕ) → (known ≡ true → x ≡ settings.now.origin) → (o : Options) → (es : List Entry) → IsRead (begun_at settings.now x) o nodes.now es self.old → IsRead (begun_at settings.now x) o nodes.now (es ++ entries_in found.entry) self.new) }
     {
@@ -188,7 +279,7 @@ impl<'a> Reading<'a> {
         Ok(())
     }
 
-    // Whether what was read is a job alone on its line that passes those that are held back, where slot 0 is known and nodes do not differ. It is
+    // Whether what was read is a job alone on its line that was handled already or passes those that wait, where slot 0 is known and nodes do not differ. It is
     // looked at where it stands.
     #[inline(always)]
     fn passes(
@@ -204,13 +295,18 @@ impl<'a> Reading<'a> {
         requires marks { HasMarks self.old.intake.taken }
         ensures marks { OnOk result (HasMarks self.new.intake.taken) }
         ensures facts { OnOk result (self.new.facts ≡ self.old.facts) }
+        ensures early { OnOk result (self.new.early ≡ self.old.early) }
         ensures comments { OnOk result (self.new.comments ≡ self.old.comments) }
-        ensures held { OnOk result (self.new.intake.waiting ≡ self.old.intake.waiting) }
+        ensures waiting { OnOk result (self.new.intake.waiting ≡ self.old.intake.waiting) }
         ensures stays { IfOk result (λ passed. passed ≡ false → self.new ≡ self.old) }
         ensures read { IfOk result (λ passed. passed ≡ true → (found : Entries) × (read.now ≡ Ok (Some found)) × ((x : ℕ) → (known ≡ true → x ≡ settings.now.origin) → (o : Options) → (es : List Entry) → IsRead (begun_at settings.now x) o nodes.now es self.old → IsRead (begun_at settings.now x) o nodes.now (es ++ entries_in found) self.new)) }
     {
         match read {
             Ok(Some(Entries::One(Entry::Job(job)))) if known && !are_mixed(nodes) => {
+                if job.account.submit < self.before {
+                    self.meet(job)?;
+                    return Ok(true);
+                }
                 let passed = self.intake.passes(alloc, settings, job)?;
                 Ok(passed)
             }
@@ -237,6 +333,7 @@ impl<'a> Reading<'a> {
         ensures known { OnOk result (AreKnown nodes.now kinds.new) }
         ensures marks { OnOk result (HasMarks self.new.intake.taken) }
         ensures facts { OnOk result (self.new.facts ≡ self.old.facts) }
+        ensures early { OnOk result (self.new.early ≡ self.old.early) }
         ensures few { IfOk result (λ ended. ended ≡ false → self.new.comments + walk.new.bytes ≤ self.old.comments + walk.old.bytes) }
         ensures shorter { IfOk result (λ ended. ended ≡ false → length self.old.intake.waiting.held.items < most → walk.new.bytes < walk.old.bytes) }
         ensures read { IfOk result (λ ended. (x : ℕ) → (known ≡ true → x ≡ settings.now.origin) → (o : Options) → (es : List Entry) → IsReadOf (begun_at settings.now x) o nodes.now es walk.old.entries self.old → IsReadOf (begun_at settings.now x) o nodes.now es (behind ended walk.new.entries) self.new) }
@@ -262,26 +359,11 @@ impl<'a> Reading<'a> {
         ensures marks { OnOk result (HasMarks self.new.intake.taken) }
         ensures few { OnOk result (length self.new.intake.waiting.held.items ≤ left) }
         ensures facts { OnOk result (self.new.facts ≡ self.old.facts) }
+        ensures early { OnOk result (self.new.early ≡ self.old.early) }
         ensures comments { OnOk result (self.new.comments ≡ self.old.comments) }
         ensures read { OnOk result ((o : Options) → (nodes : List NodeText) → (es : List Entry) → IsRead settings.now o nodes es self.old → IsRead settings.now o nodes es self.new) }
     {
         self.intake.release(alloc, settings, left)?;
-        Ok(())
-    }
-
-    // All jobs that wait, if they come in their turn.
-    fn release_all(&mut self, alloc: Global, settings: &Settings) -> Result<(), Halt>
-        requires good { AreGood settings.now }
-        requires small { settings.now.origin < 2 ^ 33 }
-        requires marks { HasMarks self.old.intake.taken }
-        ensures marks { OnOk result (HasMarks self.new.intake.taken) }
-        ensures none { OnOk result (all_waiting self.new.intake.waiting ≡ []) }
-        ensures few { OnOk result (length self.new.intake.waiting.held.items ≤ 0) }
-        ensures facts { OnOk result (self.new.facts ≡ self.old.facts) }
-        ensures comments { OnOk result (self.new.comments ≡ self.old.comments) }
-        ensures read { OnOk result ((o : Options) → (nodes : List NodeText) → (es : List Entry) → IsRead settings.now o nodes es self.old → IsRead settings.now o nodes es self.new) }
-    {
-        self.intake.release_all(alloc, settings)?;
         Ok(())
     }
 
@@ -293,18 +375,20 @@ impl<'a> Reading<'a> {
         ensures marks { OnOk result (HasMarks self.new.intake.taken) }
         ensures few { OnOk result (length self.new.intake.waiting.held.items ≤ 65536) }
         ensures facts { OnOk result (self.new.facts ≡ self.old.facts) }
+        ensures early { OnOk result (self.new.early ≡ self.old.early) }
         ensures comments { OnOk result (self.new.comments ≡ self.old.comments) }
         ensures read { OnOk result ((o : Options) → (nodes : List NodeText) → (es : List Entry) → IsRead settings.now o nodes es self.old → IsRead settings.now o nodes es self.new) }
     {
         self.release(alloc, settings, STILL_HELD)?;
         if self.intake.taken.is_full(settings) {
-            self.release_all(alloc, settings)?;
+            self.release(alloc, settings, 0)?;
             return Ok(());
         }
         Ok(())
     }
 
-    /// What the other lines say, if there are some, and what is taken of all jobs, none of which waits then. Jobs are held back until the trace is full.
+    /// What the other lines say, if there are some, and what is taken of all jobs, none of which waits then. Jobs are held back until the trace is full. All that were
+    /// handled before stand on these lines.
     pub(crate) fn finish(
         &mut self,
         alloc: Global,
@@ -321,15 +405,20 @@ impl<'a> Reading<'a> {
         requires few { ended ≡ false → self.old.comments + walk.old.bytes < 2 ^ 64 }
         ensures known { OnOk result (AreKnown nodes.now kinds.new) }
         ensures read { OnOk result ((o : Options) → (es : List Entry) → IsReadOf settings.now o nodes.now es (behind ended walk.old.entries) self.old → IsRead settings.now o nodes.now es self.new) }
-        ensures none { OnOk result (all_waiting self.new.intake.waiting ≡ []) }
+        ensures none { OnOk result (self.new.intake.waiting.held.items ≡ []) }
         ensures facts { OnOk result (self.new.facts ≡ self.old.facts) }
+        ensures early { OnOk result (self.new.early ≡ self.old.early) }
+        ensures met { OnOk result (length self.new.early.items ≤ self.new.met) }
     {
         let mut done = ended;
         while !done {
             self.release_most(alloc, settings)?;
             done = self.add_lines(alloc, kinds, settings, nodes, true, MOST_HELD, walk)?;
         }
-        self.release_all(alloc, settings)?;
+        self.release(alloc, settings, 0)?;
+        if self.met < self.early.len() {
+            return Err(Halt::OutOfTurn);
+        }
         Ok(())
     }
 }

@@ -3,7 +3,7 @@ use Rattle.tetri_logs.specs.declared.entry.LoggedJob.{LoggedJob}
 use Rattle.tetri_logs.specs.declared.options.Options.{Options}
 use Rattle.tetri_workload.specs.Reading.{AreHandled}
 use Rattle.tetri_workload.specs.Taking.{HasMarks}
-use Rattle.tetri_workload.specs.Waiting.{jobs_at}
+use Rattle.tetri_workload.specs.Listed.{jobs_at}
 use Rattle.tetri_workload.proofs.intake.Intake.handle_each.Given as goal
 
 abbrev pub invariant-loop-listed : goal.invariant-loop-listed
@@ -12,5 +12,5 @@ invariant-loop-listed l =
     record {
       marks : HasMarks l.self.taken;
       waiting : l.self.waiting ≡ first.waiting;
-      handled : (o : Options) → (all rest : List LoggedJob) → AreHandled l.settings o all (jobs_at l.jobs (take l.listed-index l.part) ++ rest) first → AreHandled l.settings o all rest l.self;
+      handled : (o : Options) → (all rest : List LoggedJob) → AreHandled l.settings o all (jobs_at l.jobs (take l.listed-index l.order) ++ rest) first → AreHandled l.settings o all rest l.self;
     }

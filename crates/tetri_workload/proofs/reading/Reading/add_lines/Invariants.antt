@@ -15,6 +15,7 @@ invariant-loop-alloc l =
       known : AreKnown l.nodes l.kinds;
       marks : HasMarks l.self.intake.taken;
       facts : l.self.facts ≡ first.facts;
+      early : l.self.early ≡ first.early;
       few : l.self.comments + l.walk.bytes ≤ first.comments + lines.bytes;
       within : l.walk.bytes ≤ lines.bytes;
       shorter : l.most ≤ length l.self.intake.waiting.held.items → length first.intake.waiting.held.items < l.most → l.walk.bytes < lines.bytes;

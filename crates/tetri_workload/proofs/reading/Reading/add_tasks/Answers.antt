@@ -22,6 +22,7 @@ loop-entry-preserved c =
       known = added.known;
       marks = added.marks;
       facts = added.facts ∙ inv.facts;
+      early = added.early ∙ inv.early;
       comments = omega (arith, added.comments, inv.comments, no_comment);
       jobs = omega (arith, inv.jobs, no_comment, comments-append done one);
       read = λ x at o es given. read-assoc (begun_at c.args.settings.now x) o nodes es done one c.add_entry.new.self (added.read x at o (es ++ done) (inv.read x at o es given));

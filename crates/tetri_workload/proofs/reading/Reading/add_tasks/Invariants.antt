@@ -16,6 +16,7 @@ invariant-loop-entry l =
       known : AreKnown l.nodes l.kinds;
       marks : HasMarks l.self.intake.taken;
       facts : l.self.facts ≡ first.facts;
+      early : l.self.early ≡ first.early;
       comments : l.self.comments ≡ first.comments;
       jobs : count is_comment l.yielded ≡ 0;
       read : (x : ℕ) → (l.known ≡ true → x ≡ l.settings.origin) → (o : Options) → (es : List Entry)

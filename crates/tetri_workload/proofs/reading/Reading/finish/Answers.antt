@@ -15,6 +15,7 @@ loop-done-preserved c =
       known = added.known;
       marks = added.marks;
       facts = added.facts ∙ released.facts ∙ inv.facts;
+      early = added.early ∙ released.early ∙ inv.early;
       few = λ more. omega (arith, added.few more, released.comments, inv.few more_lines);
       read = λ o es given.
           let read = inv.read o es given in
@@ -29,4 +30,4 @@ returns-clause-read c = λ o es given.
     let ended : c.loop-done.done ≡ true = search (rules, c.loop-done-test.false) in
     let read = c.loop-done.invariant.read o es given in
     let all : read.0 ≡ es = sym (append-nil read.0) ∙ ap (λ b. read.0 ++ behind b c.loop-done.walk.entries) (sym ended) ∙ read.1 in
-    subst (λ xs. IsRead s o nodes xs c.release_all.new.self) all (c.in_ok-release_all.ensures.read o nodes read.0 read.2)
+    subst (λ xs. IsRead s o nodes xs c.release.new.self) all (c.in_ok-release.ensures.read o nodes read.0 read.2)

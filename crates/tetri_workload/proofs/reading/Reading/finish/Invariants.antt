@@ -11,6 +11,7 @@ invariant-loop-done l = record {
   known : AreKnown l.nodes l.kinds;
   marks : HasMarks l.self.intake.taken;
   facts : l.self.facts ≡ l.fn.self.facts;
+  early : l.self.early ≡ l.fn.self.early;
   few : l.done ≡ false → l.self.comments + l.walk.bytes < 2 ^ 64;
   read : (o : Options) → (es : List Entry) → IsReadOf l.settings o l.nodes es (behind l.fn.ended l.fn.walk.entries) l.fn.self → IsReadOf l.settings o l.nodes es (behind l.done l.walk.entries) l.self;
 }

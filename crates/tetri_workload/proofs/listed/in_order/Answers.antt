@@ -1,6 +1,6 @@
 use Rattle.std.proofs.Common.{rules}
 use Rattle.std.proofs.lemmas.List.Sorted.{answers_always}
-use Rattle.tetri_workload.proofs.waiting.in_order.Goals as goal
+use Rattle.tetri_workload.proofs.listed.in_order.Goals as goal
 
 pub returns : goal.returns
 returns c = record {
