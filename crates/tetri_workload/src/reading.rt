@@ -1,5 +1,5 @@
 // What the lines of a log say, as they are read.
-ghost use Rattle.std.specs.Prelude.{◌≡◌, ◌↔◌, ◌+◌, ◌<◌, ◌≤◌, ◌^◌, ◌++◌, ◌∷◌, [], IfOk, IsTrue, List, Ok, OnOk, Some, false, length, take, true, ℕ};
+ghost use Rattle.std.specs.Prelude.{◌≡◌, ◌↔◌, ◌+◌, ◌<◌, ◌≤◌, ◌^◌, ◌++◌, ◌∷◌, [], IfOk, IsTrue, List, Ok, OnErr, OnOk, Some, false, length, slice_get, take, true, ℕ};
 ghost use Rattle.tetri_base.specs.Lists.{count};
 ghost use Rattle.tetri_logs.specs.Entry.{entries_in};
 ghost use Rattle.tetri_logs.specs.Options.{AreGood};
@@ -56,7 +56,7 @@ fn are_same(one: Facts, other: Facts) -> bool
 }
 
 fn is_same_account(one: Account, other: Account) -> bool
-    ensures { IsTrue result → (one ≡ other) }
+    ensures { IsTrue result ↔ (one ≡ other) }
 {
     one == other
 }
@@ -65,7 +65,7 @@ fn is_same_account(one: Account, other: Account) -> bool
 #[inline(always)]
 #[tactic(auto, using(crate::proofs::EntryLemmas::same_job))]
 fn is_same_job(one: &LoggedJob<'_>, other: &LoggedJob<'_>) -> bool
-    ensures { IsTrue result → (one.now ≡ other.now) }
+    ensures { IsTrue result ↔ (one.now ≡ other.now) }
 {
     if one.line != other.line || !is_same_account(one.account, other.account) {
         return false;
@@ -139,6 +139,7 @@ impl<'a> Reading<'a> {
     #[inline(always)]
     fn meet(&mut self, job: &LoggedJob<'_>) -> Result<(), Halt>
         ensures met { OnOk result (take self.new.met self.new.early.items ≡ take self.old.met self.old.early.items ++ job.now ∷ []) }
+        ensures refused { OnErr result (slice_get self.old.early.items self.old.met ≡ Some job.now → ⊥) }
         ensures early { self.new.early ≡ self.old.early }
         ensures before { self.new.before ≡ self.old.before }
         ensures left { self.new.left ≡ self.old.left }
