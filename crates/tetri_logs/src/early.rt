@@ -8,7 +8,7 @@ use crate::layout::Layout;
 use crate::lines::next_line;
 use crate::options::Settings;
 use crate::origin::begun_with;
-use crate::placing::place;
+use crate::placing::has_place;
 use crate::scan::next_place;
 use crate::walk::Walk;
 use crate::words::{count_in, is_separator};
@@ -249,7 +249,7 @@ fn bounding<'a>(settings: &Settings, samples: &Samples<'a>, length: usize) -> Op
     let mut placed = 0u64;
     let mut last = None;
     for sample in &samples.jobs {
-        if place(settings, &sample.account).is_ok() {
+        if has_place(settings, &sample.account) {
             last = Some(*sample);
             if wanted < placed {
                 return last;

@@ -37,7 +37,7 @@ pub use layout::{Layout, first_layout};
 pub use lines::{log_lines, next_line};
 pub use options::{OptionFault, Options, Settings, Worth, early_fault, settings_of};
 pub use origin::{begun, begun_with, gap_of, is_in_run, may_begin};
-pub use placing::{Placing, is_outside, place};
+pub use placing::{Placing, has_place, is_outside, place};
 pub use reading::{Facts, Log, read_log, with_fact};
 pub use scale::moment_of;
 pub use set_text::SetText;

@@ -6,7 +6,7 @@ ghost use Rattle.tetri_logs.specs.Origin.{begun, begun_at, begun_with, first_sec
 use crate::account::Account;
 use crate::entry::LoggedJob;
 use crate::options::{Options, Settings};
-use crate::placing::place;
+use crate::placing::has_place;
 use crate::scale::moment_of;
 
 // With slot 0 at this second.
@@ -27,7 +27,7 @@ pub fn may_begin(settings: &Settings, account: Account) -> bool
     ensures { result ≡ may_begin settings.now account }
 {
     let begun = begun_at(settings, moment_of(settings, account));
-    place(&begun, &account).is_ok()
+    has_place(&begun, &account)
 }
 
 /// With slot 0 at the submission of a job, if it may begin.

@@ -1,7 +1,8 @@
 // The place of a job in a trace.
-ghost use Rattle.std.specs.Prelude.{◌≡◌, ◌≤◌, ◌<◌, ◌^◌, IfOk, IfSome};
+ghost use Rattle.std.specs.Prelude.{◌≡◌, ◌≤◌, ◌<◌, ◌^◌, true, IfOk, IfSome, is_ok, nat_le};
 ghost use Rattle.tetri_logs.specs.Options.{AreGood};
 ghost use Rattle.tetri_logs.specs.Placing.{IsPlaced, arrival_of, ask_of, cancel_of, is_outside, late_of, place, within_run, within_slots};
+ghost use Rattle.tetri_logs.specs.Scale.{nodes_of, room_of, slot_of, slots_of};
 
 use crate::account::Account;
 use crate::entry::Cause;
@@ -159,4 +160,69 @@ fn within_slots(slots: u64) -> Result<u32, Cause>
     } else {
         Err(Cause::Beyond)
     }
+}
+
+// Whether a job asks for no more nodes than it may have.
+#[tactic(auto, using(crate::proofs::PlaceLaws::filled_most))]
+fn fits(settings: &Settings, account: &Account) -> bool
+    requires { AreGood settings.now }
+    ensures { result ≡ nat_le (nodes_of settings.now account.now) (room_of settings.now account.now) }
+{
+    let room = room_of(settings, *account);
+    match account.nodes {
+        Some(nodes) => u64::from(nodes) <= room,
+        None => {
+            u64::from(account.processors.unwrap_or(0)) <= room * u64::from(settings.processors)
+        }
+    }
+}
+
+// Whether so many seconds take no more slots than a run has.
+#[tactic(auto, using(crate::proofs::PlaceLaws::slots_most))]
+fn is_short(settings: &Settings, seconds: u32) -> bool
+    requires { AreGood settings.now }
+    ensures { result ≡ nat_le (slots_of settings.now seconds) 10000 }
+{
+    u64::from(seconds) <= RUN * u64::from(settings.slot)
+}
+
+// Whether the slot of a second is one of a run.
+#[tactic(auto, using(crate::proofs::PlaceLaws::run_most))]
+fn is_early(settings: &Settings, moment: u64) -> bool
+    requires { AreGood settings.now }
+    ensures { result ≡ is_ok (within_run (slot_of settings.now moment)) }
+{
+    moment.saturating_sub(settings.origin) < RUN * u64::from(settings.slot)
+}
+
+// Whether a job surely has a place. It needs no division, and does not see each job that has one.
+fn has_usual_place(settings: &Settings, account: &Account) -> bool
+    requires { AreGood settings.now }
+    ensures { result ≡ true → is_ok (place settings.now account.now) ≡ true }
+{
+    let moment = moment_of(settings, *account);
+    if is_outside(settings, moment) || moment < settings.origin {
+        return false;
+    }
+    let room = room_of(settings, *account);
+    if room == 0 || !fits(settings, account) {
+        return false;
+    }
+    let part_node = is_part_node(settings, *account);
+    if settings.whole_nodes_only && part_node {
+        return false;
+    }
+    let end = moment + u64::from(account.waited.unwrap_or(0));
+    is_early(settings, end)
+        && is_short(settings, account.limit)
+        && is_short(settings, account.ran.unwrap_or(0))
+        && room * RUN * u64::from(settings.unit) <= PEAK
+}
+
+/// Whether a job has a place in a trace.
+pub fn has_place(settings: &Settings, account: &Account) -> bool
+    requires { AreGood settings.now }
+    ensures { result ≡ is_ok (place settings.now account.now) }
+{
+    has_usual_place(settings, account) || place(settings, account).is_ok()
 }
