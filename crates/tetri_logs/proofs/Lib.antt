@@ -4,6 +4,7 @@ pub mod PlaceLaws
 mod ReadingLemmas
 mod CommentLemmas
 mod EarlyLemmas
+mod AheadLemmas
 mod WordLemmas
 mod HeaderLemmas
 mod LineLemmas

@@ -102,6 +102,10 @@ line-timed mixed (Table h) line text =
     (either-all line (submit_in account) (is_header row) _ _ (header-timed line (submit_in account) row (header_in row), tt)
     (rows-timed mixed h line row account (ids_if account (cell row h.id))))
 
+-- a job that stands alone on a line has its number
+pub job_line : (mixed : Bool) (layout : Layout) (line : ℕ) (text : List ℕ) (job : LoggedJob) → line_entries mixed layout line text ≡ Job job ∷ [] → job.line ≡ line
+job_line mixed layout line text job e = (subst (AreTimed line (submit_at layout text)) e (line-timed mixed layout line text)).0.0
+
 -- and so have its jobs
 jobs-timed : (line submit : ℕ) (es : List Entry) → AreTimed line submit es → All (IsTimed line submit) (jobs_in es)
 jobs-timed line submit [] timed = All-nil (IsTimed line submit)

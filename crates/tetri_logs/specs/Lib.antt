@@ -17,6 +17,7 @@ pub mod JobName
 pub mod Entry
 pub mod Reading
 pub mod Walk
+pub mod Ahead
 pub mod Options
 pub mod Scale
 pub mod Placing

@@ -1,15 +1,21 @@
 // Which jobs of a log were submitted first, by a look at some of its places and then at each line. It is a guess: no clause says which.
-ghost use Rattle.std.specs.Prelude.{◌+◌, ◌≤◌, IfSome, length};
+ghost use Rattle.std.specs.Prelude.{◌≡◌, ◌+◌, ◌≤◌, ◌∷◌, [], IfOk, IfSome, OnOk, length};
+ghost use Rattle.tetri_logs.specs.Ahead.{AreAhead, AreAllAhead, IsTextOf};
+ghost use Rattle.tetri_logs.specs.Entry.{entries_in};
 ghost use Rattle.tetri_logs.specs.Options.{AreGood};
+ghost use Rattle.tetri_logs.specs.declared.entry.Entry.TheVariants.{Job};
+ghost use Rattle.tetri_logs.specs.declared.entry.LoggedJob.{LoggedJob};
 
 use crate::account::Account;
-use crate::entry::{Entries, Entry, LoggedJob};
+use crate::ahead::Ahead;
+use crate::entry::{Entries, Entry, LoggedJob, line_entries};
 use crate::layout::Layout;
 use crate::lines::next_line;
 use crate::options::Settings;
 use crate::origin::begun_with;
 use crate::placing::has_place;
 use crate::scan::next_place;
+use crate::seats::Seats;
 use crate::walk::Walk;
 use crate::words::{count_in, is_separator};
 use std::alloc::{AllocError, Global};
@@ -19,6 +25,8 @@ use std::alloc::{AllocError, Global};
 pub struct Early<'a> {
     pub jobs: Vec<LoggedJob<'a>>,
     pub before: u32,
+    /// Their lines.
+    pub ahead: Ahead<'a>,
 }
 
 // In so many places a log is looked at.
@@ -51,9 +59,9 @@ struct Samples<'a> {
     earliest: Vec<u32>,
 }
 
-/// A second of submission, and the minute in which it lies as a line says it.
+// A second of submission, and the minute in which it lies as a line says it.
 #[derive(Clone, Copy)]
-pub(crate) struct Bound {
+struct Bound {
     second: u32,
     // Eight bytes each, as `2024-05-` and `01T12:34`.
     month: u64,
@@ -111,9 +119,9 @@ impl Bound {
         }
     }
 
-    /// Whether a line seems to tell of a job that was submitted before.
+    // Whether a line seems to tell of a job that was submitted before.
     #[inline(always)]
-    pub(crate) fn is_behind_line(&self, layout: &Layout, line: &[u8]) -> bool {
+    fn is_behind_line(&self, layout: &Layout, line: &[u8]) -> bool {
         self.is_behind(layout, submit_text(layout, line))
     }
 }
@@ -137,6 +145,18 @@ fn second_word(line: &[u8]) -> &[u8] {
     b""
 }
 
+// What stands in the column that begins at a place, which most often is a time, of 19 bytes.
+#[inline(always)]
+#[tactic(auto, using(crate::proofs::ScanLemmas::place_inside))]
+fn column_at(line: &[u8], begin: usize) -> &[u8]
+    requires { begin ≤ length line.now }
+{
+    if 19 < line.len() - begin && line[begin + 19] == b'|' {
+        return &line[begin..begin + 19];
+    }
+    &line[begin..next_place(line, begin, b'|')]
+}
+
 // What stands in a column, counted from 1.
 #[inline(always)]
 #[tactic(auto, using(crate::proofs::ScanLemmas::place_inside))]
@@ -149,7 +169,7 @@ fn column_of(line: &[u8], column: usize) -> &[u8] {
         }
         begin = end + 1;
     }
-    &line[begin..next_place(line, begin, b'|')]
+    column_at(line, begin)
 }
 
 // What stands in a line's column of submission.
@@ -283,27 +303,70 @@ fn bound_of<'a>(
     }
 }
 
-// Adds a job that was submitted before.
-fn add_entry<'a>(early: &mut Early<'a>, found: Entry<'a>) -> Result<(), AllocError> {
+// Adds a job that was submitted before, and the text of its line.
+fn add_entry<'a>(early: &mut Early<'a>, text: &'a [u8], found: Entry<'a>) -> Result<(), AllocError>
+    requires ahead { AreAllAhead early.old.ahead early.old.jobs.items }
+    requires text { (job : LoggedJob) → found ≡ Job job → IsTextOf early.old.ahead.layout text.now job }
+    ensures ahead { OnOk result (AreAllAhead early.new.ahead early.new.jobs.items) }
+    ensures layout { OnOk result (early.new.ahead.layout ≡ early.old.ahead.layout) }
+{
     if let Entry::Job(job) = found
         && job.account.submit < early.before
     {
         early.jobs.push(job)?;
+        early.ahead.push(text)?;
     }
     Ok(())
 }
 
 // Adds those of a line.
-fn add_entries<'a>(early: &mut Early<'a>, found: Entries<'a>) -> Result<(), AllocError> {
+fn add_entries<'a>(
+    early: &mut Early<'a>,
+    text: &'a [u8],
+    found: Entries<'a>,
+) -> Result<(), AllocError>
+    requires ahead { AreAllAhead early.old.ahead early.old.jobs.items }
+    requires text { (job : LoggedJob) → entries_in found ≡ Job job ∷ [] → IsTextOf early.old.ahead.layout text.now job }
+    ensures ahead { OnOk result (AreAllAhead early.new.ahead early.new.jobs.items) }
+    ensures layout { OnOk result (early.new.ahead.layout ≡ early.old.ahead.layout) }
+{
     match found {
-        Entries::One(entry) => add_entry(early, entry),
+        Entries::One(entry) => add_entry(early, text, entry),
         Entries::Tasks(entries) => {
             for entry in entries {
-                add_entry(early, entry)?;
+                add_entry(early, b"", entry)?;
             }
             Ok(())
         }
     }
+}
+
+// Adds those of a log, as far as its lines seem to tell of them.
+fn add_lines<'a>(
+    alloc: Global,
+    early: &mut Early<'a>,
+    bound: &Bound,
+    mixed: bool,
+    log: &'a [u8],
+) -> Result<(), AllocError>
+    requires ahead { AreAllAhead early.old.ahead early.old.jobs.items }
+    ensures ahead { OnOk result (AreAllAhead early.new.ahead early.new.jobs.items) }
+{
+    let mut layout = early.ahead.layout();
+    let mut seats = Seats::new(alloc, mixed);
+    let mut words = Vec::new(alloc);
+    let mut number = 0;
+    let mut rest = log;
+    while let Some((line, behind)) = next_line(rest) {
+        rest = behind;
+        number += 1;
+        if bound.is_behind_line(&layout, line) {
+            let text = early.ahead.kept(mixed, &layout, line);
+            let found = line_entries(alloc, &mut seats, &mut layout, number, &mut words, line)?;
+            add_entries(early, text, found)?;
+        }
+    }
+    Ok(())
 }
 
 /// Where the jobs of a log do not seem to come in order of submission, those that a trace takes, as far as a guess goes, with all others that
@@ -315,10 +378,12 @@ pub fn early_jobs<'a>(
     log: &'a [u8],
 ) -> Result<Early<'a>, AllocError>
     requires { AreGood draft.now }
+    ensures ahead { IfOk result (λ e. AreAhead e.ahead e.jobs.items) }
 {
     let mut early = Early {
         jobs: Vec::new(alloc),
         before: 0,
+        ahead: Ahead::new(alloc, *walk.layout()),
     };
     if log.len() < SHORT {
         return Ok(early);
@@ -327,11 +392,6 @@ pub fn early_jobs<'a>(
         return Ok(early);
     };
     early.before = bound.second;
-    let mut walk = walk.over(alloc, log);
-    walk.skip_to(&bound);
-    while let Some(found) = walk.next(alloc)? {
-        add_entries(&mut early, found)?;
-        walk.skip_to(&bound);
-    }
+    add_lines(alloc, &mut early, &bound, walk.are_mixed(), log)?;
     Ok(early)
 }

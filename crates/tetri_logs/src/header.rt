@@ -7,7 +7,7 @@ use crate::lines::ends_empty;
 use crate::words::is_text;
 
 /// Where the columns stand that are used, each by its number, counted from 1.
-#[derive(Clone, Copy)]
+#[derive(Clone, Copy, PartialEq, Eq)]
 pub struct Header {
     /// How many there are.
     pub count: usize,

@@ -3,6 +3,7 @@
 #![tactic(auto)]
 
 mod account;
+mod ahead;
 mod calendar;
 mod comments;
 mod early;
@@ -28,6 +29,7 @@ mod walk;
 mod words;
 
 pub use account::Account;
+pub use ahead::Ahead;
 pub use comments::Fact;
 pub use early::{Early, early_jobs};
 pub use entry::{Cause, Entries, Entry, Format, LoggedJob, Reject, read_entries};

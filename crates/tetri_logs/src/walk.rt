@@ -1,15 +1,19 @@
 // The lines of a log, one after another.
-ghost use Rattle.std.specs.Prelude.{◌≡◌, ◌≤◌, ◌<◌, ◌++◌, [], IfOk, IfSome, MatchOption};
+ghost use Rattle.std.specs.Prelude.{◌≡◌, ◌≤◌, ◌<◌, ◌++◌, ◌∷◌, [], IfOk, IfSome, MatchOption, Some, false, slice_get, true};
 ghost use Rattle.tetri_base.specs.Lists.{count};
+ghost use Rattle.tetri_logs.specs.Ahead.{AreAhead};
 ghost use Rattle.tetri_logs.specs.Entry.{entries_in};
 ghost use Rattle.tetri_logs.specs.Reading.{is_comment};
 ghost use Rattle.tetri_logs.specs.Walk.{unread};
+ghost use Rattle.tetri_logs.specs.declared.entry.Entry.TheVariants.{Job};
+ghost use Rattle.tetri_logs.specs.declared.entry.LoggedJob.{LoggedJob};
 
-use crate::early::Bound;
-use crate::entry::{Entries, Format, line_entries};
+use crate::ahead::Ahead;
+use crate::entry::{Entries, Format, LoggedJob, line_entries};
 use crate::layout::{Layout, first_layout};
 use crate::lines::next_line;
 use crate::seats::Seats;
+use crate::words::is_same;
 use std::alloc::{AllocError, Global};
 use std::marker::Model;
 
@@ -66,20 +70,38 @@ impl<'a> Walk<'a> {
         &self.layout
     }
 
-    /// Passes over lines, as far as one that seems to tell of a job submitted before.
-    pub(crate) fn skip_to(&mut self, bound: &Bound)
-        ensures { self.new.bytes ≤ self.old.bytes }
+    /// Whether nodes differ.
+    pub(crate) fn are_mixed(&self) -> bool {
+        self.seats.are_mixed()
+    }
+
+    /// Passes over the next line where it is that of the job at a place, as it was read ahead, and says whether it does. It never does where nodes differ.
+    #[inline(always)]
+    #[tactic(auto, using(crate::proofs::AheadLemmas::line_passed))]
+    pub fn pass(&mut self, ahead: &Ahead<'_>, jobs: &[LoggedJob<'_>], place: usize) -> bool
+        requires { AreAhead ahead.now jobs.now }
+        ensures passed { result ≡ true → (job : LoggedJob) × (slice_get jobs.now place ≡ Some job) × (self.old.entries ≡ Job job ∷ self.new.entries) }
+        ensures shorter { result ≡ true → self.new.bytes < self.old.bytes }
+        ensures stays { result ≡ false → self.new ≡ self.old }
     {
-        let mut rest = self.rest;
-        let mut passed = 0;
-        while let Some((line, behind)) = next_line(rest)
-            && !bound.is_behind_line(&self.layout, line)
-        {
-            rest = behind;
-            passed += 1;
+        let Some(job) = jobs.get(place) else {
+            return false;
+        };
+        if job.line != self.number.saturating_add(1) || self.seats.are_mixed() {
+            return false;
+        }
+        let Some(known) = ahead.line_at(jobs, place, &self.layout) else {
+            return false;
+        };
+        let Some((line, rest)) = next_line(self.rest) else {
+            return false;
+        };
+        if !is_same(line, known) {
+            return false;
         }
         self.rest = rest;
-        self.number += passed;
+        self.number = job.line;
+        true
     }
 
     /// What the next line is. `None` exactly where there is none. Its only error is want of memory.
