@@ -260,12 +260,14 @@ fn begun_by(draft: &Settings, samples: &[Sample<'_>]) -> Option<Settings>
     None
 }
 
-// The sample behind about as many jobs with a place as a trace takes and a quarter more, or the last one with a place.
+// The sample behind about as many jobs with a place as a trace takes, and so many more that chance seldom makes them too few: four times as much as the number of such samples
+// deviates. Or the last one with a place.
 fn bounding<'a>(settings: &Settings, samples: &Samples<'a>, length: usize) -> Option<Sample<'a>>
     requires { AreGood settings.now }
 {
     let most = u64::from(settings.most).min(MOST_JOBS);
-    let wanted = (most + most / 4).saturating_mul(samples.bytes) / (length as u64).max(1);
+    let expected = most.saturating_mul(samples.bytes) / (length as u64).max(1);
+    let wanted = expected.saturating_add(expected.isqrt().saturating_add(1).saturating_mul(4));
     let mut placed = 0u64;
     let mut last = None;
     for sample in &samples.jobs {
