@@ -75,12 +75,12 @@ none-by s o all order rest i false is moved h = no_gap-early o s order (h.early 
 
 -- ---- all early jobs
 -- where each of them has been met, all jobs are those and the others
-pub all_met : (s : Settings) (o : Options) (nodes : List NodeText) (es : List Entry) (r : Reading) → IsRead s o nodes es r → length r.early.items ≤ r.met
-    → IsMoveBy submit_of (jobs_of nodes es) (r.early.items ++ jobs_from r.before (jobs_of nodes es))
+pub all_met : (s : Settings) (o : Options) (nodes : List NodeText) (es : List Entry) (r : Reading) → IsRead s o nodes es r → length r.early.jobs.items ≤ r.met
+    → IsMoveBy submit_of (jobs_of nodes es) (r.early.jobs.items ++ jobs_from r.early.before (jobs_of nodes es))
 all_met s o nodes es r read met =
     let all = jobs_of nodes es in
-    let early : jobs_before r.before all ≡ r.early.items = read.met ∙ take_all r.met r.early.items met in
-    subst (λ js. IsMoveBy submit_of all (js ++ jobs_from r.before all)) early (parted r.before all)
+    let early : jobs_before r.early.before all ≡ r.early.jobs.items = read.met ∙ take_all r.met r.early.jobs.items met in
+    subst (λ js. IsMoveBy submit_of all (js ++ jobs_from r.early.before all)) early (parted r.early.before all)
 
 -- ---- what is drawn
 pub drawn-of : (es : List Entry) (nodes : List NodeText) (o : Options) (d : Drawn) (draft s : Settings) (r : Reading) (first : LoggedJob)
@@ -91,7 +91,7 @@ pub drawn-of : (es : List Entry) (nodes : List NodeText) (o : Options) (d : Draw
     → Contains (jobs_of nodes es) first
     → IsRead s o nodes es r
     → r.intake.waiting.held.items ≡ []
-    → length r.early.items ≤ r.met
+    → length r.early.jobs.items ≤ r.met
     → d.settings ≡ s
     → so_far d.taken ≡ so_far r.intake.taken
     → d.left.items ≡ r.left.items
@@ -103,7 +103,7 @@ drawn-of es nodes o d draft s r first timed settings begins good has read none m
     let h = read.handled.1 in
     let sorted = ordered submit_of order in
     let whole : order ++ r.intake.waiting.held.items ≡ order = ap (λ js. order ++ js) none ∙ append-nil order in
-    let parts = r.early.items ++ jobs_from r.before all in
+    let parts = r.early.jobs.items ++ jobs_from r.early.before all in
     let moved : IsMoveBy submit_of parts order = subst (IsMoveBy submit_of parts) whole h.moved in
     let moves : IsMoveBy submit_of all order = IsMoveBy-trans submit_of all parts order (all_met s o nodes es r read met) moved in
     let comes : ComeInTurn s nothing_taken 0 order = subst (ComeInTurn s nothing_taken 0) (append-nil order) (h.turns [] tt) in

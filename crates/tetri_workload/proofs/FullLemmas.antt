@@ -12,7 +12,8 @@ use Rattle.tetri_logs.specs.Placing.{place}
 use Rattle.tetri_logs.specs.declared.options.Settings.{Settings}
 use Rattle.tetri_logs.specs.declared.placing.Placing.{Placing}
 use Rattle.tetri_trace.specs.Scenario.{job_names}
-use Rattle.tetri_workload.specs.Taking.{Tally, again, again_name, is_full, is_second, kept, left_out, named, taken, with_left, with_logged, with_placed}
+use Rattle.tetri_workload.specs.Notes.{again_name}
+use Rattle.tetri_workload.specs.Taking.{Tally, again, is_full, is_second, kept, left_out, named, taken, with_left, with_logged, with_placed}
 
 -- ---- why a job is left out
 abbrev kept_cause : Settings → Tally → Cause

@@ -1,6 +1,6 @@
 -- Jobs that come, that are handled, and that are put in order.
 use Rattle.std.proofs.Common.{◌≡◌, ◌+◌, ◌*◌, ◌<◌, ◌≤◌, ◌∙◌, ◌++◌, ◌∷◌, ◌⊎◌, inl, inr, [], ℕ, List, Bool, true, false, cond, not, ◌&&◌, refl, ap, sym, subst, arith, append_assoc, true≢false}
-use Rattle.std.specs.Prelude.{Contains, IfSome, Option, Some, None, Ok, Err, is_ok, nat_lt}
+use Rattle.std.specs.Prelude.{Contains, IfSome, Option, Some, None, Result, Ok, Err, is_ok, nat_lt}
 use Rattle.std.proofs.lemmas.Bool.Decides.{nat_tests}
 use Rattle.std.proofs.lemmas.List.Elements.{All-push, All-tail, Contains-append_left, Contains-append_right, Contains-push}
 use Rattle.std.proofs.lemmas.List.Sorted.{Contains-permutation, IsPermutation-sym}
@@ -12,7 +12,7 @@ use Rattle.tetri_logs.specs.Placing.{is_outside, place}
 use Rattle.tetri_cluster.specs.Names.{number_of}
 use Rattle.tetri_logs.specs.declared.account.Account.{Account}
 use Rattle.tetri_logs.specs.declared.entry.Cause.{Cause}
-use Rattle.tetri_logs.specs.declared.entry.Cause.TheVariants.{Outside}
+use Rattle.tetri_logs.specs.declared.entry.Cause.TheVariants.{Beyond, Outside}
 use Rattle.tetri_logs.specs.declared.placing.Placing.{Placing}
 use Rattle.tetri_logs.proofs.PlaceLaws.{outside-begins, outside-placeless, placed-begins, placed-behind, placed-in_run}
 use Rattle.tetri_trace.specs.Scenario.{job_names}
@@ -223,6 +223,26 @@ took-step s o all rest i j job order p good h has took behind last placed joined
             placed = subst (λ q. IfSome q (HasPlaced s all)) (sym placed) there;
           }),
     )
+
+-- a job with a place that is one more than a trace takes, whatever its name is
+pub no_room-step : (s : Settings) (o : Options) (all rest : List LoggedJob) (i j : Intake) (job : LoggedJob)
+    → AreGood s
+    → is_placed s job ≡ true
+    → i.last ≤ job.account.submit
+    → is_full s (so_far i.taken) ≡ true
+    → ((p : Placing) → (number : Option ℕ) → named s (so_far i.taken) job.line job.account.submit job.name job.set p number ≡ left_out (so_far i.taken) job.line Beyond)
+    → so_far j.taken ≡ left_out (so_far i.taken) job.line Beyond
+    → j.last ≡ i.last
+    → j.placed ≡ Some job.account.submit
+    → j.joined ≡ i.joined
+    → AreHandled s o all (job ∷ rest) i → AreHandled s o all rest j
+no_room-step s o all rest i j job good has behind full beyond left last placed joined given = by (place s job.account) refl has
+  where
+    by : (r : Result Placing Cause) → place s job.account ≡ r → is_ok r ≡ true → AreHandled s o all rest j
+    by (Ok p) is ok =
+        took-step s o all rest i j job given.0 p good given.1 is (left ∙ sym (beyond p (number_of job.name (job_names (so_far i.taken).jobs)))) behind
+        (last ∙ sym (ap (λ b. cond b i.last job.account.submit) full)) placed joined
+    by (Err cause) is ok = absurd (true≢false (sym ok))
 
 -- ---- late jobs
 -- a job that comes too late joins others to those that come early enough

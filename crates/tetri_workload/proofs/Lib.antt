@@ -15,3 +15,4 @@ pub mod ImportLemmas
 pub mod DrawnLemmas
 pub mod MarkLemmas
 pub mod BitLemmas
+pub mod NoteLemmas

@@ -11,7 +11,8 @@ use Rattle.tetri_logs.specs.declared.options.Settings.{Settings}
 use Rattle.tetri_logs.specs.declared.placing.Placing.{Placing}
 use Rattle.tetri_trace.specs.Scenario.{job_names}
 use Rattle.tetri_workload.specs.Saying.{IsAsked}
-use Rattle.tetri_workload.specs.Taking.{Tally, again, again_name, is_second, kept, left_out, named, nothing_taken, submitted, taken, taken_all, with_logged, with_placed}
+use Rattle.tetri_workload.specs.Notes.{again_name}
+use Rattle.tetri_workload.specs.Taking.{Tally, again, is_second, kept, left_out, named, nothing_taken, submitted, taken, taken_all, with_logged, with_placed}
 
 -- how many jobs are taken or left out
 abbrev size_of : Tally → ℕ

@@ -4,6 +4,7 @@ pub mod Listed
 pub mod Partitions
 pub mod Marks
 pub mod Waiting
+pub mod Notes
 pub mod Taking
 pub mod Head
 pub mod Reading

@@ -2,16 +2,18 @@
 use Rattle.std.specs.Prelude.{◌≡◌, take, ◌+◌, ◌*◌, ◌<◌, ◌≤◌, ◌⊎◌, ℕ, All, Bool, Contains, IfSome, List, [], ◌∷◌, ◌++◌, not, ◌&&◌, false, true, Option, None, Some, is_ok, is_some, if◌then◌else◌}
 use Rattle.tetri_cluster.specs.declared.cluster.NodeText.{NodeText}
 use Rattle.tetri_base.specs.Lists.{count}
+use Rattle.tetri_logs.specs.Ahead.{AreAhead}
 use Rattle.tetri_logs.specs.Origin.{is_in_run, may_begin}
 use Rattle.tetri_logs.specs.Placing.{is_outside, place}
 use Rattle.tetri_logs.specs.Reading.{facts_in, is_comment, jobs_in, left_in, no_facts}
 use Rattle.tetri_logs.specs.Scale.{moment_of}
 use Rattle.tetri_logs.specs.declared.account.Account.{Account}
+use Rattle.tetri_logs.specs.declared.early.Early.{Early}
 use Rattle.tetri_logs.specs.declared.entry.Entry.{Entry}
 use Rattle.tetri_logs.specs.declared.entry.LoggedJob.{LoggedJob}
 use Rattle.tetri_logs.specs.declared.options.Options.{Options}
 use Rattle.tetri_logs.specs.declared.options.Settings.{Settings}
-use Rattle.tetri_workload.specs.Kinds.{settled_all}
+use Rattle.tetri_workload.specs.Kinds.{are_mixed, settled_all}
 use Rattle.tetri_workload.specs.Listed.{jobs_before, jobs_from}
 use Rattle.tetri_workload.specs.Ordering.{IsMoveBy}
 use Rattle.tetri_workload.specs.Taking.{Tally, is_full, nothing_taken, so_far, taken_all, with_logged}
@@ -113,12 +115,16 @@ pub record IsRead (s : Settings) (o : Options) (nodes : List NodeText) (es : Lis
   pub comments : r.comments ≡ count is_comment es
   pub wanted : AreWanted s r.intake.waiting.held.items
   pub seconds : HasSeconds r.intake.waiting
-  pub met : jobs_before r.before (jobs_of nodes es) ≡ take r.met r.early.items
-  pub handled : AreHandled s o (r.early.items ++ jobs_from r.before (jobs_of nodes es)) r.intake.waiting.held.items r.intake
+  pub met : jobs_before r.early.before (jobs_of nodes es) ≡ take r.met r.early.jobs.items
+  pub handled : AreHandled s o (r.early.jobs.items ++ jobs_from r.early.before (jobs_of nodes es)) r.intake.waiting.held.items r.intake
 
 -- the same of the first lines of a log with these entries, where the others are not read yet
 abbrev pub IsReadOf : Settings → Options → List NodeText → List Entry → List Entry → Reading → Type 0
 IsReadOf s o nodes es others r = (first : List Entry) × (first ++ others ≡ es) × IsRead s o nodes first r
+
+-- where nodes do not differ, the lines of early jobs are those that were read ahead
+abbrev pub IsAhead : List NodeText → Early → Type 0
+IsAhead nodes early = are_mixed nodes ≡ false → AreAhead early.ahead early.jobs.items
 
 -- the entries behind, where a log has not ended
 abbrev pub behind : Bool → List Entry → List Entry

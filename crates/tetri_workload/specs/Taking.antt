@@ -1,5 +1,5 @@
 -- The jobs that are taken.
-use Rattle.std.specs.Prelude.{ℕ, ◌+◌, ◌==◌, ◌||◌, Bool, false, min, max, nat_le, List, [], ◌∷◌, ◌++◌, length, map, fold, slice_get, codes, decimal, Option, Some, None, Result, Ok, Err, if◌then◌else◌}
+use Rattle.std.specs.Prelude.{ℕ, ◌+◌, ◌==◌, ◌||◌, ◌&&◌, Bool, false, min, max, nat_le, nat_lt, List, [], ◌∷◌, ◌++◌, length, map, fold, slice_get, Option, Some, None, Result, Ok, Err, if◌then◌else◌}
 use Rattle.tetri_cluster.specs.Names.{is_among, is_name, number_of}
 use Rattle.tetri_logs.specs.declared.entry.Cause.{Cause}
 use Rattle.tetri_logs.specs.declared.entry.Cause.TheVariants.{Outside, Repeated, Beyond}
@@ -11,7 +11,7 @@ use Rattle.tetri_trace.specs.declared.trace.Happening.TheVariants.{Arrive, Cance
 use Rattle.tetri_logs.specs.Placing.{place}
 use Rattle.tetri_logs.specs.declared.options.Settings.{Settings}
 use Rattle.tetri_logs.specs.declared.placing.Placing.{Placing}
-use Rattle.tetri_workload.specs.Marks.{AreMarked}
+use Rattle.tetri_workload.specs.Notes.{AreNoted, again_name}
 use Rattle.tetri_workload.specs.declared.taking.Taken.{Taken}
 
 -- the jobs that are taken, in order of submission, the second of each submission, with what happens to each, why others are left out, how many slots a run has, on
@@ -28,9 +28,9 @@ pub record Tally : Type 0 where
 abbrev pub so_far : Taken → Tally
 so_far t = record { jobs = map submission t.jobs; submits = t.submits.items; events = t.events.items; left = t.left.items; until = t.until; rounded = t.rounded.items; sets = t.sets.items }
 
--- each job that is taken is marked
-abbrev pub HasMarks : Taken → Type 0
-HasMarks t = AreMarked t.marks (job_names (map submission t.jobs))
+-- what is noted of the jobs that are taken holds of them
+abbrev pub IsNoted : Taken → Type 0
+IsNoted t = AreNoted t.notes t.submits.items (job_names (map submission t.jobs))
 
 abbrev pub nothing_taken : Tally
 nothing_taken = record { jobs = []; submits = []; events = []; left = []; until = 1; rounded = []; sets = [] }
@@ -81,19 +81,15 @@ taken t line submit name set p = record {
 abbrev pub is_full : Settings → Tally → Bool
 is_full s t = nat_le s.most (length t.jobs) || nat_le 100000 (length t.jobs)
 
+-- whether more jobs are wanted than are possible, and so many are there
+abbrev pub is_beyond : Settings → Tally → Bool
+is_beyond s t = nat_le 100000 (length t.jobs) && nat_lt (length t.jobs) s.most
+
 -- a job is taken under a name unless so many are there as are wanted or possible
 abbrev pub kept : Settings → Tally → ℕ → ℕ → List ℕ → List ℕ → Placing → Tally
 kept s t line submit name set p =
     if nat_le s.most (length t.jobs) then left_out t line Outside
     else (if nat_le 100000 (length t.jobs) then left_out t line Beyond else taken t line submit name set p)
-
--- the mark of a job that was submitted again: when that was
-abbrev pub again_mark : ℕ → List ℕ
-again_mark submit = codes ":" ++ decimal submit
-
--- what it is called: its name with that mark
-abbrev pub again_name : List ℕ → ℕ → List ℕ
-again_name name submit = name ++ again_mark submit
 
 -- a job that was submitted again is taken under that name, unless one has it
 abbrev pub again : Settings → Tally → ℕ → ℕ → List ℕ → List ℕ → Placing → Tally

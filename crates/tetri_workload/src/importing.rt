@@ -2,6 +2,7 @@
 ghost use Rattle.std.specs.Prelude.{◌≡◌, ◌+◌, ◌<◌, ◌≤◌, ◌^◌, ◌++◌, All, Contains, IfErr, IfOk, IfSome, List, OnOk, Some, ℕ};
 ghost use Rattle.tetri_base.specs.Lists.{count};
 ghost use Rattle.tetri_logs.specs.Options.{AreGood, settings_of};
+ghost use Rattle.tetri_logs.specs.Ahead.{AreAhead};
 ghost use Rattle.tetri_logs.specs.Entry.{entries_in};
 ghost use Rattle.tetri_logs.specs.Origin.{begun_with};
 ghost use Rattle.tetri_logs.specs.Reading.{AreTimedByLine, entries, is_comment, jobs_in};
@@ -233,15 +234,24 @@ fn draw_early<'a>(
     requires known { AreKnown nodes.now kinds.old }
     requires few { head.comments + walk.old.bytes + 1 < 2 ^ 64 }
     requires one { count is_comment (entries_in first) ≤ 1 }
+    requires ahead { AreAhead early.ahead early.jobs.items }
     ensures known { OnOk result (AreKnown nodes.now kinds.new) }
     ensures drawn { IfOk result (λ drawn. (es : List Entry) → AreTimedByLine (jobs_in es) → IsHead es (entries_in first.entry ++ walk.old.entries) head.entry → IsDrawn es nodes.now options.now drawn) }
 {
-    let before = early.before;
-    let jobs = kinds.settle(alloc, nodes, early.jobs)?;
+    let Early {
+        jobs,
+        before,
+        ahead,
+    } = early;
+    let jobs = kinds.settle(alloc, nodes, jobs)?;
     let Some(settings) = begun_by(draft, &jobs) else {
         return Err(Halt::OutOfTurn);
     };
-    let early = Early { jobs, before };
+    let early = Early {
+        jobs,
+        before,
+        ahead,
+    };
     let mut read = Reading::with_early(alloc, options, &settings, early, head)?;
     read.add(alloc, kinds, &settings, nodes, true, first)?;
     read.finish(alloc, kinds, &settings, nodes, walk, false)?;

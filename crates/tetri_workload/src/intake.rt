@@ -1,15 +1,17 @@
 // What is taken of the jobs of a log as they come.
-ghost use Rattle.std.specs.Prelude.{◌≡◌, ◌↔◌, ◌+◌, ◌*◌, ◌<◌, ◌≤◌, ◌^◌, ◌++◌, ◌∷◌, [], All, Bool, Err, IfOk, IsTrue, List, MatchOption, None, Ok, OnOk, Some, cond, drop, length, true, false, ℕ};
+ghost use Rattle.std.specs.Prelude.{◌≡◌, ◌↔◌, ◌+◌, ◌*◌, ◌<◌, ◌≤◌, ◌^◌, ◌++◌, ◌∷◌, [], All, Bool, Err, IfOk, IsTrue, List, MatchOption, None, Ok, OnOk, Option, Some, cond, drop, is_ok, length, true, false, ℕ};
 ghost use Rattle.tetri_logs.specs.Options.{AreGood};
 ghost use Rattle.tetri_logs.specs.Origin.{begun_at, is_in_run, may_begin};
 ghost use Rattle.tetri_logs.specs.Placing.{IsPlaced, place};
 ghost use Rattle.tetri_logs.specs.Scale.{moment_of};
+ghost use Rattle.tetri_logs.specs.declared.entry.Cause.TheVariants.{Beyond};
 ghost use Rattle.tetri_logs.specs.declared.entry.LoggedJob.{LoggedJob};
 ghost use Rattle.tetri_logs.specs.declared.options.Options.{Options};
 ghost use Rattle.tetri_logs.specs.declared.options.Settings.{Settings};
+ghost use Rattle.tetri_logs.specs.declared.placing.Placing.{Placing};
 ghost use Rattle.tetri_workload.specs.Listed.{jobs_at};
 ghost use Rattle.tetri_workload.specs.Reading.{AreHandled, AreWanted, IsJoinedBy, IsNear, IsTimely, MayLeave};
-ghost use Rattle.tetri_workload.specs.Taking.{HasMarks};
+ghost use Rattle.tetri_workload.specs.Taking.{IsNoted, is_full, left_out, named, so_far};
 ghost use Rattle.tetri_workload.specs.Waiting.{HasSeconds};
 
 use crate::listed::{Listed, listed_in_order};
@@ -19,8 +21,8 @@ use crate::waiting::Waiting;
 use std::alloc::{AllocError, Global};
 use std::mem;
 use tetri_logs::{
-    Account, Cause, LoggedJob, Options, Placing, Settings, is_in_run, is_outside, may_begin,
-    moment_of, place,
+    Account, Cause, LoggedJob, Options, Placing, Settings, has_place, is_in_run, is_outside,
+    may_begin, moment_of, place,
 };
 
 /// Why the jobs of a log are not taken as they come.
@@ -95,7 +97,7 @@ impl<'a> Intake<'a> {
         ensures handled { IfOk result (λ i. (s : Settings) → AreHandled s options.now [] [] i) }
         ensures none { IfOk result (λ i. i.waiting.held.items ≡ []) }
         ensures seconds { IfOk result (λ i. HasSeconds i.waiting) }
-        ensures marks { IfOk result (λ i. HasMarks i.taken) }
+        ensures noted { IfOk result (λ i. IsNoted i.taken) }
     {
         Ok(Intake {
             taken: Taken::new(alloc)?,
@@ -158,8 +160,8 @@ impl<'a> Intake<'a> {
         requires good { AreGood settings.now }
         requires place { place settings.now job.now.account ≡ Ok placing.now }
         requires placed { IsPlaced placing.now }
-        requires marks { HasMarks self.old.taken }
-        ensures marks { OnOk result (HasMarks self.new.taken) }
+        requires noted { IsNoted self.old.taken }
+        ensures noted { OnOk result (IsNoted self.new.taken) }
         ensures waiting { OnOk result (self.new.waiting ≡ self.old.waiting) }
         ensures handled { OnOk result ((o : Options) → (all rest : List LoggedJob) → AreHandled settings.now o all (job.now ∷ rest) self.old → AreHandled settings.now o all rest self.new) }
     {
@@ -178,8 +180,8 @@ impl<'a> Intake<'a> {
         requires good { AreGood settings.now }
         requires small { settings.now.origin < 2 ^ 33 }
         requires place { place settings.now job.now.account ≡ Err cause }
-        requires marks { HasMarks self.old.taken }
-        ensures marks { OnOk result (HasMarks self.new.taken) }
+        requires noted { IsNoted self.old.taken }
+        ensures noted { OnOk result (IsNoted self.new.taken) }
         ensures waiting { OnOk result (self.new.waiting ≡ self.old.waiting) }
         ensures handled { OnOk result ((o : Options) → (all rest : List LoggedJob) → AreHandled settings.now o all (job.now ∷ rest) self.old → AreHandled settings.now o all rest self.new) }
     {
@@ -189,6 +191,22 @@ impl<'a> Intake<'a> {
         self.joined = joined;
         self.taken.leave(job.line, cause)?;
         Ok(())
+    }
+
+    // Whether a job comes in its turn and has a place, but is one more than a trace takes, whatever its name is.
+    #[inline(always)]
+    fn finds_no_room(&self, settings: &Settings, job: &LoggedJob<'_>) -> bool
+        requires good { AreGood settings.now }
+        requires noted { IsNoted self.now.taken }
+        ensures turn { result ≡ true → self.now.last ≤ job.now.account.submit }
+        ensures place { result ≡ true → is_ok (place settings.now job.now.account) ≡ true }
+        ensures full { result ≡ true → is_full settings.now (so_far self.now.taken) ≡ true }
+        ensures beyond { result ≡ true → (p : Placing) → (number : Option ℕ) → named settings.now (so_far self.now.taken) job.now.line job.now.account.submit job.now.name job.now.set p number ≡ left_out (so_far self.now.taken) job.now.line Beyond }
+    {
+        let submit = job.account.submit;
+        self.last <= submit
+            && self.taken.has_no_room(settings, submit)
+            && has_place(settings, &job.account)
     }
 
     // A job, if it comes in its turn.
@@ -201,11 +219,16 @@ impl<'a> Intake<'a> {
     ) -> Result<(), Halt>
         requires good { AreGood settings.now }
         requires small { settings.now.origin < 2 ^ 33 }
-        requires marks { HasMarks self.old.taken }
-        ensures marks { OnOk result (HasMarks self.new.taken) }
+        requires noted { IsNoted self.old.taken }
+        ensures noted { OnOk result (IsNoted self.new.taken) }
         ensures waiting { OnOk result (self.new.waiting ≡ self.old.waiting) }
         ensures handled { OnOk result ((o : Options) → (all rest : List LoggedJob) → AreHandled settings.now o all (job.now ∷ rest) self.old → AreHandled settings.now o all rest self.new) }
     {
+        if self.finds_no_room(settings, job) {
+            self.placed = Some(job.account.submit);
+            self.taken.leave(job.line, Cause::Beyond)?;
+            return Ok(());
+        }
         match place(settings, &job.account) {
             Ok(placing) => self.take(alloc, settings, job, &placing),
             Err(cause) => self.leave(settings, job, cause),
@@ -215,8 +238,8 @@ impl<'a> Intake<'a> {
     // A job outside the wanted part of the log is left out, and any other one waits.
     #[inline(always)]
     fn hold(&mut self, settings: &Settings, job: LoggedJob<'a>) -> Result<(), AllocError>
-        requires marks { HasMarks self.old.taken }
-        ensures marks { OnOk result (HasMarks self.new.taken) }
+        requires noted { IsNoted self.old.taken }
+        ensures noted { OnOk result (IsNoted self.new.taken) }
         ensures wanted { OnOk result (AreWanted settings.now self.old.waiting.held.items → AreWanted settings.now self.new.waiting.held.items) }
         ensures seconds { OnOk result (HasSeconds self.old.waiting → HasSeconds self.new.waiting) }
         ensures handled { OnOk result ((x : ℕ) → (o : Options) → (all : List LoggedJob) → AreWanted settings.now self.old.waiting.held.items → AreHandled (begun_at settings.now x) o all self.old.waiting.held.items self.old → AreHandled (begun_at settings.now x) o (all ++ job.entry ∷ []) self.new.waiting.held.items self.new) }
@@ -240,8 +263,8 @@ impl<'a> Intake<'a> {
     ) -> Result<bool, Halt>
         requires good { AreGood settings.now }
         requires small { settings.now.origin < 2 ^ 33 }
-        requires marks { HasMarks self.old.taken }
-        ensures marks { OnOk result (HasMarks self.new.taken) }
+        requires noted { IsNoted self.old.taken }
+        ensures noted { OnOk result (IsNoted self.new.taken) }
         ensures waiting { OnOk result (self.new.waiting ≡ self.old.waiting) }
         ensures stays { IfOk result (λ passed. passed ≡ false → self.new ≡ self.old) }
         ensures handled { IfOk result (λ passed. passed ≡ true → (o : Options) → (all : List LoggedJob) → HasSeconds self.old.waiting → AreHandled settings.now o all self.old.waiting.held.items self.old → AreHandled settings.now o (all ++ job.now ∷ []) self.new.waiting.held.items self.new) }
@@ -273,8 +296,8 @@ impl<'a> Intake<'a> {
     ) -> Result<(), Halt>
         requires good { AreGood settings.now }
         requires small { settings.now.origin < 2 ^ 33 }
-        requires marks { HasMarks self.old.taken }
-        ensures marks { OnOk result (HasMarks self.new.taken) }
+        requires noted { IsNoted self.old.taken }
+        ensures noted { OnOk result (IsNoted self.new.taken) }
         ensures wanted { OnOk result (AreWanted settings.now self.old.waiting.held.items → AreWanted settings.now self.new.waiting.held.items) }
         ensures seconds { OnOk result (HasSeconds self.old.waiting → HasSeconds self.new.waiting) }
         ensures handled { OnOk result ((o : Options) → (all : List LoggedJob) → HasSeconds self.old.waiting → AreWanted settings.now self.old.waiting.held.items → AreHandled settings.now o all self.old.waiting.held.items self.old → AreHandled settings.now o (all ++ job.entry ∷ []) self.new.waiting.held.items self.new) }
@@ -296,8 +319,8 @@ impl<'a> Intake<'a> {
     ) -> Result<(), Halt>
         requires good { AreGood settings.now }
         requires small { known ≡ true → settings.now.origin < 2 ^ 33 }
-        requires marks { HasMarks self.old.taken }
-        ensures marks { OnOk result (HasMarks self.new.taken) }
+        requires noted { IsNoted self.old.taken }
+        ensures noted { OnOk result (IsNoted self.new.taken) }
         ensures wanted { OnOk result (AreWanted settings.now self.old.waiting.held.items → AreWanted settings.now self.new.waiting.held.items) }
         ensures seconds { OnOk result (HasSeconds self.old.waiting → HasSeconds self.new.waiting) }
         ensures handled { OnOk result ((x : ℕ) → (known ≡ true → x ≡ settings.now.origin) → (o : Options) → (all : List LoggedJob) → HasSeconds self.old.waiting → AreWanted settings.now self.old.waiting.held.items → AreHandled (begun_at settings.now x) o all self.old.waiting.held.items self.old → AreHandled (begun_at settings.now x) o (all ++ job.entry ∷ []) self.new.waiting.held.items self.new) }
@@ -319,8 +342,8 @@ impl<'a> Intake<'a> {
     ) -> Result<(), Halt>
         requires good { AreGood settings.now }
         requires small { settings.now.origin < 2 ^ 33 }
-        requires marks { HasMarks self.old.taken }
-        ensures marks { OnOk result (HasMarks self.new.taken) }
+        requires noted { IsNoted self.old.taken }
+        ensures noted { OnOk result (IsNoted self.new.taken) }
         ensures waiting { OnOk result (self.new.waiting ≡ self.old.waiting) }
         ensures handled { OnOk result ((o : Options) → (all rest : List LoggedJob) → AreHandled settings.now o all (jobs.now ++ rest) self.old → AreHandled settings.now o all rest self.new) }
     {
@@ -340,9 +363,9 @@ impl<'a> Intake<'a> {
     ) -> Result<(), Halt>
         requires good { AreGood settings.now }
         requires small { settings.now.origin < 2 ^ 33 }
-        requires marks { HasMarks self.old.taken }
+        requires noted { IsNoted self.old.taken }
         requires within { All (λ l. l.place < length jobs.now) order.now }
-        ensures marks { OnOk result (HasMarks self.new.taken) }
+        ensures noted { OnOk result (IsNoted self.new.taken) }
         ensures waiting { OnOk result (self.new.waiting ≡ self.old.waiting) }
         ensures handled { OnOk result ((o : Options) → (all rest : List LoggedJob) → AreHandled settings.now o all (jobs_at jobs.now order.now ++ rest) self.old → AreHandled settings.now o all rest self.new) }
     {
@@ -361,8 +384,8 @@ impl<'a> Intake<'a> {
     ) -> Result<(), Halt>
         requires good { AreGood settings.now }
         requires small { settings.now.origin < 2 ^ 33 }
-        requires marks { HasMarks self.old.taken }
-        ensures marks { OnOk result (HasMarks self.new.taken) }
+        requires noted { IsNoted self.old.taken }
+        ensures noted { OnOk result (IsNoted self.new.taken) }
         ensures waiting { OnOk result (self.new.waiting ≡ self.old.waiting) }
         ensures handled { OnOk result ((o : Options) → (all rest : List LoggedJob) → AreHandled settings.now o all (jobs.now ++ rest) self.old → AreHandled settings.now o all rest self.new) }
     {
@@ -380,8 +403,8 @@ impl<'a> Intake<'a> {
     ) -> Result<(), Halt>
         requires good { AreGood settings.now }
         requires small { settings.now.origin < 2 ^ 33 }
-        requires marks { HasMarks self.old.taken }
-        ensures marks { OnOk result (HasMarks self.new.taken) }
+        requires noted { IsNoted self.old.taken }
+        ensures noted { OnOk result (IsNoted self.new.taken) }
         ensures few { OnOk result (length self.new.waiting.held.items ≤ left) }
         ensures wanted { OnOk result (AreWanted settings.now self.old.waiting.held.items → AreWanted settings.now self.new.waiting.held.items) }
         ensures seconds { OnOk result (HasSeconds self.old.waiting → HasSeconds self.new.waiting) }

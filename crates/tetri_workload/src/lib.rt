@@ -8,6 +8,7 @@ mod intake;
 mod kinds;
 mod listed;
 mod marks;
+mod notes;
 mod ordering;
 mod partitions;
 mod reading;

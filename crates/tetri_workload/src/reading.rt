@@ -1,6 +1,7 @@
 // What the lines of a log say, as they are read.
 ghost use Rattle.std.specs.Prelude.{◌≡◌, ◌↔◌, ◌+◌, ◌<◌, ◌≤◌, ◌^◌, ◌++◌, ◌∷◌, [], IfOk, IsTrue, List, Ok, OnErr, OnOk, Some, false, length, slice_get, take, true, ℕ};
 ghost use Rattle.tetri_base.specs.Lists.{count};
+ghost use Rattle.tetri_logs.specs.Ahead.{AreAhead};
 ghost use Rattle.tetri_logs.specs.Entry.{entries_in};
 ghost use Rattle.tetri_logs.specs.Options.{AreGood};
 ghost use Rattle.tetri_logs.specs.Origin.{begun_at};
@@ -11,16 +12,17 @@ ghost use Rattle.tetri_logs.specs.declared.entry.Entry.{Entry};
 ghost use Rattle.tetri_logs.specs.declared.options.Options.{Options};
 ghost use Rattle.tetri_logs.specs.declared.options.Settings.{Settings};
 ghost use Rattle.tetri_workload.specs.Head.{IsSaidBy};
+ghost use Rattle.tetri_workload.specs.Kinds.{are_mixed};
 ghost use Rattle.tetri_workload.specs.Known.{AreKnown};
-ghost use Rattle.tetri_workload.specs.Reading.{IsRead, IsReadOf, behind};
-ghost use Rattle.tetri_workload.specs.Taking.{HasMarks};
+ghost use Rattle.tetri_workload.specs.Reading.{IsAhead, IsRead, IsReadOf, behind};
+ghost use Rattle.tetri_workload.specs.Taking.{IsNoted};
 
 use crate::intake::{Halt, Intake};
 use crate::kinds::{Kinds, are_mixed, is_same};
 use std::alloc::{AllocError, Global};
 use tetri_cluster::NodeText;
 use tetri_logs::{
-    Account, Early, Entries, Entry, Facts, Log, LoggedJob, Options, Reject, Settings, Walk,
+    Account, Ahead, Early, Entries, Entry, Facts, Log, LoggedJob, Options, Reject, Settings, Walk,
     with_fact,
 };
 
@@ -41,10 +43,8 @@ pub struct Reading<'a> {
     pub left: Vec<Reject>,
     pub facts: Facts,
     pub comments: usize,
-    /// Jobs that were handled before any line was read, in the order of the log.
-    pub early: Vec<LoggedJob<'a>>,
-    /// They are all jobs of the log that were submitted before this second of its clock.
-    pub before: u32,
+    /// Jobs that were handled before any line was read, which are to be all of the log that were submitted before the same second.
+    pub early: Early<'a>,
     /// How many of them stand on the lines so far.
     pub met: usize,
 }
@@ -90,18 +90,22 @@ impl<'a> Reading<'a> {
         head: Log<'a>,
     ) -> Result<Reading<'a>, AllocError>
         ensures read { IfOk result (λ r. (s : Settings) → (nodes : List NodeText) → (first : List Entry) → jobs_in first ≡ [] → IsSaidBy first head.entry → IsRead s options.now nodes first r) }
-        ensures marks { IfOk result (λ r. HasMarks r.intake.taken) }
+        ensures noted { IfOk result (λ r. IsNoted r.intake.taken) }
         ensures facts { IfOk result (λ r. r.facts ≡ head.entry.facts) }
         ensures comments { IfOk result (λ r. r.comments ≡ head.entry.comments) }
-        ensures early { IfOk result (λ r. r.early.items ≡ []) }
+        ensures early { IfOk result (λ r. r.early.jobs.items ≡ []) }
+        ensures ahead { IfOk result (λ r. AreAhead r.early.ahead r.early.jobs.items) }
     {
         Ok(Reading {
             intake: Intake::new(alloc, options)?,
             left: head.left,
             facts: head.facts,
             comments: head.comments,
-            early: Vec::new(alloc),
-            before: 0,
+            early: Early {
+                jobs: Vec::new(alloc),
+                before: 0,
+                ahead: Ahead::none(alloc),
+            },
             met: 0,
         })
     }
@@ -117,10 +121,10 @@ impl<'a> Reading<'a> {
         requires good { AreGood settings.now }
         requires small { settings.now.origin < 2 ^ 33 }
         ensures read { IfOk result (λ r. (nodes : List NodeText) → (first : List Entry) → jobs_in first ≡ [] → IsSaidBy first head.entry → IsRead settings.now options.now nodes first r) }
-        ensures marks { IfOk result (λ r. HasMarks r.intake.taken) }
+        ensures noted { IfOk result (λ r. IsNoted r.intake.taken) }
         ensures facts { IfOk result (λ r. r.facts ≡ head.entry.facts) }
         ensures comments { IfOk result (λ r. r.comments ≡ head.entry.comments) }
-        ensures early { IfOk result (λ r. r.early.items ≡ early.entry.jobs.items) }
+        ensures early { IfOk result (λ r. r.early ≡ early.entry) }
     {
         let mut intake = Intake::new(alloc, options)?;
         intake.handle_listed(alloc, settings, &early.jobs)?;
@@ -129,8 +133,7 @@ impl<'a> Reading<'a> {
             left: head.left,
             facts: head.facts,
             comments: head.comments,
-            early: early.jobs,
-            before: early.before,
+            early,
             met: 0,
         })
     }
@@ -138,16 +141,15 @@ impl<'a> Reading<'a> {
     // A job that was handled already, if it is the next one of these.
     #[inline(always)]
     fn meet(&mut self, job: &LoggedJob<'_>) -> Result<(), Halt>
-        ensures met { OnOk result (take self.new.met self.new.early.items ≡ take self.old.met self.old.early.items ++ job.now ∷ []) }
-        ensures refused { OnErr result (slice_get self.old.early.items self.old.met ≡ Some job.now → ⊥) }
+        ensures met { OnOk result (take self.new.met self.new.early.jobs.items ≡ take self.old.met self.old.early.jobs.items ++ job.now ∷ []) }
+        ensures refused { OnErr result (slice_get self.old.early.jobs.items self.old.met ≡ Some job.now → ⊥) }
         ensures early { self.new.early ≡ self.old.early }
-        ensures before { self.new.before ≡ self.old.before }
         ensures left { self.new.left ≡ self.old.left }
         ensures facts { self.new.facts ≡ self.old.facts }
         ensures comments { self.new.comments ≡ self.old.comments }
         ensures intake { self.new.intake ≡ self.old.intake }
     {
-        match self.early.get(self.met) {
+        match self.early.jobs.get(self.met) {
             Some(next) if is_same_job(next, job) => {
                 self.met += 1;
                 Ok(())
@@ -163,7 +165,6 @@ impl<'a> Reading<'a> {
         ensures comments { self.new.comments ≡ self.old.comments }
         ensures intake { self.new.intake ≡ self.old.intake }
         ensures early { self.new.early ≡ self.old.early }
-        ensures before { self.new.before ≡ self.old.before }
         ensures met { self.new.met ≡ self.old.met }
     {
         self.left.push(reject)?;
@@ -183,11 +184,11 @@ impl<'a> Reading<'a> {
     ) -> Result<(), Halt>
         requires good { AreGood settings.now }
         requires small { known ≡ true → settings.now.origin < 2 ^ 33 }
-        requires marks { HasMarks self.old.intake.taken }
+        requires noted { IsNoted self.old.intake.taken }
         requires known { AreKnown nodes.now kinds.old }
         requires few { self.old.comments + 1 < 2 ^ 64 }
         ensures known { OnOk result (AreKnown nodes.now kinds.new) }
-        ensures marks { OnOk result (HasMarks self.new.intake.taken) }
+        ensures noted { OnOk result (IsNoted self.new.intake.taken) }
         ensures facts { OnOk result (self.new.facts ≡ self.old.facts) }
         ensures early { OnOk result (self.new.early ≡ self.old.early) }
         ensures comments { OnOk result (self.new.comments ≡ self.old.comments + count is_comment (found.entry ∷ [])) }
@@ -196,7 +197,7 @@ impl<'a> Reading<'a> {
         match found {
             Entry::Job(job) => {
                 let job = kinds.settle_one(alloc, nodes, job)?;
-                if job.account.submit < self.before {
+                if job.account.submit < self.early.before {
                     self.meet(&job)?;
                     return Ok(());
                 }
@@ -229,11 +230,11 @@ impl<'a> Reading<'a> {
     ) -> Result<(), Halt>
         requires good { AreGood settings.now }
         requires small { known ≡ true → settings.now.origin < 2 ^ 33 }
-        requires marks { HasMarks self.old.intake.taken }
+        requires noted { IsNoted self.old.intake.taken }
         requires known { AreKnown nodes.now kinds.old }
         requires few { self.old.comments + 1 < 2 ^ 64 }
         ensures known { OnOk result (AreKnown nodes.now kinds.new) }
-        ensures marks { OnOk result (HasMarks self.new.intake.taken) }
+        ensures noted { OnOk result (IsNoted self.new.intake.taken) }
         ensures facts { OnOk result (self.new.facts ≡ self.old.facts) }
         ensures early { OnOk result (self.new.early ≡ self.old.early) }
         ensures comments { OnOk result (self.new.comments ≡ self.old.comments + count is_comment tasks.entry.items) }
@@ -261,11 +262,11 @@ impl<'a> Reading<'a> {
     ) -> Result<(), Halt>
         requires good { AreGood settings.now }
         requires small { known ≡ true → settings.now.origin < 2 ^ 33 }
-        requires marks { HasMarks self.old.intake.taken }
+        requires noted { IsNoted self.old.intake.taken }
         requires known { AreKnown nodes.now kinds.old }
         requires few { self.old.comments + 1 < 2 ^ 64 }
         ensures known { OnOk result (AreKnown nodes.now kinds.new) }
-        ensures marks { OnOk result (HasMarks self.new.intake.taken) }
+        ensures noted { OnOk result (IsNoted self.new.intake.taken) }
         ensures facts { OnOk result (self.new.facts ≡ self.old.facts) }
         ensures early { OnOk result (self.new.early ≡ self.old.early) }
         ensures comments { OnOk result (self.new.comments ≡ self.old.comments + count is_comment (entries_in found.entry)) }
@@ -293,8 +294,8 @@ impl<'a> Reading<'a> {
     ) -> Result<bool, Halt>
         requires good { AreGood settings.now }
         requires small { known ≡ true → settings.now.origin < 2 ^ 33 }
-        requires marks { HasMarks self.old.intake.taken }
-        ensures marks { OnOk result (HasMarks self.new.intake.taken) }
+        requires noted { IsNoted self.old.intake.taken }
+        ensures noted { OnOk result (IsNoted self.new.intake.taken) }
         ensures facts { OnOk result (self.new.facts ≡ self.old.facts) }
         ensures early { OnOk result (self.new.early ≡ self.old.early) }
         ensures comments { OnOk result (self.new.comments ≡ self.old.comments) }
@@ -304,7 +305,7 @@ impl<'a> Reading<'a> {
     {
         match read {
             Ok(Some(Entries::One(Entry::Job(job)))) if known && !are_mixed(nodes) => {
-                if job.account.submit < self.before {
+                if job.account.submit < self.early.before {
                     self.meet(job)?;
                     return Ok(true);
                 }
@@ -313,6 +314,49 @@ impl<'a> Reading<'a> {
             }
             _ => Ok(false),
         }
+    }
+
+    // Passes over the next line if it was read ahead, as that of the next early job, and says whether it does.
+    #[inline(always)]
+    fn pass_next(&mut self, nodes: &[NodeText], walk: &mut Walk<'a>) -> bool
+        requires alike { are_mixed nodes.now ≡ false }
+        requires ahead { AreAhead self.old.early.ahead self.old.early.jobs.items }
+        ensures early { self.new.early ≡ self.old.early }
+        ensures intake { self.new.intake ≡ self.old.intake }
+        ensures facts { self.new.facts ≡ self.old.facts }
+        ensures comments { self.new.comments ≡ self.old.comments }
+        ensures shorter { result ≡ true → walk.new.bytes < walk.old.bytes }
+        ensures stays { result ≡ false → (self.new ≡ self.old) × (walk.new ≡ walk.old) }
+        ensures read { result ≡ true → (s : Settings) → (o : Options) → (es : List Entry) → IsReadOf s o nodes.now es walk.old.entries self.old → IsReadOf s o nodes.now es walk.new.entries self.new }
+    {
+        let early = &self.early;
+        let place = self.met;
+        match early.jobs.get(place) {
+            Some(next) if next.account.submit < early.before => {}
+            _ => return false,
+        }
+        if !walk.pass(&early.ahead, &early.jobs, place) {
+            return false;
+        }
+        self.met = place + 1;
+        true
+    }
+
+    // Passes over lines that were read ahead, as long as each is that of the next early job.
+    #[inline(always)]
+    fn pass_ahead(&mut self, nodes: &[NodeText], walk: &mut Walk<'a>)
+        requires { IsAhead nodes.now self.old.early }
+        ensures early { self.new.early ≡ self.old.early }
+        ensures intake { self.new.intake ≡ self.old.intake }
+        ensures facts { self.new.facts ≡ self.old.facts }
+        ensures comments { self.new.comments ≡ self.old.comments }
+        ensures within { walk.new.bytes ≤ walk.old.bytes }
+        ensures read { (s : Settings) → (o : Options) → (es : List Entry) → IsReadOf s o nodes.now es walk.old.entries self.old → IsReadOf s o nodes.now es walk.new.entries self.new }
+    {
+        if are_mixed(nodes) {
+            return;
+        }
+        while self.pass_next(nodes, walk) {}
     }
 
     /// What the lines say that are not read yet, until so many jobs are held back as may be, and whether there are no other lines.
@@ -328,11 +372,12 @@ impl<'a> Reading<'a> {
     ) -> Result<bool, Halt>
         requires good { AreGood settings.now }
         requires small { known ≡ true → settings.now.origin < 2 ^ 33 }
-        requires marks { HasMarks self.old.intake.taken }
+        requires noted { IsNoted self.old.intake.taken }
         requires known { AreKnown nodes.now kinds.old }
         requires few { self.old.comments + walk.old.bytes < 2 ^ 64 }
+        requires ahead { IsAhead nodes.now self.old.early }
         ensures known { OnOk result (AreKnown nodes.now kinds.new) }
-        ensures marks { OnOk result (HasMarks self.new.intake.taken) }
+        ensures noted { OnOk result (IsNoted self.new.intake.taken) }
         ensures facts { OnOk result (self.new.facts ≡ self.old.facts) }
         ensures early { OnOk result (self.new.early ≡ self.old.early) }
         ensures few { IfOk result (λ ended. ended ≡ false → self.new.comments + walk.new.bytes ≤ self.old.comments + walk.old.bytes) }
@@ -340,6 +385,7 @@ impl<'a> Reading<'a> {
         ensures read { IfOk result (λ ended. (x : ℕ) → (known ≡ true → x ≡ settings.now.origin) → (o : Options) → (es : List Entry) → IsReadOf (begun_at settings.now x) o nodes.now es walk.old.entries self.old → IsReadOf (begun_at settings.now x) o nodes.now es (behind ended walk.new.entries) self.new) }
     {
         while self.intake.waiting.held.len() < most {
+            self.pass_ahead(nodes, walk);
             let read = walk.next(alloc);
             if self.passes(alloc, settings, nodes, known, &read)? {
                 continue;
@@ -356,8 +402,8 @@ impl<'a> Reading<'a> {
     fn release(&mut self, alloc: Global, settings: &Settings, left: usize) -> Result<(), Halt>
         requires good { AreGood settings.now }
         requires small { settings.now.origin < 2 ^ 33 }
-        requires marks { HasMarks self.old.intake.taken }
-        ensures marks { OnOk result (HasMarks self.new.intake.taken) }
+        requires noted { IsNoted self.old.intake.taken }
+        ensures noted { OnOk result (IsNoted self.new.intake.taken) }
         ensures few { OnOk result (length self.new.intake.waiting.held.items ≤ left) }
         ensures facts { OnOk result (self.new.facts ≡ self.old.facts) }
         ensures early { OnOk result (self.new.early ≡ self.old.early) }
@@ -372,8 +418,8 @@ impl<'a> Reading<'a> {
     fn release_most(&mut self, alloc: Global, settings: &Settings) -> Result<(), Halt>
         requires good { AreGood settings.now }
         requires small { settings.now.origin < 2 ^ 33 }
-        requires marks { HasMarks self.old.intake.taken }
-        ensures marks { OnOk result (HasMarks self.new.intake.taken) }
+        requires noted { IsNoted self.old.intake.taken }
+        ensures noted { OnOk result (IsNoted self.new.intake.taken) }
         ensures few { OnOk result (length self.new.intake.waiting.held.items ≤ 65536) }
         ensures facts { OnOk result (self.new.facts ≡ self.old.facts) }
         ensures early { OnOk result (self.new.early ≡ self.old.early) }
@@ -401,15 +447,16 @@ impl<'a> Reading<'a> {
     ) -> Result<(), Halt>
         requires good { AreGood settings.now }
         requires small { settings.now.origin < 2 ^ 33 }
-        requires marks { HasMarks self.old.intake.taken }
+        requires noted { IsNoted self.old.intake.taken }
         requires known { AreKnown nodes.now kinds.old }
         requires few { ended ≡ false → self.old.comments + walk.old.bytes < 2 ^ 64 }
+        requires ahead { IsAhead nodes.now self.old.early }
         ensures known { OnOk result (AreKnown nodes.now kinds.new) }
         ensures read { OnOk result ((o : Options) → (es : List Entry) → IsReadOf settings.now o nodes.now es (behind ended walk.old.entries) self.old → IsRead settings.now o nodes.now es self.new) }
         ensures none { OnOk result (self.new.intake.waiting.held.items ≡ []) }
         ensures facts { OnOk result (self.new.facts ≡ self.old.facts) }
         ensures early { OnOk result (self.new.early ≡ self.old.early) }
-        ensures met { OnOk result (length self.new.early.items ≤ self.new.met) }
+        ensures met { OnOk result (length self.new.early.jobs.items ≤ self.new.met) }
     {
         let mut done = ended;
         while !done {
@@ -417,7 +464,7 @@ impl<'a> Reading<'a> {
             done = self.add_lines(alloc, kinds, settings, nodes, true, MOST_HELD, walk)?;
         }
         self.release(alloc, settings, 0)?;
-        if self.met < self.early.len() {
+        if self.met < self.early.jobs.len() {
             return Err(Halt::OutOfTurn);
         }
         Ok(())

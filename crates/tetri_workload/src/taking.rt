@@ -1,13 +1,15 @@
 // The jobs that are taken.
-ghost use Rattle.std.specs.Prelude.{◌≡◌, ◌<◌, ◌++◌, ◌∷◌, [], IfOk, OnOk, false, is_some, length, map, slice_get, string_bytes};
+ghost use Rattle.std.specs.Prelude.{◌≡◌, ◌<◌, ◌++◌, ◌∷◌, [], IfOk, List, OnOk, Option, false, is_some, length, map, slice_get, string_bytes, true, ℕ};
 ghost use Rattle.tetri_trace.specs.Scenario.{job_names, submission};
 ghost use Rattle.tetri_cluster.specs.Names.{is_among, number_of};
 ghost use Rattle.tetri_logs.specs.Options.{AreGood};
 ghost use Rattle.tetri_logs.specs.Placing.{IsPlaced};
-ghost use Rattle.tetri_workload.specs.Marks.{AreMarked};
-ghost use Rattle.tetri_workload.specs.Taking.{HasMarks, again, again_mark, again_name, end_of, events_of, is_full, is_second, kept, left_out, named, nothing_taken, rounded_of, so_far, submitted, taken, taken_all, with_logged};
+ghost use Rattle.tetri_logs.specs.declared.entry.Cause.TheVariants.{Beyond};
+ghost use Rattle.tetri_logs.specs.declared.placing.Placing.{Placing};
+ghost use Rattle.tetri_workload.specs.Notes.{again_mark, again_name};
+ghost use Rattle.tetri_workload.specs.Taking.{IsNoted, again, end_of, events_of, is_beyond, is_full, is_second, kept, left_out, named, nothing_taken, rounded_of, so_far, submitted, taken, taken_all, with_logged};
 
-use crate::marks::{Marks, place_of_name};
+use crate::notes::Notes;
 use std::alloc::{AllocError, Global};
 use tetri_logs::{Cause, JobName, LoggedJob, Placing, Reject, SetText, Settings, place};
 use tetri_trace::{Event, Happening, Job, Jobs, Work};
@@ -28,8 +30,7 @@ pub struct Taken {
     pub rounded: Vec<usize>,
     /// The set of each job.
     pub sets: Vec<SetText>,
-    // A mark for the name of each job.
-    marks: Marks,
+    notes: Notes,
 }
 
 // The jobs that a trace has at most.
@@ -52,9 +53,9 @@ impl Taken {
     /// No jobs.
     pub(crate) fn new(alloc: Global) -> Result<Taken, AllocError>
         ensures tally { IfOk result (λ t. so_far t ≡ nothing_taken) }
-        ensures marks { IfOk result HasMarks }
+        ensures noted { IfOk result IsNoted }
     {
-        let marks = Marks::new(alloc)?;
+        let notes = Notes::new(alloc)?;
         Ok(Taken {
             jobs: Jobs::new(alloc),
             submits: Vec::new(alloc),
@@ -63,18 +64,18 @@ impl Taken {
             until: 1,
             rounded: Vec::new(alloc),
             sets: Vec::new(alloc),
-            marks,
+            notes,
         })
     }
 
     // The number of the job with a name, which most names that no job has need not be looked up for.
     #[tactic(auto, using(crate::proofs::MarkLemmas::not_among, crate::proofs::MarkLemmas::not_found))]
     fn find(&self, name: &[u8]) -> Option<u32>
-        requires { HasMarks self.now }
+        requires { IsNoted self.now }
         ensures value { result ≡ number_of name.now (job_names (map submission self.now.jobs)) }
         ensures found { is_some result ≡ is_among name.now (job_names (map submission self.now.jobs)) }
     {
-        if !self.marks.has(place_of_name(name)) {
+        if !self.notes.may_have(name) {
             return None;
         }
         self.jobs.find(name)
@@ -87,37 +88,62 @@ impl Taken {
         settings.most as usize <= self.jobs.len() || MOST_JOBS <= self.jobs.len()
     }
 
+    // Whether more jobs are wanted than a trace has at most, and so many are there.
+    #[inline(always)]
+    fn is_beyond(&self, settings: &Settings) -> bool
+        ensures { result ≡ is_beyond settings.now (so_far self.now) }
+    {
+        MOST_JOBS <= self.jobs.len() && self.jobs.len() < settings.most as usize
+    }
+
+    /// Whether the trace is full and each job with a place that is submitted in this second is left out as one more than it takes, whatever its name is.
+    #[inline(always)]
+    pub(crate) fn has_no_room(&self, settings: &Settings, submit: u32) -> bool
+        requires { IsNoted self.now }
+        ensures full { result ≡ true → is_full settings.now (so_far self.now) ≡ true }
+        ensures beyond { result ≡ true → (line : ℕ) → (name set : List ℕ) → (p : Placing) → (number : Option ℕ) → named settings.now (so_far self.now) line submit name set p number ≡ left_out (so_far self.now) line Beyond }
+    {
+        if !self.is_beyond(settings) {
+            return false;
+        }
+        self.notes.are_before(submit)
+    }
+
     /// A job that is left out.
     pub(crate) fn leave(&mut self, line: usize, cause: Cause) -> Result<(), AllocError>
         ensures tally { OnOk result (so_far self.new ≡ left_out (so_far self.old) line cause) }
-        ensures marks { HasMarks self.old → OnOk result (HasMarks self.new) }
+        ensures noted { IsNoted self.old → OnOk result (IsNoted self.new) }
     {
         self.left.push(Reject { line, cause })?;
         Ok(())
     }
 
-    // A job that is taken under a name.
+    // A job that is taken under a name, which says whether it was submitted again.
     fn take(
         &mut self,
         alloc: Global,
         job: &LoggedJob<'_>,
         name: &JobName<'_>,
+        again: bool,
         placing: &Placing,
     ) -> Result<(), AllocError>
+        requires again { again ≡ true → (first : List ℕ) × (name.now ≡ again_name first job.now.account.submit) }
         requires few { length self.old.jobs < 100000 }
         requires new { is_among name.now (job_names (map submission self.old.jobs)) ≡ false }
         requires placed { IsPlaced placing.now }
-        requires marks { HasMarks self.old }
+        requires noted { IsNoted self.old }
         ensures tally { OnOk result (so_far self.new ≡ taken (so_far self.old) job.now.line job.now.account.submit name.now job.now.set placing.now) }
-        ensures marks { OnOk result (HasMarks self.new) }
+        ensures noted { OnOk result (IsNoted self.new) }
     {
         let number = self.jobs.len() as u32;
-        add_job(alloc, &mut self.jobs, &mut self.marks, name, placing)?;
+        add_job(alloc, &mut self.jobs, name, placing)?;
+        self.notes.add(name.bytes(), job.account.submit, again);
         self.submits.push(job.account.submit)?;
         self.sets.push(job.set.share()?)?;
         add_events(&mut self.events, number, placing)?;
         self.until = self.until.max(end_of(placing));
-        add_rounded(&mut self.rounded, job.line, placing)
+        add_rounded(&mut self.rounded, job.line, placing)?;
+        Ok(())
     }
 
     // A job that is taken under a name unless so many are there as are wanted or possible.
@@ -127,13 +153,15 @@ impl Taken {
         settings: &Settings,
         job: &LoggedJob<'_>,
         name: &JobName<'_>,
+        again: bool,
         placing: &Placing,
     ) -> Result<(), AllocError>
+        requires again { again ≡ true → (first : List ℕ) × (name.now ≡ again_name first job.now.account.submit) }
         requires new { is_among name.now (job_names (map submission self.old.jobs)) ≡ false }
         requires placed { IsPlaced placing.now }
-        requires marks { HasMarks self.old }
+        requires noted { IsNoted self.old }
         ensures tally { OnOk result (so_far self.new ≡ kept settings.now (so_far self.old) job.now.line job.now.account.submit name.now job.now.set placing.now) }
-        ensures marks { OnOk result (HasMarks self.new) }
+        ensures noted { OnOk result (IsNoted self.new) }
     {
         if settings.most as usize <= self.jobs.len() {
             return self.leave(job.line, Cause::Outside);
@@ -141,7 +169,7 @@ impl Taken {
         if MOST_JOBS <= self.jobs.len() {
             return self.leave(job.line, Cause::Beyond);
         }
-        self.take(alloc, job, name, placing)
+        self.take(alloc, job, name, again, placing)
     }
 
     // A job that was submitted again, under this name.
@@ -153,10 +181,11 @@ impl Taken {
         name: &[u8],
         placing: &Placing,
     ) -> Result<(), AllocError>
+        requires again { (first : List ℕ) × (name.now ≡ again_name first job.now.account.submit) }
         requires placed { IsPlaced placing.now }
-        requires marks { HasMarks self.old }
+        requires noted { IsNoted self.old }
         ensures tally { OnOk result (so_far self.new ≡ again settings.now (so_far self.old) job.now.line job.now.account.submit name.now job.now.set placing.now) }
-        ensures marks { OnOk result (HasMarks self.new) }
+        ensures noted { OnOk result (IsNoted self.new) }
     {
         let Some(name) = JobName::lent(name) else {
             return self.leave(job.line, Cause::Beyond);
@@ -164,7 +193,7 @@ impl Taken {
         if self.find(name.bytes()).is_some() {
             return self.leave(job.line, Cause::Repeated);
         }
-        self.keep(alloc, settings, job, &name, placing)
+        self.keep(alloc, settings, job, &name, true, placing)
     }
 
     // Whether a job was submitted in this second.
@@ -186,12 +215,12 @@ impl Taken {
         placing: &Placing,
     ) -> Result<(), AllocError>
         requires placed { IsPlaced placing.now }
-        requires marks { HasMarks self.old }
-        ensures marks { OnOk result (HasMarks self.new) }
+        requires noted { IsNoted self.old }
+        ensures noted { OnOk result (IsNoted self.new) }
         ensures tally { OnOk result (so_far self.new ≡ named settings.now (so_far self.old) job.now.line job.now.account.submit job.now.name job.now.set placing.now (number_of job.now.name (job_names (map submission self.old.jobs)))) }
     {
         match self.find(job.name.bytes()) {
-            None => self.keep(alloc, settings, job, &job.name, placing),
+            None => self.keep(alloc, settings, job, &job.name, false, placing),
             Some(number) => {
                 if self.is_second(number, job.account.submit) {
                     return self.leave(job.line, Cause::Repeated);
@@ -210,9 +239,9 @@ impl Taken {
         job: &LoggedJob<'_>,
     ) -> Result<(), AllocError>
         requires good { AreGood settings.now }
-        requires marks { HasMarks self.old }
+        requires noted { IsNoted self.old }
         ensures tally { OnOk result (so_far self.new ≡ with_logged settings.now (so_far self.old) job.now) }
-        ensures marks { OnOk result (HasMarks self.new) }
+        ensures noted { OnOk result (IsNoted self.new) }
     {
         match place(settings, &job.account) {
             Ok(placing) => self.add_placed(alloc, settings, job, &placing),
@@ -221,22 +250,18 @@ impl Taken {
     }
 }
 
-// A job under a name that no other has, which is marked.
+// A job under a name that no other has.
 fn add_job(
     alloc: Global,
     jobs: &mut Jobs,
-    marks: &mut Marks,
     name: &JobName<'_>,
     placing: &Placing,
 ) -> Result<(), AllocError>
     requires few { length jobs.old < 100000 }
     requires new { is_among name.now (job_names (map submission jobs.old)) ≡ false }
-    requires marks { AreMarked marks.old (job_names (map submission jobs.old)) }
-    ensures jobs { OnOk result (map submission jobs.new ≡ map submission jobs.old ++ submitted name.now placing.now ∷ []) }
-    ensures marks { OnOk result (AreMarked marks.new (job_names (map submission jobs.new))) }
+    ensures { OnOk result (map submission jobs.new ≡ map submission jobs.old ++ submitted name.now placing.now ∷ []) }
 {
     let name = name.owned(alloc)?;
-    marks.add(place_of_name(name.bytes()));
     jobs.push(Job {
         name,
         arrival: placing.arrival,

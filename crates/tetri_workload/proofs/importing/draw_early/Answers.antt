@@ -30,13 +30,13 @@ returns-clause-drawn c = λ es timed headed.
     let end = c.in_ok-finish.ensures in
     let r = c.finish.new.self in
     let last : IsRead s o nodes es r = end.read o es (before ++ line, append_assoc before line c.args.walk.now.entries ∙ headed.1, added) in
-    let early : r.early.items ≡ c.in_ok-jobs.jobs.items = ap (λ v. v.items) (end.early ∙ c.in_ok-add.ensures.early) ∙ c.in_ok-read.ensures.early in
-    let there : Contains r.early.items first = subst (λ js. Contains js first) (c.deref.ensures.value ∙ sym early) found.1 in
+    let early : r.early.jobs.items ≡ c.in_ok-jobs.jobs.items = ap (λ e. e.jobs.items) (end.early ∙ c.in_ok-add.ensures.early ∙ c.in_ok-read.ensures.early) in
+    let there : Contains r.early.jobs.items first = subst (λ js. Contains js first) (c.deref.ensures.value ∙ sym early) found.1 in
     let all = jobs_of nodes es in
-    let parts = r.early.items ++ jobs_from r.before all in
+    let parts = r.early.jobs.items ++ jobs_from r.early.before all in
     let has : Contains all first =
     Contains-permutation parts all first (IsPermutation-sym all parts (all_met s o nodes es r last end.met).moved)
-    (Contains-append_left r.early.items (jobs_from r.before all) first there) in
+    (Contains-append_left r.early.jobs.items (jobs_from r.early.before all) first there) in
     let facts : r.facts ≡ c.args.head.facts = end.facts ∙ c.in_ok-add.ensures.facts ∙ c.in_ok-read.ensures.facts in
     let settings : settings_of o (facts_in no_facts es) ≡ Ok draft = ap (settings_of o) (sym last.facts ∙ facts) ∙ c.requires.draft in
     let drawn = c.drawn_by.ensures in

@@ -47,15 +47,15 @@ returns-clause-drawn c = λ es timed headed.
     c.in_ok-ended.ensures.read second never o es (before ++ line, append_assoc before line c.args.walk.now.entries ∙ headed.1, added) in
     let rest = behind c.in_ok-ended.ended c.add_lines.new.walk.entries in
     let jobs = jobs_of nodes read.0 in
-    let later = jobs_from waits.before jobs in
-    let none : waits.early.items ≡ [] = ap (λ v. v.items) (c.in_ok-ended.ensures.early ∙ c.in_ok-add.ensures.early) ∙ c.in_ok-read.ensures.early in
+    let later = jobs_from waits.early.before jobs in
+    let none : waits.early.jobs.items ≡ [] = ap (λ v. v.jobs.items) (c.in_ok-ended.ensures.early ∙ c.in_ok-add.ensures.early) ∙ c.in_ok-read.ensures.early in
     let handled = read.2.handled in
-    let come : Contains (waits.early.items ++ later) first =
-    Contains-permutation (handled.0 ++ waiting) (waits.early.items ++ later) first (IsPermutation-sym (waits.early.items ++ later) (handled.0 ++ waiting) handled.1.moved.moved)
+    let come : Contains (waits.early.jobs.items ++ later) first =
+    Contains-permutation (handled.0 ++ waiting) (waits.early.jobs.items ++ later) first (IsPermutation-sym (waits.early.jobs.items ++ later) (handled.0 ++ waiting) handled.1.moved.moved)
     (Contains-append_right handled.0 waiting first waited) in
     let there : Contains jobs first =
-    Contains-permutation (jobs_before waits.before jobs ++ later) jobs first (IsPermutation-sym jobs (jobs_before waits.before jobs ++ later) (parted waits.before jobs).moved)
-    (Contains-append_right (jobs_before waits.before jobs) later first (subst (λ js. Contains (js ++ later) first) none come)) in
+    Contains-permutation (jobs_before waits.early.before jobs ++ later) jobs first (IsPermutation-sym jobs (jobs_before waits.early.before jobs ++ later) (parted waits.early.before jobs).moved)
+    (Contains-append_right (jobs_before waits.early.before jobs) later first (subst (λ js. Contains (js ++ later) first) none come)) in
     let has : Contains (jobs_of nodes es) first =
     subst (λ xs. Contains (jobs_of nodes xs) first) read.1
     (subst (λ js. Contains js first) (sym (jobs_of-append nodes read.0 rest)) (Contains-append_left jobs (jobs_of nodes rest) first there)) in

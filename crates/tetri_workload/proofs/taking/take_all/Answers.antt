@@ -12,5 +12,5 @@ loop-job-preserved c =
     let is : job ≡ get_or jobs i job = search (rules, c.job-item.is) in
     record {
       tally = c.in_ok-add.ensures.tally ∙ ap (λ t. with_logged s t job) c.loop-job.invariant.tally ∙ ap (with_logged s (taken_all s (take i jobs))) is ∙ sym (fold_more (with_logged s) nothing_taken jobs i job (omega arith));
-      marks = c.in_ok-add.ensures.marks;
+      noted = c.in_ok-add.ensures.noted;
     }

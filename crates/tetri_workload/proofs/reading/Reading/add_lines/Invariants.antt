@@ -4,7 +4,7 @@ use Rattle.tetri_logs.specs.declared.entry.Entry.{Entry}
 use Rattle.tetri_logs.specs.declared.options.Options.{Options}
 use Rattle.tetri_workload.specs.Known.{AreKnown}
 use Rattle.tetri_workload.specs.Reading.{IsReadOf}
-use Rattle.tetri_workload.specs.Taking.{HasMarks}
+use Rattle.tetri_workload.specs.Taking.{IsNoted}
 use Rattle.tetri_workload.proofs.reading.Reading.add_lines.Given as goal
 
 abbrev pub invariant-loop-alloc : goal.invariant-loop-alloc
@@ -13,7 +13,7 @@ invariant-loop-alloc l =
     let lines = l.fn.walk in
     record {
       known : AreKnown l.nodes l.kinds;
-      marks : HasMarks l.self.intake.taken;
+      noted : IsNoted l.self.intake.taken;
       facts : l.self.facts ≡ first.facts;
       early : l.self.early ≡ first.early;
       few : l.self.comments + l.walk.bytes ≤ first.comments + lines.bytes;

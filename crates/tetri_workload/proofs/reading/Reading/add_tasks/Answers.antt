@@ -20,7 +20,7 @@ loop-entry-preserved c =
     let no_comment : count is_comment one ≡ 0 = rw (sym c.if-is_comment.ensures) refl in
     record {
       known = added.known;
-      marks = added.marks;
+      noted = added.noted;
       facts = added.facts ∙ inv.facts;
       early = added.early ∙ inv.early;
       comments = omega (arith, added.comments, inv.comments, no_comment);

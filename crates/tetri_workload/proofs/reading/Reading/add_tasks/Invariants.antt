@@ -6,7 +6,7 @@ use Rattle.tetri_logs.specs.declared.entry.Entry.{Entry}
 use Rattle.tetri_logs.specs.declared.options.Options.{Options}
 use Rattle.tetri_workload.specs.Known.{AreKnown}
 use Rattle.tetri_workload.specs.Reading.{IsRead}
-use Rattle.tetri_workload.specs.Taking.{HasMarks}
+use Rattle.tetri_workload.specs.Taking.{IsNoted}
 use Rattle.tetri_workload.proofs.reading.Reading.add_tasks.Given as goal
 
 abbrev pub invariant-loop-entry : goal.invariant-loop-entry
@@ -14,7 +14,7 @@ invariant-loop-entry l =
     let first = l.fn.self in
     record {
       known : AreKnown l.nodes l.kinds;
-      marks : HasMarks l.self.intake.taken;
+      noted : IsNoted l.self.intake.taken;
       facts : l.self.facts ≡ first.facts;
       early : l.self.early ≡ first.early;
       comments : l.self.comments ≡ first.comments;

@@ -13,7 +13,7 @@ loop-done-preserved c =
     let more_lines : c.loop-done.done ≡ false = search (rules, c.loop-done-test.true) in
     record {
       known = added.known;
-      marks = added.marks;
+      noted = added.noted;
       facts = added.facts ∙ released.facts ∙ inv.facts;
       early = added.early ∙ released.early ∙ inv.early;
       few = λ more. omega (arith, added.few more, released.comments, inv.few more_lines);

@@ -3,13 +3,13 @@ use Rattle.tetri_logs.specs.declared.entry.Entry.{Entry}
 use Rattle.tetri_logs.specs.declared.options.Options.{Options}
 use Rattle.tetri_workload.specs.Known.{AreKnown}
 use Rattle.tetri_workload.specs.Reading.{IsReadOf, behind}
-use Rattle.tetri_workload.specs.Taking.{HasMarks}
+use Rattle.tetri_workload.specs.Taking.{IsNoted}
 use Rattle.tetri_workload.proofs.reading.Reading.finish.Given as goal
 
 abbrev pub invariant-loop-done : goal.invariant-loop-done
 invariant-loop-done l = record {
   known : AreKnown l.nodes l.kinds;
-  marks : HasMarks l.self.intake.taken;
+  noted : IsNoted l.self.intake.taken;
   facts : l.self.facts ≡ l.fn.self.facts;
   early : l.self.early ≡ l.fn.self.early;
   few : l.done ≡ false → l.self.comments + l.walk.bytes < 2 ^ 64;
