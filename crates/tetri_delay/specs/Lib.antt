@@ -1,0 +1,4 @@
+pub mod Charge
+pub mod Factors
+pub mod Charged
+pub mod Marks
