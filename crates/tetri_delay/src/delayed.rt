@@ -171,7 +171,9 @@ impl<C: Chooser> Delayed<C> {
         let charged = charged_instance(alloc, inst, rates, jobs)?;
         let rest = closed(alloc, charged, held)?;
         let known = others(alloc, &rest, carry, &has)?;
-        let plan = self.chooser.plan(alloc, &rest, &known, self.settings.effort)?;
+        let plan = self
+            .chooser
+            .plan(alloc, &rest, &known, self.settings.effort)?;
         beside(alloc, inst, held, plan.grants.as_slice())
     }
 
