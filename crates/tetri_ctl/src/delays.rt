@@ -34,7 +34,7 @@ pub fn with_delay<'a>(alloc: Global, command: Built<'a>) -> Built<'a> {
         flag(
             alloc,
             "keep-promise",
-            "with a cost of delay: the oldest job that was planned keeps its nodes",
+            "with a cost of delay: the oldest job, once it is planned, keeps its nodes",
         ),
     );
     with_word(
