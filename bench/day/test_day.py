@@ -2,8 +2,6 @@
 
 usage: python3 bench/day/test_day.py
 """
-import importlib.machinery
-import importlib.util
 import itertools
 import json
 import os
@@ -130,17 +128,9 @@ def best_of(offers, taken=frozenset()):
     return most
 
 
-def rules():
-    """The rules of tetri in plain Python."""
-    loader = importlib.machinery.SourceFileLoader("rules", os.path.join(workloads.TOP, "trials", "rules"))
-    module = importlib.util.module_from_spec(importlib.util.spec_from_loader("rules", loader))
-    loader.exec_module(module)
-    return module
-
-
 class AllRuns(unittest.TestCase):
     def test_nothing_earns_more_than_the_bound(self):
-        plain, met = rules(), 0
+        plain, met = workloads.trial("rules"), 0
         for number in range(CASES):
             text, offers = random_day(random.Random("day/%d" % number))
             limit, best = bound_of(text, 100), best_of(offers)

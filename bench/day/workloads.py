@@ -9,7 +9,7 @@ from figures import called
 
 HERE = os.path.dirname(os.path.abspath(__file__))
 TOP = os.path.dirname(os.path.dirname(HERE))
-RACKS = os.path.join(TOP, "bench", "prices", "racks")
+RACKS, ASKS, QUEUE = os.path.join(TOP, "bench", "prices", "racks"), os.path.join(HERE, "asks"), os.path.join(HERE, "queue")
 CLUSTER = os.path.join(TOP, "examples", "cluster.swf")
 BUDGET = 1      # of a search, in each header: plans with a cost of delay need it
 
@@ -21,33 +21,17 @@ class Workload:
         self.name, self.title, self.seeds, self.make = name, title, seeds, make
 
 
-def script(path, *words, seed, budget=BUDGET):
-    """The trace that a maker writes."""
-    return called([path, *map(str, words), str(seed), str(budget)])
+def script(path, words):
+    """What writes the trace of a seed by a maker with these words."""
+    return lambda seed: called([path, *words.split(), str(seed), str(BUDGET)])
 
 
-def racks(seed):
-    return script(RACKS, 64, 120, 8, 2, seed=seed)
-
-
-def mixed(jobs):
-    return lambda seed: script(RACKS, 64, 160, 8, jobs, seed=seed)
-
-
-def asks(seed):
-    return script(os.path.join(HERE, "asks"), 32, 120, 8, 1.0, seed=seed)
-
-
-def queue(seed):
-    return script(os.path.join(HERE, "queue"), 32, 300, 1.0, 16, seed=seed)
-
-
-def made_log(jobs, seed):
-    """A log as `trials/waiting` draws it."""
-    loader = importlib.machinery.SourceFileLoader("waiting", os.path.join(TOP, "trials", "waiting"))
-    module = importlib.util.module_from_spec(importlib.util.spec_from_loader("waiting", loader))
+def trial(name):
+    """A script of trials as a module."""
+    loader = importlib.machinery.SourceFileLoader(name, os.path.join(TOP, "trials", name))
+    module = importlib.util.module_from_spec(importlib.util.spec_from_loader(name, loader))
     loader.exec_module(module)
-    return module.made_log(jobs, seed)
+    return module
 
 
 def imported(program, log, options):
@@ -59,7 +43,7 @@ def imported(program, log, options):
 def imported_log(program, folder, jobs, seed, options):
     """The trace of a made log."""
     path = os.path.join(folder, "log-%d-%d.swf" % (jobs, seed))
-    return imported(program, kept(path, lambda: made_log(jobs, seed).encode()), options)
+    return imported(program, kept(path, lambda: trial("waiting").made_log(jobs, seed).encode()), options)
 
 
 def workloads(program, folder):
@@ -67,12 +51,12 @@ def workloads(program, folder):
     made = {"slot": 300, "slack": 24, "window": 8, "budget": BUDGET, "class": "steady", "worth": "node-slots"}
     cluster = {**made, "slack": 12, "window": 4}
     return [
-        Workload("racks", "racks, 2 jobs a slot", range(1, 7), racks),
-        Workload("mixed-1.0", "racks, 1 job a slot", range(1, 5), mixed("1")),
-        Workload("mixed-1.25", "racks, 1.25 jobs a slot", range(1, 5), mixed("1.25")),
-        Workload("mixed-1.5", "racks, 1.5 jobs a slot", range(1, 5), mixed("1.5")),
-        Workload("asks", "asks with deadlines and preferred nodes", range(1, 7), asks),
-        Workload("queue", "a queue without deadlines", range(1, 7), queue),
+        Workload("racks", "racks, 2 jobs a slot", range(1, 7), script(RACKS, "64 120 8 2")),
+        Workload("mixed-1.0", "racks, 1 job a slot", range(1, 5), script(RACKS, "64 160 8 1")),
+        Workload("mixed-1.25", "racks, 1.25 jobs a slot", range(1, 5), script(RACKS, "64 160 8 1.25")),
+        Workload("mixed-1.5", "racks, 1.5 jobs a slot", range(1, 5), script(RACKS, "64 160 8 1.5")),
+        Workload("asks", "asks with deadlines and preferred nodes", range(1, 7), script(ASKS, "32 120 8 1.0")),
+        Workload("queue", "a queue without deadlines", range(1, 7), script(QUEUE, "32 300 1.0 16")),
         Workload("logs", "made logs", range(1, 16), lambda seed: imported_log(program, folder, 100, seed, made)),
         Workload("cluster", "`examples/cluster.swf`", [0], lambda _: imported(program, CLUSTER, cluster)),
     ]
