@@ -1,9 +1,12 @@
 """The figures of a run, as `tetri_ctl stats` and `tetri_ctl jobs` tell them."""
 import json
+import math
 import re
 import subprocess
 
-TEN_MINUTES, SLOT = 600, 300       # seconds: a run that is shorter counts as ten minutes in a slowdown; a slot, where the header does not say
+TEN_MINUTES = 600       # seconds
+# What these figures are called by `stats`. One that does not tell them leaves them to `waits_of_all`.
+TOLD = {"wait of all": "all jobs wait mean", "wait of wide": "wide jobs wait mean", "slowdown": "bounded slowdown mean"}
 
 
 def called(words, given=None):
@@ -22,9 +25,11 @@ def lines_in(data):
 def figures_of(program, trace, run):
     """The figures of a run of the trace by a report, or by a policy where `run` is `--policy` and its name."""
     told = {line["figure"]: line["all"] for line in lines_in(called([program, "stats", trace, *run, "--format", "jsonl"]))}
-    rows = lines_in(called([program, "jobs", trace, *run, "--format", "jsonl"]))
-    with open(trace, "rb") as file:
-        lines = lines_in(file.read())
+    if all(name in told for name in TOLD.values()):
+        waits = {figure: number(told[name]) for figure, name in TOLD.items()}
+    else:
+        with open(trace, "rb") as file:
+            waits = waits_of_all(lines_in(called([program, "jobs", trace, *run, "--format", "jsonl"])), lines_in(file.read()))
     return {
         "earned": told["worth launched"],
         "offered": told["worth offered"],
@@ -33,7 +38,7 @@ def figures_of(program, trace, run):
         "wait": number(told["wait mean"]),
         "longest wait": number(told["wait greatest"]),
         "use": 100 * number(told["use"]),
-        **waits_of_all(rows, lines),
+        **waits,
     }
 
 
@@ -43,16 +48,15 @@ def number(value):
 
 
 def waits_of_all(rows, lines):
-    """What the rows of jobs tell beyond `stats`: the mean wait of all jobs, of which one that never started waited until it expired, was cancelled or the
-    run ended; the same of wide jobs, which want a quarter of the nodes or more; and the slowdown of the jobs that ran to their end, bounded at ten minutes."""
+    """What the rows of jobs tell beyond `stats`: the mean wait of all launches and of all jobs without one that were not cancelled, which waited until they
+    expired or the run ended; the same of wide jobs, which want a quarter of the nodes or more; and the slowdown of launches, bounded at ten minutes."""
     header, wanted = lines[0], {line["arrive"]: nodes_wanted(line) for line in lines[1:] if "arrive" in line}
-    first = {}
-    for row in rows:
-        first.setdefault(row["job"], row["wait"])
-    wide = [wait for job, wait in first.items() if 4 * wanted[job] >= len(header["nodes"])]
-    least = TEN_MINUTES / header.get("slot_seconds", SLOT)
-    slowdowns = [slowdown(row["wait"], row["end"] - row["start"], least) for row in rows if row["outcome"] in ("ran", "overran")]
-    return {"wait of all": mean(first.values()), "wait of wide": mean(wide), "slowdown": mean(slowdowns)}
+    waiters = [row for row in rows if row["start"] is not None or row["outcome"] != "cancelled"]
+    wide = [row["wait"] for row in waiters if 4 * wanted[row["job"]] >= len(header["nodes"])]
+    least = math.ceil(TEN_MINUTES / header.get("slot_seconds", TEN_MINUTES))
+    ends = [(row, header["until"] if row["end"] is None else row["end"]) for row in rows if row["start"] is not None]
+    slowdowns = [slowdown(row["wait"], end - row["start"], least) for row, end in ends]
+    return {"wait of all": mean(row["wait"] for row in waiters), "wait of wide": mean(wide), "slowdown": mean(slowdowns)}
 
 
 def nodes_wanted(arrival):

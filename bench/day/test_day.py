@@ -145,16 +145,16 @@ class AllRuns(unittest.TestCase):
 
 class Figures(unittest.TestCase):
     def test_waits_of_all(self):
-        header = {"nodes": [{"name": name} for name in "abcdefgh"], "slot_seconds": 300}
+        header = {"nodes": [{"name": name} for name in "abcdefgh"], "slot_seconds": 300, "until": 9}
         lines = [header, {"at": 0, "arrive": "short", "ask": {"k": 1}}, {"at": 0, "arrive": "wide", "strl": "max(nCk({a,b},1,0,1,2), nCk(*,2,0,1,1))"},
-                 {"at": 0, "arrive": "gone", "ask": {"k": 8}}, {"at": 1, "cancel": "gone"}]
-        rows = [{"job": "short", "outcome": "ran", "wait": 3, "start": 3, "end": 4}, {"job": "wide", "outcome": "overran", "wait": 0, "start": 0, "end": 5},
-                {"job": "gone", "outcome": "expired", "wait": 9, "start": None, "end": 9}]
-        # A run of one slot counts as ten minutes, two slots: (3 + 1) / 2, and the other waited not at all.
-        self.assertEqual(figures.waits_of_all(rows, lines), {"wait of all": 4.0, "wait of wide": 4.5, "slowdown": 1.5})
+                 {"at": 0, "arrive": "late", "ask": {"k": 8}}, {"at": 0, "arrive": "gone", "ask": {"k": 8}}, {"at": 1, "cancel": "gone"}]
+        rows = [{"job": "short", "outcome": "ran", "wait": 3, "start": 3, "end": 4}, {"job": "wide", "outcome": "running", "wait": 5, "start": 5, "end": None},
+                {"job": "late", "outcome": "expired", "wait": 7, "start": None, "end": 7}, {"job": "gone", "outcome": "cancelled", "wait": 1, "start": None, "end": 1}]
+        # A run of one slot counts as ten minutes, two slots, (3 + 1) / 2; the other runs for four slots until the run ends, (5 + 4) / 4.
+        self.assertEqual(figures.waits_of_all(rows, lines), {"wait of all": 5.0, "wait of wide": 6.0, "slowdown": 2.125})
 
     def test_of_nothing(self):
-        self.assertEqual(figures.waits_of_all([], [{"nodes": []}]), {"wait of all": 0.0, "wait of wide": 0.0, "slowdown": 0.0})
+        self.assertEqual(figures.waits_of_all([], [{"nodes": [], "until": 1}]), {"wait of all": 0.0, "wait of wide": 0.0, "slowdown": 0.0})
 
 
 class Makers(unittest.TestCase):
