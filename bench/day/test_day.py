@@ -176,11 +176,11 @@ class Makers(unittest.TestCase):
             self.assertGreaterEqual(ask["dur"] + line["late"], 1)
 
     def test_asks(self):
-        lines = self.lines("asks", 32, 120, 8, 1.0, 2, 5)
-        self.assertGreaterEqual(sum(line["ask"]["k"] * line["ask"]["dur"] for line in lines[1:]), 32 * 120)
+        lines = self.lines("asks", 64, 120, 8, 1.25, 2, 5)
+        self.assertGreaterEqual(sum(line["ask"]["k"] * line["ask"]["dur"] for line in lines[1:]), 1.25 * 64 * 120)
         for line in lines[1:]:
             ask = line["ask"]
-            self.assertTrue(ask["dur"] <= ask["deadline"] <= 3 * ask["dur"] and ask["prefer"]["dur"] <= ask["dur"] and ask["k"] <= 8)
+            self.assertTrue(ask["dur"] <= ask["deadline"] <= 3 * ask["dur"] and ask["prefer"]["dur"] <= ask["dur"] and ask["k"] <= 16)
 
     def test_header(self):
         self.assertEqual(workloads.with_header(b'{"window":8,"budget":1}\n{"at":0}\n', {"window": 2}), b'{"window":2,"budget":1}\n{"at":0}\n')

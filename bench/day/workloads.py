@@ -55,7 +55,7 @@ def workloads(program, folder):
         Workload("mixed-1.0", "racks, 1 job a slot", range(1, 5), script(RACKS, "64 160 8 1")),
         Workload("mixed-1.25", "racks, 1.25 jobs a slot", range(1, 5), script(RACKS, "64 160 8 1.25")),
         Workload("mixed-1.5", "racks, 1.5 jobs a slot", range(1, 5), script(RACKS, "64 160 8 1.5")),
-        Workload("asks", "asks with deadlines and preferred nodes", range(1, 7), script(ASKS, "32 120 8 1.0")),
+        Workload("asks", "asks with deadlines and preferred nodes", range(1, 7), script(ASKS, "64 120 8 1.25")),
         Workload("queue", "a queue without deadlines", range(1, 7), script(QUEUE, "32 300 1.0 16")),
         Workload("logs", "made logs", range(1, 16), lambda seed: imported_log(program, folder, 100, seed, made)),
         Workload("cluster", "`examples/cluster.swf`", [0], lambda _: imported(program, CLUSTER, cluster)),
