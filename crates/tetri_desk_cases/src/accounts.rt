@@ -8,8 +8,7 @@ use std::alloc::{AllocError, Global};
 use std::fmt::Write;
 use tetri_accounts::{Account, account_policy, account_report};
 use tetri_figures::{
-    Bounds, By, Compared, Format, PricedSums, clocked_compare_text, clocked_stats_text, jobs_text,
-    slot_seconds_of, tags_of,
+    Bounds, By, Compared, Format, PricedSums, compare_text, jobs_text, slot_seconds_of, tags_of,
 };
 use tetri_io::{MemShelf, MemSink};
 use tetri_policy::Policy;
@@ -180,7 +179,7 @@ fn stats_told(
 {
     let tags = tags_of(alloc, shelf, "trace")?;
     let slot_seconds = slot_seconds_of(alloc, shelf, "trace")?;
-    clocked_stats_text(
+    stats_text(
         alloc,
         trace,
         slot_seconds,
@@ -205,7 +204,7 @@ fn both_told(
     let mut runs = Vec::new(alloc);
     put(alloc, "one", first, &mut runs)?;
     put(alloc, "two", second, &mut runs)?;
-    clocked_compare_text(alloc, trace, slot_seconds, &runs, format)
+    compare_text(alloc, trace, slot_seconds, &runs, format)
 }
 
 // The report beside itself.

@@ -139,21 +139,9 @@ fn moved_text(
     columns_text(alloc, "start of", &names, &columns, format)
 }
 
-/// Runs of one trace beside one another: their figures, and the starts of the jobs that moved most. It is not known how long a slot is. Its
-/// only error is want of memory.
+/// Runs of one trace, whose slots have so many seconds, if that is known, beside one another: their figures, and the starts of the jobs that
+/// moved most. Its only error is want of memory.
 pub fn compare_text(
-    alloc: Global,
-    trace: &Trace,
-    runs: &[Compared],
-    format: Format,
-) -> Result<Vec<u8>, AllocError>
-    requires { IsSound (scenario trace.now) }
-{
-    clocked_compare_text(alloc, trace, None, runs, format)
-}
-
-/// The same where a slot has so many seconds, if that is known. Its only error is want of memory.
-pub fn clocked_compare_text(
     alloc: Global,
     trace: &Trace,
     slot_seconds: Option<u64>,

@@ -19,8 +19,8 @@ mod wide;
 
 pub use bounds::{Bounds, PricedSums};
 pub use clock::slot_seconds_of;
-pub use compare::{Compared, clocked_compare_text, compare_text};
+pub use compare::{Compared, compare_text};
 pub use format::Format;
 pub use jobs::jobs_text;
-pub use stats::{By, clocked_stats_text, stats_text};
+pub use stats::{By, stats_text};
 pub use tags::tags_of;

@@ -214,23 +214,9 @@ fn add_classes(
     Ok(())
 }
 
-/// The figures of a run of the trace: of all of it, and of each group. It is not known how long a slot is. Its only error is want of memory.
+/// The figures of a run of the trace, whose slots have so many seconds, if that is known: of all of it, and of each group. Its only error is
+/// want of memory.
 pub fn stats_text(
-    alloc: Global,
-    trace: &Trace,
-    account: &Account,
-    bounds: Bounds,
-    by: By,
-    tags: &[String],
-    format: Format,
-) -> Result<Vec<u8>, AllocError>
-    requires { IsSound (scenario trace.now) }
-{
-    clocked_stats_text(alloc, trace, None, account, bounds, by, tags, format)
-}
-
-/// The same where a slot has so many seconds, if that is known. Its only error is want of memory.
-pub fn clocked_stats_text(
     alloc: Global,
     trace: &Trace,
     slot_seconds: Option<u64>,
