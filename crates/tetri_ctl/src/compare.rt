@@ -114,14 +114,14 @@ fn accounts_of(
 
 // A trace, how many seconds its slots have, if that is known, and accounts of its runs.
 #[derive(Drop)]
-struct Reported {
+struct Runs {
     trace: Trace,
     slot_seconds: Option<u64>,
     runs: Vec<Compared>,
 }
 
 // The trace, and the accounts of the reports.
-fn reported(rt: &HostRuntime, trace: &str, reports: &[&str], prices: bool) -> Result<Reported, u8>
+fn reported(rt: &HostRuntime, trace: &str, reports: &[&str], prices: bool) -> Result<Runs, u8>
     ensures { IfOk result (λ r. IsSound (scenario r.trace)) }
 {
     let mut shelf = Shelf::new(rt.alloc(), rt);
@@ -129,7 +129,7 @@ fn reported(rt: &HostRuntime, trace: &str, reports: &[&str], prices: bool) -> Re
     let kept = kept_trace(rt, &mut shelf, trace)?;
     let runs = accounts_of(rt, &mut shelf, trace, reports, prices)?;
     match slot_seconds_of(rt.alloc(), &mut shelf, trace) {
-        Ok(slot_seconds) => Ok(Reported {
+        Ok(slot_seconds) => Ok(Runs {
             trace: kept,
             slot_seconds,
             runs,
@@ -141,13 +141,13 @@ fn reported(rt: &HostRuntime, trace: &str, reports: &[&str], prices: bool) -> Re
 // The text of the accounts and of those of the runs by policies.
 fn text_of(
     alloc: Global,
-    reported: Reported,
+    reported: Runs,
     policies: &[&str],
     words: &ArgMatches<'_>,
 ) -> Result<Vec<u8>, AllocError>
     requires { IsSound (scenario reported.trace) }
 {
-    let Reported {
+    let Runs {
         trace,
         slot_seconds,
         mut runs,
