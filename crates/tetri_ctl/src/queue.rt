@@ -119,9 +119,9 @@ fn with_worth<'a>(alloc: Global, command: Built<'a>) -> Built<'a> {
         command,
         number(
             alloc,
-            "waiting",
-            "N",
-            "how many times its node-slots a job is worth more for each slot that it has waited [default: 0]",
+            "ageing",
+            "SLOTS",
+            "for so many slots of waiting a job is worth as much again [default: none]",
         ),
     )
 }
@@ -229,7 +229,7 @@ fn asked_of(words: &ArgMatches<'_>) -> Option<Asked> {
         window: number_of(words, "window", 16),
         budget: number_of(words, "budget", 200),
         slack: number_of(words, "slack", 288),
-        waiting: number_of(words, "waiting", 0),
+        ageing: words.get_one::<u32>("ageing"),
         worth: worth_of(words),
         class: class_of(words),
         whole: words.get_flag("whole"),

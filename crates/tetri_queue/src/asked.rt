@@ -1,13 +1,13 @@
 // What a caller asks for.
 ghost use Rattle.std.specs.Prelude.{◌≡◌};
-ghost use Rattle.tetri_queue.specs.Asking.{fault_of};
+ghost use Rattle.tetri_queue.specs.Asking.{fault_of, is_out_of_range};
 
 use tetri_request::Class;
 
 /// How the worth of a job is made.
 #[derive(Clone, Copy, Debug, PartialEq, Eq)]
 pub enum QueueWorth {
-    /// Its nodes times its slots, and as much again for each slot that it has waited, times the weight.
+    /// Its nodes times its slots.
     NodeSlots,
     /// Its priority, 1 at least.
     Priority,
@@ -24,8 +24,8 @@ pub struct Asked {
     pub budget: u32,
     /// How many slots longer than it asks for a job may take to its end, at most 10,000.
     pub slack: u32,
-    /// The weight of waiting, at most 100.
-    pub waiting: u32,
+    /// For so many slots of waiting, 1 to 10,000, a job is worth as much again; none: it is worth the same however long it waits.
+    pub ageing: Option<u32>,
     pub worth: QueueWorth,
     pub class: Class,
     /// Whether each job is given whole nodes, whatever it asks for.
@@ -41,9 +41,19 @@ pub enum AskedFault {
     Window,
     Budget,
     Slack,
-    Waiting,
+    Ageing,
     /// There are reservations, but it is not said when slot 0 begins.
     Now,
+}
+
+// Whether ageing takes too few slots or too many.
+fn is_out_of_range(ageing: Option<u32>) -> bool
+    ensures { result ≡ is_out_of_range ageing }
+{
+    match ageing {
+        Some(slots) => slots == 0 || 10_000 < slots,
+        None => false,
+    }
 }
 
 impl Asked {
@@ -59,8 +69,8 @@ impl Asked {
             Some(AskedFault::Budget)
         } else if 10_000 < self.slack {
             Some(AskedFault::Slack)
-        } else if 100 < self.waiting {
-            Some(AskedFault::Waiting)
+        } else if is_out_of_range(self.ageing) {
+            Some(AskedFault::Ageing)
         } else if reserved && self.now.is_none() {
             Some(AskedFault::Now)
         } else {

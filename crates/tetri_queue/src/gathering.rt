@@ -3,6 +3,7 @@ ghost use Rattle.std.specs.Prelude.{◌≡◌, ◌+◌, ◌&&◌, IfOk, OnOk, fa
 ghost use Rattle.tetri_base.specs.Lists.{bit};
 ghost use Rattle.tetri_queue.specs.Arrays.{is_full, throttles, with_used_if};
 ghost use Rattle.tetri_queue.specs.Queues.{is_taken};
+ghost use Rattle.tetri_queue.specs.Worths.{aged_worth, value_of, waited_of, worth_of};
 
 use crate::arrays::Limits;
 use crate::asked::{Asked, QueueWorth};
@@ -65,17 +66,17 @@ pub(crate) struct Gathering {
 }
 
 // What a job asks for.
-fn ask_of(asked: &Asked, job: &Waiting<'_>) -> Ask {
+fn ask_of(asked: &Asked, job: &Waiting<'_>) -> Ask
+    ensures { result.value ≡ value_of asked.entry.now job.now.width result.dur job.now.priority job.now.submitted }
+{
     let slots = slots_of(job.limit, asked.slot);
-    let value = match asked.worth {
-        QueueWorth::Priority => u64::from(job.priority.max(1)),
-        QueueWorth::NodeSlots => worth_of(asked, job, slots),
-    };
+    let worth = worth_of(asked.worth, job.width, slots, job.priority);
+    let waited = waited_of(asked.slot, asked.now, job.submitted);
     Ask {
         k: job.width,
         set: 0,
         dur: slots,
-        value: value.min(PEAK),
+        value: aged_worth(asked.ageing, waited, worth),
         deadline: slots.saturating_add(asked.slack),
         prefer: None,
         class: asked.class,
@@ -83,18 +84,39 @@ fn ask_of(asked: &Asked, job: &Waiting<'_>) -> Ask {
     }
 }
 
-// Its nodes times its slots, and as much again for each slot that it has waited, times the weight.
-fn worth_of(asked: &Asked, job: &Waiting<'_>, slots: u32) -> u64 {
-    let waited = match (asked.now, job.submitted) {
-        (Some(now), Some(submitted)) => now.saturating_sub(submitted) / asked.slot.max(1),
+// What a job is worth that has not waited.
+fn worth_of(worth: QueueWorth, nodes: u32, slots: u32, priority: u32) -> u64
+    ensures { result ≡ worth_of worth nodes slots priority }
+{
+    match worth {
+        QueueWorth::NodeSlots => u64::from(nodes) * u64::from(slots),
+        QueueWorth::Priority => u64::from(priority.max(1)),
+    }
+}
+
+// For how many slots a job has waited.
+fn waited_of(slot: u32, now: Option<u32>, submitted: Option<u32>) -> u32
+    ensures { result ≡ waited_of slot now submitted }
+{
+    match (now, submitted) {
+        (Some(now), Some(submitted)) => now.saturating_sub(submitted) / slot.max(1),
         _ => 0,
+    }
+}
+
+// A worth behind so many slots of waiting.
+fn aged_worth(ageing: Option<u32>, waited: u32, worth: u64) -> u64
+    ensures { result ≡ aged_worth ageing waited worth }
+{
+    let worth = u128::from(worth);
+    let aged = match ageing {
+        Some(slots) => {
+            let slots = u128::from(slots.max(1));
+            worth * (slots + u128::from(waited)) / slots
+        }
+        None => worth,
     };
-    let times = u64::from(asked.waiting)
-        .saturating_mul(u64::from(waited))
-        .saturating_add(1);
-    u64::from(job.width)
-        .saturating_mul(u64::from(slots))
-        .saturating_mul(times)
+    aged.min(u128::from(PEAK)) as u64
 }
 
 impl Gathering {

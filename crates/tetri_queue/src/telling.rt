@@ -88,7 +88,7 @@ fn asked_text(fault: AskedFault) -> &'static str {
         AskedFault::Window => "the window is 1 to 64",
         AskedFault::Budget => "the budget is 1 to 10000",
         AskedFault::Slack => "the slack is 0 to 10000",
-        AskedFault::Waiting => "the weight of waiting is 0 to 100",
+        AskedFault::Ageing => "ageing takes 1 to 10000 slots",
         AskedFault::Now => "give --now with --reservations",
     }
 }
