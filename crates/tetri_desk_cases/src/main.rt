@@ -3,6 +3,7 @@
 #![tactic(auto)]
 
 mod accounts;
+mod delay;
 mod export;
 mod lint;
 mod panels;
@@ -19,6 +20,7 @@ use tetri_tables::Tally;
 #[derive(Clone, Copy)]
 enum Kind {
     Accounts,
+    Delay,
     Export,
     Lint,
     Policies,
@@ -31,6 +33,7 @@ enum Kind {
 fn kind_of(name: &str) -> Option<Kind> {
     match name.split(['-', '.']).next().unwrap_or("") {
         "accounts" => Some(Kind::Accounts),
+        "delay" => Some(Kind::Delay),
         "export" => Some(Kind::Export),
         "lint" => Some(Kind::Lint),
         "policies" => Some(Kind::Policies),
@@ -45,6 +48,7 @@ fn kind_of(name: &str) -> Option<Kind> {
 fn judge(alloc: Global, kind: Kind, text: &str) -> Result<Tally, AllocError> {
     match kind {
         Kind::Accounts => accounts::judge(alloc, text),
+        Kind::Delay => delay::judge(alloc, text),
         Kind::Export => export::judge(alloc, text),
         Kind::Lint => lint::judge(alloc, text),
         Kind::Policies => policies::judge(alloc, text),
