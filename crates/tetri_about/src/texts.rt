@@ -2,7 +2,7 @@
 
 /// The version of both programs, the first of CHANGELOG.md, and the logic of the kit by which they
 /// are proved, as `rt version` names it.
-pub const VERSION: &str = "0.22.0 (logic dac8208d650f15bf)";
+pub const VERSION: &str = "0.23.0 (logic dac8208d650f15bf)";
 
 /// What `tetri --help` prints.
 pub const HELP: &str = "\
