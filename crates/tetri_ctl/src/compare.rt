@@ -12,7 +12,7 @@ use crate::said::{USAGE, complain, no_memory};
 use clap::{Arg, ArgAction, ArgMatches};
 use std::alloc::{AllocError, Global};
 use tetri_accounts::{Account, account_policy};
-use tetri_figures::{Bounds, Compared, compare_text};
+use tetri_figures::{Bounds, Compared, compare_text, slot_seconds_of};
 use tetri_trace::Trace;
 
 // The word that names reports.
@@ -112,34 +112,54 @@ fn accounts_of(
     Ok(runs)
 }
 
+// A trace, how many seconds its slots have, if that is known, and accounts of its runs.
+#[derive(Drop)]
+struct Runs {
+    trace: Trace,
+    slot_seconds: Option<u64>,
+    runs: Vec<Compared>,
+}
+
 // The trace, and the accounts of the reports.
-fn reported(
-    rt: &HostRuntime,
-    trace: &str,
-    reports: &[&str],
-    prices: bool,
-) -> Result<(Trace, Vec<Compared>), u8>
-    ensures { IfOk result (λ r. IsSound (scenario r.0)) }
+fn reported(rt: &HostRuntime, trace: &str, reports: &[&str], prices: bool) -> Result<Runs, u8>
+    ensures { IfOk result (λ r. IsSound (scenario r.trace)) }
 {
     let mut shelf = Shelf::new(rt.alloc(), rt);
     open_trace(rt, &mut shelf, trace)?;
     let kept = kept_trace(rt, &mut shelf, trace)?;
     let runs = accounts_of(rt, &mut shelf, trace, reports, prices)?;
-    Ok((kept, runs))
+    match slot_seconds_of(rt.alloc(), &mut shelf, trace) {
+        Ok(slot_seconds) => Ok(Runs {
+            trace: kept,
+            slot_seconds,
+            runs,
+        }),
+        Err(AllocError) => Err(no_memory(rt)),
+    }
 }
 
 // The text of the accounts and of those of the runs by policies.
 fn text_of(
     alloc: Global,
-    kept: &Trace,
-    runs: &mut Vec<Compared>,
+    reported: Runs,
     policies: &[&str],
     words: &ArgMatches<'_>,
 ) -> Result<Vec<u8>, AllocError>
-    requires { IsSound (scenario kept.now) }
+    requires { IsSound (scenario reported.trace) }
 {
-    put_policies(alloc, kept, policies, runs)?;
-    compare_text(alloc, kept, runs.as_slice(), format_of(words))
+    let Runs {
+        trace,
+        slot_seconds,
+        mut runs,
+    } = reported;
+    put_policies(alloc, &trace, policies, &mut runs)?;
+    compare_text(
+        alloc,
+        &trace,
+        slot_seconds,
+        runs.as_slice(),
+        format_of(words),
+    )
 }
 
 // Tells of the reports and of the policies, as the words ask, and gives the exit number.
@@ -151,11 +171,7 @@ fn tell(
     words: &ArgMatches<'_>,
 ) -> u8 {
     match reported(rt, trace, reports, words.get_flag("prices")) {
-        Ok((kept, runs)) => {
-            let mut runs = runs;
-            let text = text_of(rt.alloc(), &kept, &mut runs, policies, words);
-            send(rt, text)
-        }
+        Ok(reported) => send(rt, text_of(rt.alloc(), reported, policies, words)),
         Err(number) => number,
     }
 }

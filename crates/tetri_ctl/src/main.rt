@@ -10,6 +10,7 @@ mod builders;
 mod chart;
 mod check;
 mod compare;
+mod delays;
 mod export;
 mod import;
 mod jobs;
@@ -81,26 +82,21 @@ fn command<'a>(alloc: Global) -> Built<'a> {
     with_others(alloc, with_accounts(alloc, program))
 }
 
-// Whether the word of this name stands for standard input.
-fn is_input(words: &ArgMatches<'_>, name: &str) -> bool {
-    words.get_str(name) == Some("-")
+// Whether a word stands for standard input, by itself or as the value of an option.
+fn is_input(word: &str) -> bool {
+    word == "-" || word.ends_with("=-")
 }
 
-// Whether two of the files that are named are standard input.
-fn is_input_named_twice(words: &ArgMatches<'_>) -> bool {
-    let trace = is_input(words, "TRACE");
-    let report = is_input(words, "REPORT");
-    let second = is_input(words, "REPORT2");
-    (trace && report) || (trace && second) || (report && second)
+// Whether two words stand for standard input.
+fn is_input_named_twice(words: &[String]) -> bool {
+    words.iter().filter(|word| is_input(word.as_str())).count() > 1
 }
 
 // What the words are read as. Standard input is named once at most.
 fn read_words<'a>(alloc: Global, words: &'a [String]) -> Result<ArgMatches<'a>, Error> {
     let mut command = command(alloc)?;
     let matches = command.try_get_matches_from_mut(words)?;
-    if let Some((_, inner)) = matches.subcommand()
-        && is_input_named_twice(inner)
-    {
+    if is_input_named_twice(words) {
         let twice = "standard input, '-', is named twice";
         return Err(command.error(ErrorKind::ArgumentConflict, twice)?);
     }

@@ -1,13 +1,17 @@
 // `tetri_ctl plan TRACE`
+use crate::accounted::kept_trace;
 use crate::advisors::seat;
 use crate::builders::{Built, choice, on_trace, with_word};
+use crate::delays::{delay_of, with_delay};
 use crate::named::{Shelf, open_trace};
 use crate::refusals::end_of;
+use crate::said::{USAGE, complain, wrong_words};
 use clap::{Arg, ArgMatches};
 use std::alloc::{AllocError, Global};
 use tetri_advice::{Advisor, Panel};
 use tetri_by_price::ByPrice;
 use tetri_by_swift::BySwift;
+use tetri_delay::{DelaySettings, Delayed};
 use tetri_greedy::{ByDeadline, ByWorth};
 use tetri_io::StdSink;
 use tetri_run::{ByChooser, Status, run_chosen, run_plan};
@@ -22,6 +26,8 @@ enum Search {
     Prices,
     // By branch and bound that goes on from the node above, and by prices of the nodes. The default.
     Swift,
+    // The same with a cost of delay.
+    Delayed(DelaySettings),
 }
 
 // The bytes of a plan's copies of dictionaries at most.
@@ -41,15 +47,34 @@ pub fn command<'a>(alloc: Global) -> Built<'a> {
         "Plans a trace, and writes its report",
         "Example: tetri_ctl import swf cluster.swf | tetri_ctl plan - > cluster.report",
     );
-    with_word(command, search_word(alloc))
+    with_delay(alloc, with_word(command, search_word(alloc)))
 }
 
-fn search_of(words: &ArgMatches<'_>) -> Search {
-    match words.get_str("search") {
+// The search that the words ask for; the error says what is wrong with them.
+fn search_of(words: &ArgMatches<'_>) -> Result<Search, &'static str> {
+    if let Some(settings) = delay_of(words)? {
+        return Ok(Search::Delayed(settings));
+    }
+    Ok(match words.get_str("search") {
         Some("exact") => Search::Exact,
         Some("prices") => Search::Prices,
         _ => Search::Swift,
+    })
+}
+
+// A plan with a cost of delay has the bound of a search's root, so the header's budget has to be 1.
+// Where it is not, that is said, and the error is the exit number, as where the trace is refused.
+fn budget_is_one(rt: &HostRuntime, shelf: &mut Shelf<'_>, trace: &str) -> Result<(), u8> {
+    let kept = kept_trace(rt, shelf, trace)?;
+    if kept.header.budget == 1 {
+        return Ok(());
     }
+    complain(
+        rt,
+        trace,
+        "--delay-cost needs a header with a budget of 1, which import and queue write with --budget 1",
+    );
+    Err(USAGE)
 }
 
 // Seats the two shipped advisors, and plans as it is asked for. Its only error is want of memory for a seat.
@@ -79,20 +104,41 @@ fn seat_and_plan(
             };
             run_chosen(rt.alloc(), trace, shelf, &mut sink, &mut planner)
         }
+        Search::Delayed(settings) => {
+            let chooser = BySwift::new(panel, KEEP_BYTES);
+            let mut planner = ByChooser {
+                chooser: Delayed::new(rt.alloc(), chooser, settings),
+            };
+            run_chosen(rt.alloc(), trace, shelf, &mut sink, &mut planner)
+        }
     };
     Ok(status)
 }
 
-/// Plans what the words name, and gives the exit number.
-pub fn run(rt: &HostRuntime, words: &ArgMatches<'_>) -> u8 {
-    let trace = words.get_str("TRACE").unwrap_or("");
-    let mut shelf = Shelf::new(rt.alloc(), rt);
-    if let Err(number) = open_trace(rt, &mut shelf, trace) {
+// Plans a trace that is ready to be read, and gives the exit number.
+fn plan(rt: &HostRuntime, shelf: &mut Shelf<'_>, trace: &str, search: Search) -> u8 {
+    if matches!(search, Search::Delayed(_))
+        && let Err(number) = budget_is_one(rt, shelf, trace)
+    {
         return number;
     }
-    let status = match seat_and_plan(rt, &mut shelf, trace, search_of(words)) {
+    let status = match seat_and_plan(rt, shelf, trace, search) {
         Ok(status) => status,
         Err(AllocError) => Status::NoMemory,
     };
-    end_of(rt, &mut shelf, &status, trace, "")
+    end_of(rt, shelf, &status, trace, "")
+}
+
+/// Plans what the words name, and gives the exit number.
+pub fn run(rt: &HostRuntime, words: &ArgMatches<'_>) -> u8 {
+    let search = match search_of(words) {
+        Ok(search) => search,
+        Err(what) => return wrong_words(rt, what),
+    };
+    let trace = words.get_str("TRACE").unwrap_or("");
+    let mut shelf = Shelf::new(rt.alloc(), rt);
+    match open_trace(rt, &mut shelf, trace) {
+        Ok(()) => plan(rt, &mut shelf, trace, search),
+        Err(number) => number,
+    }
 }

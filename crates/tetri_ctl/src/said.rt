@@ -94,6 +94,12 @@ pub fn words_fault(rt: &HostRuntime, error: &io::Error) -> u8 {
     }
 }
 
+/// Says what is wrong with the words of a call, and gives the exit number.
+pub fn wrong_words(rt: &HostRuntime, what: &str) -> u8 {
+    let _said = eprintln!(rt; "tetri_ctl: {what}");
+    USAGE
+}
+
 // What a status speaks of.
 fn subject<'a>(status: &Status, trace: &'a str, report: &'a str) -> &'a str {
     match status {

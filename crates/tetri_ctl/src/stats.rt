@@ -7,7 +7,7 @@ use crate::builders::{Built, choice, with_word};
 use crate::named::Shelf;
 use clap::{Arg, ArgMatches};
 use std::alloc::{AllocError, Global};
-use tetri_figures::{By, stats_text, tags_of};
+use tetri_figures::{By, slot_seconds_of, stats_text, tags_of};
 
 // The option that asks for more columns.
 fn by_word<'a>(alloc: Global) -> Arg<'a> {
@@ -47,10 +47,12 @@ fn text_of(
     requires { IsSound (scenario run.now.trace) }
 {
     let tags = tags_of(alloc, shelf, trace)?;
+    let slot_seconds = slot_seconds_of(alloc, shelf, trace)?;
     let (by, format) = (by_of(words), format_of(words));
     stats_text(
         alloc,
         &run.trace,
+        slot_seconds,
         &run.account,
         run.bounds,
         by,

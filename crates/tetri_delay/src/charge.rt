@@ -103,12 +103,7 @@ fn free(charge: Charge) -> Charge
 /// which the barrier asks for can still be reached; a part whose factor is 0 stays as it is. Its
 /// only error is want of memory.
 #[cycle(charged_expr)]
-pub fn charged_expr(
-    alloc: Global,
-    e: &Expr,
-    charge: Charge,
-    by: u64,
-) -> Result<Expr, AllocError>
+pub fn charged_expr(alloc: Global, e: &Expr, charge: Charge, by: u64) -> Result<Expr, AllocError>
     requires sound { IsSound (tree e.now) }
     requires range { IsInRange charge }
     ensures { IfOk result (λ made. tree made ≡ charged charge by (tree e.now)) }

@@ -39,7 +39,7 @@ pub struct DelaySettings {
     pub delay: Delay,
     /// For so many slots of waiting a job's worths count once more; none: they never do.
     pub ageing: Option<u32>,
-    /// Whether the oldest job that was planned keeps its nodes until it starts.
+    /// Whether the oldest pending job, once it was planned, keeps its nodes until it starts.
     pub keeps_promise: bool,
     /// The budget of another's search for a plan with the cost of delay.
     pub effort: u32,
@@ -72,13 +72,12 @@ fn density_by(delay: Delay, inst: &Instance) -> Density
     }
 }
 
-// The grants of the first job that has some.
-fn oldest(alloc: Global, carry: &Allotment) -> Result<Vec<Grant>, AllocError> {
+// What is carried over for the oldest pending job.
+fn promise(alloc: Global, inst: &Instance, carry: &Allotment) -> Result<Vec<Grant>, AllocError> {
     let mut held = Vec::new(alloc);
-    let grants = carry.as_slice();
-    if let Some(first) = grants.iter().map(|grant| grant.job).min() {
-        for grant in grants {
-            if grant.job == first {
+    if let Some(oldest) = inst.jobs.first() {
+        for grant in carry.as_slice() {
+            if grant.job == oldest.job {
                 held.push(copy_grant(alloc, grant)?)?;
             }
         }
@@ -171,7 +170,9 @@ impl<C: Chooser> Delayed<C> {
         let charged = charged_instance(alloc, inst, rates, jobs)?;
         let rest = closed(alloc, charged, held)?;
         let known = others(alloc, &rest, carry, &has)?;
-        let plan = self.chooser.plan(alloc, &rest, &known, self.settings.effort)?;
+        let plan = self
+            .chooser
+            .plan(alloc, &rest, &known, self.settings.effort)?;
         beside(alloc, inst, held, plan.grants.as_slice())
     }
 
@@ -237,7 +238,7 @@ impl<C: Chooser> Delayed<C> {
     {
         let least = total(inst, carry);
         let promise = if self.settings.keeps_promise {
-            oldest(alloc, carry)?
+            promise(alloc, inst, carry)?
         } else {
             Vec::new(alloc)
         };

@@ -8,7 +8,7 @@ use std::alloc::{AllocError, Global};
 use std::fmt::Write;
 use tetri_accounts::{Account, account_policy, account_report};
 use tetri_figures::{
-    Bounds, By, Compared, Format, PricedSums, compare_text, jobs_text, stats_text, tags_of,
+    Bounds, By, Compared, Format, PricedSums, compare_text, jobs_text, slot_seconds_of, tags_of,
 };
 use tetri_io::{MemShelf, MemSink};
 use tetri_policy::Policy;
@@ -178,12 +178,23 @@ fn stats_told(
     requires { IsSound (scenario trace.now) }
 {
     let tags = tags_of(alloc, shelf, "trace")?;
-    stats_text(alloc, trace, account, bounds, wish.by, &tags, wish.format)
+    let slot_seconds = slot_seconds_of(alloc, shelf, "trace")?;
+    stats_text(
+        alloc,
+        trace,
+        slot_seconds,
+        account,
+        bounds,
+        wish.by,
+        &tags,
+        wish.format,
+    )
 }
 
 fn both_told(
     alloc: Global,
     trace: &Trace,
+    slot_seconds: Option<u64>,
     first: Account,
     second: Account,
     format: Format,
@@ -193,7 +204,7 @@ fn both_told(
     let mut runs = Vec::new(alloc);
     put(alloc, "one", first, &mut runs)?;
     put(alloc, "two", second, &mut runs)?;
-    compare_text(alloc, trace, &runs, format)
+    compare_text(alloc, trace, slot_seconds, &runs, format)
 }
 
 // The report beside itself.
@@ -206,8 +217,9 @@ fn compared_told(
 ) -> Result<Vec<u8>, AllocError>
     requires { IsSound (scenario trace.now) }
 {
+    let slot_seconds = slot_seconds_of(alloc, shelf, "trace")?;
     match account_report(alloc, "trace", "report", shelf) {
-        Ok((_trace, second)) => both_told(alloc, trace, first, second, format),
+        Ok((_trace, second)) => both_told(alloc, trace, slot_seconds, first, second, format),
         Err(status) => said(alloc, &status),
     }
 }

@@ -6,7 +6,7 @@ use crate::bounds::Bounds;
 use crate::cells::{maybe_cell, number_cell, text_cell};
 use crate::columns::{Column, columns_text};
 use crate::format::Format;
-use crate::groups::tops_of;
+use crate::groups::facts_of;
 use crate::stats::{are_priced, names_of, whole_column};
 use std::alloc::{AllocError, Global};
 use tetri_accounts::{Account, job_name};
@@ -139,22 +139,24 @@ fn moved_text(
     columns_text(alloc, "start of", &names, &columns, format)
 }
 
-/// Runs of one trace beside one another: their figures, and the starts of the jobs that moved most. Its only error is want of memory.
+/// Runs of one trace, whose slots have so many seconds, if that is known, beside one another: their figures, and the starts of the jobs that
+/// moved most. Its only error is want of memory.
 pub fn compare_text(
     alloc: Global,
     trace: &Trace,
+    slot_seconds: Option<u64>,
     runs: &[Compared],
     format: Format,
 ) -> Result<Vec<u8>, AllocError>
     requires { IsSound (scenario trace.now) }
 {
-    let tops = tops_of(alloc, trace)?;
+    let facts = facts_of(alloc, trace, slot_seconds)?;
     let priced = runs.iter().any(|run| are_priced(run.bounds));
     let names = names_of(alloc, priced)?;
     let mut columns = Vec::new(alloc);
     for run in runs {
         let name = run.name.as_str();
-        let column = whole_column(alloc, trace, &run.account, run.bounds, &tops, name)?;
+        let column = whole_column(alloc, trace, &run.account, run.bounds, &facts, name)?;
         columns.push(column)?;
     }
     let mut text = columns_text(alloc, "figure", &names, &columns, format)?;

@@ -4,13 +4,13 @@ ghost use Rattle.tetri_figures.specs.Figures.{AreCounts};
 ghost use Rattle.tetri_trace.specs.Scenario.{scenario};
 
 use crate::cells::{NOTHING, mean_cell, number_cell, quotient, text_cell, thousandths_cell};
-use crate::sums::{Part, greatest_wait, is_picked, node_slots, offered, sum_over};
+use crate::sums::{Part, greatest_wait, is_picked, node_slots, offered, part_of, sum_over};
 use std::alloc::{AllocError, Global};
 use tetri_accounts::{Account, Outcome, Row, wait_of};
 use tetri_trace::Trace;
 
 /// The names of the figures of rows.
-pub(crate) const FIGURES: [&str; 19] = [
+pub(crate) const FIGURES: [&str; 25] = [
     "jobs",
     "launches",
     "ran",
@@ -24,7 +24,13 @@ pub(crate) const FIGURES: [&str; 19] = [
     "wait median",
     "wait 90th",
     "wait greatest",
+    "all jobs wait mean",
+    "all jobs wait median",
+    "all jobs wait 90th",
+    "all jobs wait greatest",
+    "wide jobs wait mean",
     "slowdown mean",
+    "bounded slowdown mean",
     "node slots",
     "use",
     "worth launched",
@@ -32,19 +38,23 @@ pub(crate) const FIGURES: [&str; 19] = [
     "worth offered",
 ];
 
-/// Which rows, jobs and nodes are counted: by place, by number and by number. Without nodes all are.
+/// Which rows, which of these as those of wide jobs, which jobs and which nodes are counted: rows by place, jobs and nodes by number. Without
+/// nodes all are.
 #[derive(Clone, Copy)]
 pub(crate) struct Picked<'a> {
     pub(crate) rows: &'a [bool],
+    pub(crate) wide: &'a [bool],
     pub(crate) jobs: &'a [bool],
     pub(crate) nodes: Option<&'a [bool]>,
 }
 
-/// What is known of an account besides its rows: the tops of the jobs as they arrived, and the slot in which the last launch ended.
+/// What is known of an account besides its rows: the tops of the jobs as they arrived, the slot in which the last launch ended, and how many
+/// slots ten minutes are.
 #[derive(Clone, Copy)]
 pub(crate) struct Known<'a> {
     pub(crate) tops: &'a [u64],
     pub(crate) last: u32,
+    pub(crate) ten_minutes: u32,
 }
 
 /// What is counted of rows.
@@ -58,10 +68,22 @@ pub(crate) struct Counts {
     pub(crate) waited: u128,
     /// The greatest wait.
     pub(crate) greatest: u64,
+    /// The launches, and the jobs without one that were not cancelled.
+    pub(crate) waiters: u128,
+    /// The slots that they waited.
+    pub(crate) waited_whole: u128,
+    /// The greatest of these waits.
+    pub(crate) greatest_whole: u64,
+    /// Those of wide jobs.
+    pub(crate) wide: u128,
+    /// The slots that these waited.
+    pub(crate) waited_wide: u128,
     /// The launches that ended by themselves.
     pub(crate) ended: u128,
     /// Their slowdowns, in thousandths.
     pub(crate) slowdowns: u128,
+    /// The slowdowns of all launches, in thousandths, bounded at ten minutes.
+    pub(crate) bounded: u128,
     /// The node slots that pieces took.
     pub(crate) used: u128,
     /// What launches were worth.
@@ -73,11 +95,12 @@ pub(crate) struct Counts {
 }
 
 // The counts of the rows that are picked.
-fn counts_of(trace: &Trace, rows: &[Row], picked: Picked<'_>, tops: &[u64]) -> Counts
-    ensures { AreCounts (scenario trace.entry.now) picked.entry.rows.now picked.entry.jobs.now (option_map (λ m. m.now) picked.entry.nodes)
-        rows.entry.now tops.entry.now result }
+fn counts_of(trace: &Trace, rows: &[Row], picked: Picked<'_>, known: Known<'_>) -> Counts
+    ensures { AreCounts (scenario trace.entry.now) picked.entry.rows.now picked.entry.wide.now picked.entry.jobs.now
+        (option_map (λ m. m.now) picked.entry.nodes) rows.entry.now known.entry.tops.now known.entry.ten_minutes result }
 {
     let marks = picked.rows;
+    let wide = picked.wide;
     Counts {
         outcomes: [
             sum_over(trace, rows, marks, Part::With(Outcome::Ran)),
@@ -90,26 +113,33 @@ fn counts_of(trace: &Trace, rows: &[Row], picked: Picked<'_>, tops: &[u64]) -> C
         ],
         launches: sum_over(trace, rows, marks, Part::Launches),
         waited: sum_over(trace, rows, marks, Part::Waits),
-        greatest: greatest_wait(trace, rows, marks),
+        greatest: greatest_wait(trace, rows, marks, Part::Waits),
+        waiters: sum_over(trace, rows, marks, Part::Waiters),
+        waited_whole: sum_over(trace, rows, marks, Part::WholeWaits),
+        greatest_whole: greatest_wait(trace, rows, marks, Part::WholeWaits),
+        wide: sum_over(trace, rows, wide, Part::Waiters),
+        waited_wide: sum_over(trace, rows, wide, Part::WholeWaits),
         ended: sum_over(trace, rows, marks, Part::Ended),
         slowdowns: sum_over(trace, rows, marks, Part::Slowdowns),
+        bounded: sum_over(trace, rows, marks, Part::Bounded(known.ten_minutes)),
         used: node_slots(trace, rows, marks, picked.nodes),
         launched: sum_over(trace, rows, marks, Part::Worth),
         kept: sum_over(trace, rows, marks, Part::Kept),
-        offered: offered(picked.jobs, tops),
+        offered: offered(picked.jobs, known.tops),
     }
 }
 
-// The waits of the launches that are picked, ascending.
+// The waits of the rows that are picked and that this part counts, ascending.
 fn waits_of(
     alloc: Global,
     trace: &Trace,
     rows: &[Row],
     marks: &[bool],
+    who: Part,
 ) -> Result<Vec<u32>, AllocError> {
     let mut waits = Vec::new(alloc);
     for (place, row) in rows.iter().enumerate() {
-        if is_picked(marks, place) && row.start.is_some() {
+        if is_picked(marks, place) && part_of(trace, who, row) > 0 {
             waits.push(wait_of(trace, row))?;
         }
     }
@@ -134,28 +164,58 @@ fn ranked_cell(alloc: Global, ascending: &[u32], percent: usize) -> Result<Strin
     }
 }
 
-// Adds the figures of waits, which ascend.
+// Adds the figures of waits, which ascend: of how many they are, the waits added up, and the greatest.
 fn add_waits(
     alloc: Global,
-    counts: &Counts,
+    count: u128,
+    waited: u128,
+    greatest: u64,
     waits: &[u32],
     cells: &mut Vec<String>,
 ) -> Result<(), AllocError> {
-    cells.push(mean_cell(alloc, counts.waited, counts.launches)?)?;
+    cells.push(mean_cell(alloc, waited, count)?)?;
     cells.push(ranked_cell(alloc, waits, 50)?)?;
     cells.push(ranked_cell(alloc, waits, 90)?)?;
-    let greatest = if counts.launches == 0 {
+    let greatest = if count == 0 {
         text_cell(alloc, NOTHING)?
     } else {
-        number_cell(alloc, u128::from(counts.greatest))?
+        number_cell(alloc, u128::from(greatest))?
     };
     cells.push(greatest)?;
+    Ok(())
+}
+
+// Adds the figures of the waits of launches, of all jobs, and of wide ones.
+fn add_all_waits(
+    alloc: Global,
+    trace: &Trace,
+    rows: &[Row],
+    marks: &[bool],
+    counts: &Counts,
+    cells: &mut Vec<String>,
+) -> Result<(), AllocError> {
+    let (count, waited, greatest) = (counts.launches, counts.waited, counts.greatest);
+    let waits = waits_of(alloc, trace, rows, marks, Part::Launches)?;
+    add_waits(alloc, count, waited, greatest, &waits, cells)?;
+    let (count, waited, greatest) = (counts.waiters, counts.waited_whole, counts.greatest_whole);
+    let waits = waits_of(alloc, trace, rows, marks, Part::Waiters)?;
+    add_waits(alloc, count, waited, greatest, &waits, cells)?;
+    cells.push(mean_cell(alloc, counts.waited_wide, counts.wide)?)?;
     Ok(())
 }
 
 // How many are picked.
 fn number_picked(picked: &[bool]) -> u128 {
     picked.iter().filter(|p| **p).count() as u128
+}
+
+// A mean of thousandths, rounded down; nothing where there is nothing to be counted.
+fn thousandths_mean(alloc: Global, total: u128, count: u128) -> Result<String, AllocError> {
+    if count == 0 {
+        text_cell(alloc, NOTHING)
+    } else {
+        thousandths_cell(alloc, quotient(total, count))
+    }
 }
 
 // Adds the figures of how launches fared.
@@ -167,12 +227,8 @@ fn add_fared(
     last: u32,
     cells: &mut Vec<String>,
 ) -> Result<(), AllocError> {
-    let slowdown = if counts.ended == 0 {
-        text_cell(alloc, NOTHING)?
-    } else {
-        thousandths_cell(alloc, quotient(counts.slowdowns, counts.ended))?
-    };
-    cells.push(slowdown)?;
+    cells.push(thousandths_mean(alloc, counts.slowdowns, counts.ended)?)?;
+    cells.push(thousandths_mean(alloc, counts.bounded, counts.launches)?)?;
     let nodes = match picked.nodes {
         Some(nodes) => number_picked(nodes),
         None => u128::from(trace.cluster.count()),
@@ -195,15 +251,14 @@ pub(crate) fn figures_of(
     known: Known<'_>,
 ) -> Result<Vec<String>, AllocError> {
     let rows = account.rows.as_slice();
-    let counts = counts_of(trace, rows, picked, known.tops);
-    let waits = waits_of(alloc, trace, rows, picked.rows)?;
+    let counts = counts_of(trace, rows, picked, known);
     let mut cells = Vec::new(alloc);
     cells.push(number_cell(alloc, number_picked(picked.jobs))?)?;
     cells.push(number_cell(alloc, counts.launches)?)?;
     for count in &counts.outcomes {
         cells.push(number_cell(alloc, *count)?)?;
     }
-    add_waits(alloc, &counts, &waits, &mut cells)?;
+    add_all_waits(alloc, trace, rows, picked.rows, &counts, &mut cells)?;
     add_fared(alloc, trace, &counts, picked, known.last, &mut cells)?;
     Ok(cells)
 }

@@ -2,8 +2,10 @@
 ghost use Rattle.tetri_trace.specs.Scenario.{scenario};
 ghost use Rattle.tetri_trace.specs.Sound.{IsSound};
 
+use crate::clock::ten_minutes;
 use crate::figures::{Known, Picked, figures_of, last_end};
 use crate::sums::is_picked;
+use crate::wide::wide_among;
 use std::alloc::{AllocError, Global};
 use tetri_accounts::{Account, Row, top_at};
 use tetri_request::Class;
@@ -16,6 +18,15 @@ pub(crate) struct Group {
     pub(crate) rows: Vec<bool>,
     pub(crate) jobs: Vec<bool>,
     pub(crate) nodes: Option<Vec<bool>>,
+}
+
+/// What figures take of a trace besides its run.
+#[derive(Drop)]
+pub(crate) struct Facts {
+    /// By job, the most that it could earn as it arrived.
+    pub(crate) tops: Vec<u64>,
+    /// How many slots ten minutes take.
+    pub(crate) ten_minutes: u32,
 }
 
 /// The name of a job's class. An expression has none of an ask's.
@@ -118,8 +129,8 @@ pub(crate) fn group_of_tag(
     })
 }
 
-/// By job, the most that it could earn as it arrived.
-pub(crate) fn tops_of(alloc: Global, trace: &Trace) -> Result<Vec<u64>, AllocError>
+// By job, the most that it could earn as it arrived.
+fn tops_of(alloc: Global, trace: &Trace) -> Result<Vec<u64>, AllocError>
     requires { IsSound (scenario trace.now) }
 {
     let mut tops = Vec::new(alloc);
@@ -129,20 +140,38 @@ pub(crate) fn tops_of(alloc: Global, trace: &Trace) -> Result<Vec<u64>, AllocErr
     Ok(tops)
 }
 
+/// What figures take of a trace besides its run, with slots of so many seconds, if that is known.
+pub(crate) fn facts_of(
+    alloc: Global,
+    trace: &Trace,
+    slot_seconds: Option<u64>,
+) -> Result<Facts, AllocError>
+    requires { IsSound (scenario trace.now) }
+{
+    Ok(Facts {
+        tops: tops_of(alloc, trace)?,
+        ten_minutes: ten_minutes(slot_seconds),
+    })
+}
+
 /// The figures of a group.
 pub(crate) fn figures_in(
     alloc: Global,
     trace: &Trace,
     account: &Account,
     group: &Group,
-    tops: &[u64],
+    facts: &Facts,
 ) -> Result<Vec<String>, AllocError> {
+    let rows = account.rows.as_slice();
     let known = Known {
-        tops,
-        last: last_end(trace, account.rows.as_slice()),
+        tops: facts.tops.as_slice(),
+        last: last_end(trace, rows),
+        ten_minutes: facts.ten_minutes,
     };
+    let wide = wide_among(alloc, trace, rows, group.rows.as_slice())?;
     let picked = Picked {
         rows: group.rows.as_slice(),
+        wide: wide.as_slice(),
         jobs: group.jobs.as_slice(),
         nodes: match &group.nodes {
             Some(nodes) => Some(nodes.as_slice()),

@@ -4,17 +4,21 @@
 
 mod bounds;
 mod cells;
+mod clock;
 mod columns;
 mod compare;
 mod figures;
 mod format;
 mod groups;
+mod header;
 mod jobs;
 mod stats;
 mod sums;
 mod tags;
+mod wide;
 
 pub use bounds::{Bounds, PricedSums};
+pub use clock::slot_seconds_of;
 pub use compare::{Compared, compare_text};
 pub use format::Format;
 pub use jobs::jobs_text;

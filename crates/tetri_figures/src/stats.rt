@@ -7,7 +7,9 @@ use crate::cells::{NOTHING, number_cell, text_cell};
 use crate::columns::{Column, columns_text};
 use crate::figures::{FIGURES, last_end};
 use crate::format::Format;
-use crate::groups::{Group, figures_in, group_of_all, group_of_class, group_of_tag, tops_of};
+use crate::groups::{
+    Facts, Group, facts_of, figures_in, group_of_all, group_of_class, group_of_tag,
+};
 use crate::sums::{gaps, is_picked};
 use std::alloc::{AllocError, Global};
 use tetri_accounts::{Account, CycleNote};
@@ -146,11 +148,11 @@ pub(crate) fn whole_column(
     trace: &Trace,
     account: &Account,
     bounds: Bounds,
-    tops: &[u64],
+    facts: &Facts,
     name: &str,
 ) -> Result<Column, AllocError> {
     let group = group_of_all(alloc, trace, account.rows.as_slice())?;
-    let mut cells = figures_in(alloc, trace, account, &group, tops)?;
+    let mut cells = figures_in(alloc, trace, account, &group, facts)?;
     add_cycle_figures(alloc, trace, account, bounds, &mut cells)?;
     Ok(Column {
         name: text_cell(alloc, name)?,
@@ -163,13 +165,13 @@ fn group_column(
     alloc: Global,
     trace: &Trace,
     account: &Account,
-    tops: &[u64],
+    facts: &Facts,
     group: &Group,
     name: &str,
 ) -> Result<Column, AllocError> {
     Ok(Column {
         name: text_cell(alloc, name)?,
-        cells: figures_in(alloc, trace, account, group, tops)?,
+        cells: figures_in(alloc, trace, account, group, facts)?,
     })
 }
 
@@ -178,14 +180,14 @@ fn add_tags(
     alloc: Global,
     trace: &Trace,
     account: &Account,
-    tops: &[u64],
+    facts: &Facts,
     tags: &[String],
     columns: &mut Vec<Column>,
 ) -> Result<(), AllocError> {
     for tag in tags {
         let name = tag.as_str();
         let group = group_of_tag(alloc, trace, account.rows.as_slice(), name)?;
-        columns.push(group_column(alloc, trace, account, tops, &group, name)?)?;
+        columns.push(group_column(alloc, trace, account, facts, &group, name)?)?;
     }
     Ok(())
 }
@@ -200,22 +202,24 @@ fn add_classes(
     alloc: Global,
     trace: &Trace,
     account: &Account,
-    tops: &[u64],
+    facts: &Facts,
     columns: &mut Vec<Column>,
 ) -> Result<(), AllocError> {
     for name in &CLASSES {
         let group = group_of_class(alloc, trace, account.rows.as_slice(), name)?;
         if some_picked(group.rows.as_slice()) {
-            columns.push(group_column(alloc, trace, account, tops, &group, name)?)?;
+            columns.push(group_column(alloc, trace, account, facts, &group, name)?)?;
         }
     }
     Ok(())
 }
 
-/// The figures of a run of the trace: of all of it, and of each group. Its only error is want of memory.
+/// The figures of a run of the trace, whose slots have so many seconds, if that is known: of all of it, and of each group. Its only error is
+/// want of memory.
 pub fn stats_text(
     alloc: Global,
     trace: &Trace,
+    slot_seconds: Option<u64>,
     account: &Account,
     bounds: Bounds,
     by: By,
@@ -224,14 +228,14 @@ pub fn stats_text(
 ) -> Result<Vec<u8>, AllocError>
     requires { IsSound (scenario trace.now) }
 {
-    let tops = tops_of(alloc, trace)?;
+    let facts = facts_of(alloc, trace, slot_seconds)?;
     let names = names_of(alloc, are_priced(bounds))?;
     let mut columns = Vec::new(alloc);
-    columns.push(whole_column(alloc, trace, account, bounds, &tops, "all")?)?;
+    columns.push(whole_column(alloc, trace, account, bounds, &facts, "all")?)?;
     match by {
         By::Nothing => {}
-        By::Tag => add_tags(alloc, trace, account, &tops, tags, &mut columns)?,
-        By::Class => add_classes(alloc, trace, account, &tops, &mut columns)?,
+        By::Tag => add_tags(alloc, trace, account, &facts, tags, &mut columns)?,
+        By::Class => add_classes(alloc, trace, account, &facts, &mut columns)?,
     }
     columns_text(alloc, "figure", &names, &columns, format)
 }

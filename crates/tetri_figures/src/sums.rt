@@ -2,8 +2,7 @@
 ghost use Rattle.std.specs.Prelude.{◌≡◌, ◌+◌, ◌-◌, ◌*◌, ◌≤◌, ◌<◌, ◌^◌, ◌==◌, false, if◌then◌else◌, length, max, min, option_map, slice_index_or, unwrap_or};
 ghost use Rattle.tetri_accounts.specs.Text.{wait_of};
 ghost use Rattle.tetri_base.specs.Lists.{bit, count, sum_of};
-ghost use Rattle.tetri_figures.specs.declared.sums.Part.TheVariants.{Waits};
-ghost use Rattle.tetri_figures.specs.Figures.{gaps, greatest_of, is_done, is_kept, most, nodes_counted, of_launch, offered, outcome_place, part_of, picked, piece_slots, ran_of, row_slots, slowdown_by};
+ghost use Rattle.tetri_figures.specs.Figures.{gaps, greatest_of, is_cancelled, is_done, is_kept, most, nodes_counted, of_launch, of_waiter, offered, outcome_place, part_of, picked, piece_slots, ran_of, row_slots, slowdown_by};
 ghost use Rattle.tetri_trace.specs.Scenario.{scenario};
 
 use tetri_accounts::{CycleNote, Outcome, Row, wait_of};
@@ -19,6 +18,10 @@ pub(crate) enum Part {
     Launches,
     /// How many slots they waited.
     Waits,
+    /// The launches, and the jobs without one that were not cancelled: they expired, or wait as the run ends.
+    Waiters,
+    /// How many slots they waited.
+    WholeWaits,
     /// What they were worth.
     Worth,
     /// The same, but for those that failed or were cancelled.
@@ -27,6 +30,8 @@ pub(crate) enum Part {
     Ended,
     /// Their slowdowns, in thousandths.
     Slowdowns,
+    /// The slowdowns of all launches, in thousandths, each as if it had run for this many slots at least.
+    Bounded(u32),
 }
 
 // A launch is as long as this many slots at least, where its slowdown is told.
@@ -87,30 +92,58 @@ fn of_launch(start: Option<u32>, number: u64) -> u64
     }
 }
 
-// How many slots a launch that ended ran.
-fn ran_of(row: &Row) -> u32
-    ensures { result ≡ ran_of row.entry.now }
+// Whether a job was cancelled.
+fn is_cancelled(outcome: Outcome) -> bool
+    ensures { result ≡ is_cancelled outcome }
 {
-    row.end.unwrap_or(0).saturating_sub(row.start.unwrap_or(0))
+    match outcome {
+        Outcome::Cancelled => true,
+        Outcome::Ran
+        | Outcome::Overran
+        | Outcome::Failed
+        | Outcome::Expired
+        | Outcome::Waiting
+        | Outcome::Running => false,
+    }
+}
+
+// A number of a launch, or of a job without one that was not cancelled.
+fn of_waiter(start: Option<u32>, outcome: Outcome, number: u64) -> u64
+    ensures { result ≡ of_waiter start outcome number }
+{
+    match start {
+        Some(_) => number,
+        None => if is_cancelled(outcome) { 0 } else { number },
+    }
+}
+
+// How many slots a launch ran, up to the end of the run where it runs on.
+fn ran_of(trace: &Trace, row: &Row) -> u32
+    ensures { result ≡ ran_of (scenario trace.entry.now) row.entry.now }
+{
+    let end = row.end.unwrap_or(trace.header.until);
+    end.saturating_sub(row.start.unwrap_or(0))
 }
 
 // How many times as long as it ran a launch took from its arrival to its end, in thousandths, rounded down: at least once, and as if it
-// had run for the bound at least.
-fn slowdown_by(wait: u32, ran: u32) -> u64
-    ensures { result ≡ slowdown_by wait ran }
+// had run for this many slots at least, and for one.
+fn slowdown_by(bound: u32, wait: u32, ran: u32) -> u64
+    ensures { result ≡ slowdown_by bound wait ran }
 {
     let took = (u64::from(wait) + u64::from(ran)) * 1000;
-    (took / u64::from(ran.max(SLOWDOWN_BOUND))).max(1000)
+    (took / u64::from(ran.max(bound.max(1)))).max(1000)
 }
 
-// The number of a row that is added up.
-fn part_of(trace: &Trace, part: Part, row: &Row) -> u64
+/// The number of a row that is added up.
+pub(crate) fn part_of(trace: &Trace, part: Part, row: &Row) -> u64
     ensures { result ≡ part_of (scenario trace.entry.now) part row.entry.now }
 {
     match part {
         Part::With(outcome) => bit(outcome_place(row.outcome) == outcome_place(outcome)),
         Part::Launches => of_launch(row.start, 1),
         Part::Waits => of_launch(row.start, u64::from(wait_of(trace, row))),
+        Part::Waiters => of_waiter(row.start, row.outcome, 1),
+        Part::WholeWaits => of_waiter(row.start, row.outcome, u64::from(wait_of(trace, row))),
         Part::Worth => of_launch(row.start, row.worth),
         Part::Kept => {
             let kept = if is_kept(row.outcome) { row.worth } else { 0 };
@@ -119,10 +152,14 @@ fn part_of(trace: &Trace, part: Part, row: &Row) -> u64
         Part::Ended => of_launch(row.start, bit(is_done(row.outcome))),
         Part::Slowdowns => {
             let slowdown = if is_done(row.outcome) {
-                slowdown_by(wait_of(trace, row), ran_of(row))
+                slowdown_by(SLOWDOWN_BOUND, wait_of(trace, row), ran_of(trace, row))
             } else {
                 0
             };
+            of_launch(row.start, slowdown)
+        }
+        Part::Bounded(bound) => {
+            let slowdown = slowdown_by(bound, wait_of(trace, row), ran_of(trace, row));
             of_launch(row.start, slowdown)
         }
     }
@@ -172,13 +209,13 @@ pub(crate) fn sum_over(trace: &Trace, rows: &[Row], marks: &[bool], part: Part) 
     sum
 }
 
-/// The greatest wait of the launches that are picked, 0 where there is none.
-pub(crate) fn greatest_wait(trace: &Trace, rows: &[Row], marks: &[bool]) -> u64
-    ensures { result ≡ greatest_of (part_of (scenario trace.entry.now) Waits) (picked marks.entry.now rows.entry.now) }
+/// The greatest wait of the rows that are picked, by what is added up of waits, 0 where there is none.
+pub(crate) fn greatest_wait(trace: &Trace, rows: &[Row], marks: &[bool], part: Part) -> u64
+    ensures { result ≡ greatest_of (part_of (scenario trace.entry.now) part) (picked marks.entry.now rows.entry.now) }
 {
     let mut greatest: u64 = 0;
     for place in 0..rows.len() {
-        let wait = picked_part(trace, Part::Waits, &rows[place], is_picked(marks, place));
+        let wait = picked_part(trace, part, &rows[place], is_picked(marks, place));
         greatest = greatest.max(wait);
     }
     greatest
