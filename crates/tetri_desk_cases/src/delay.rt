@@ -5,7 +5,7 @@ mod settings;
 
 use settings::settings_of;
 use std::alloc::{AllocError, Global};
-use tetri_tables::{Given, Tally, sections_of};
+use tetri_tables::{Given, Tally, expand_text, sections_of};
 
 // What a section finds by its words, and nothing for a word that is unknown.
 fn found_by(
@@ -23,6 +23,11 @@ fn found_by(
     }
 }
 
+// A text without the line feeds at its end.
+fn ended(text: &str) -> &str {
+    text.trim_end_matches('\n')
+}
+
 fn judge_section(
     alloc: Global,
     given: &mut Given,
@@ -34,15 +39,16 @@ fn judge_section(
         return Ok(());
     }
     let (word, words) = kind.split_once(": ").unwrap_or((kind, ""));
+    let wanted = expand_text(alloc, body)?;
     match found_by(alloc, given.trace.as_str(), word, words)? {
-        Some(found) => tally.expect(kind, found.as_str().trim_end_matches('\n'), body),
+        Some(found) => tally.expect(kind, ended(found.as_str()), ended(wanted.as_str())),
         None => tally.expect(kind, "no such section", ""),
     }
 }
 
 /// Judges each case of a table, with a trace that a section before it gives. `charged` has the instance of a slot with charged worths, a
 /// line for each job; `density` the density of the instance of a slot; `planned` the report of the run without its certificates; `why`
-/// tells what the sections behind it try, and is no case. Behind a colon stand settings: `at` a slot; `density` a fraction, in the place
+/// tells what the sections behind it try, and is no case. What is wanted may have repetitions. Behind a colon stand settings: `at` a slot; `density` a fraction, in the place
 /// of that of each cycle; `ageing` in slots; `promise`; `effort`, a budget; by job `first`, the slot in which it was first seen, and
 /// `held`, 1 where its nodes are held.
 pub fn judge(alloc: Global, table: &str) -> Result<Tally, AllocError> {
