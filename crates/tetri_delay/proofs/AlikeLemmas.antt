@@ -1,14 +1,14 @@
 -- A charged expression has the same leaves but for their worths, and is as well made.
-use Rattle.std.proofs.Common.{◌≡◌, ℕ, zero, suc, ◌+◌, ◌-◌, ◌*◌, ◌/◌, ◌%◌, ◌<◌, ◌≤◌, ◌==◌, min, max, Bool, true, false, cond, nat_lt, IsTrue, List, [], ◌∷◌, ◌++◌, length, map, get_or, refl, sym, ap, subst, ◌∙◌, arith, true≢false}
+use Rattle.std.proofs.Common.{◌≡◌, ℕ, zero, suc, ◌+◌, ◌-◌, ◌*◌, ◌/◌, ◌%◌, ◌≤◌, ◌==◌, max, Bool, true, false, cond, IsTrue, List, [], ◌∷◌, ◌++◌, length, map, get_or, refl, sym, ap, subst, ◌∙◌, arith, true≢false}
 use Rattle.std.specs.Prelude.{All, AllPairs, ◌≢◌}
-use Rattle.std.proofs.Math.Nat.{div-mul-le_self, le-mul_of_pos_right, mul-mod_left, mul_left_comm}
+use Rattle.std.proofs.Math.Nat.{div-mul-le_self, mul-mod_left, mul_left_comm}
 use Rattle.std.proofs.Math.ListN.{get_or-map}
 use Rattle.std.proofs.lemmas.List.{length-map, map-append}
 use Rattle.std.proofs.lemmas.Nat.{mul-le}
 use Rattle.tetri_delay.specs.Charge.{charged, charged_leaf, charged_of, cost, factor, free, multiplied, rounded}
 use Rattle.tetri_delay.specs.declared.charge.Charge.{Charge}
 use Rattle.tetri_strl.proofs.ExprLaws.{eq_from_test}
-use Rattle.tetri_strl.specs.Aligned.{AreAligned, EachLeaf, EachLeafOf, HasOneStart, IsAligned, MeetsAt, StartsAt}
+use Rattle.tetri_strl.specs.Aligned.{AreAligned, EachLeaf, EachLeafOf, IsAligned, MeetsAt, StartsAt}
 use Rattle.tetri_strl.specs.Tree.{Operator, greatest, least, added, Tree, one, join, scale, barrier, Trees, none, more, leaves, leaves_of}
 use Rattle.tetri_strl.specs.WellMade.{AreSound, HasChild, IsGoodLeaf, IsSound, IsWellMade, PEAK, depth, depth_of, peak, peak_joined, peaks}
 use Rattle.tetri_strl.specs.Worth.{added_of, greatest_of}

@@ -1,6 +1,6 @@
 -- The instance with a cost of delay is sound.
-use Rattle.std.proofs.Common.{◌≡◌, ℕ, ◌*◌, ◌/◌, ◌<◌, ◌≤◌, max, min, Bool, true, false, cond, List, [], ◌∷◌, length, map, get_or, sym, ap, subst, ◌∙◌, arith}
-use Rattle.std.specs.Prelude.{All, AllPairs}
+use Rattle.std.proofs.Common.{ℕ, ◌*◌, ◌/◌, ◌<◌, ◌≤◌, max, min, Bool, true, false, cond, List, [], ◌∷◌, length, map, get_or, sym, subst, arith}
+use Rattle.std.specs.Prelude.{All}
 use Rattle.std.proofs.Math.Nat.{div-mul-le_self}
 use Rattle.std.proofs.lemmas.Nat.{mul-le}
 use Rattle.std.proofs.lemmas.List.{get_or-map, length-map}
@@ -9,9 +9,9 @@ use Rattle.tetri_delay.proofs.AlikeLemmas.{same_sets, well_made_alike}
 use Rattle.tetri_delay.specs.Charged.{charge_of, charged_bid, charged_space, is_held, most_in}
 use Rattle.tetri_delay.specs.Factors.{grain}
 use Rattle.tetri_delay.specs.declared.charging.Rates.{Rates}
-use Rattle.tetri_space.specs.Sound.{HasKnownSet, IsSound, IsSoundBid}
+use Rattle.tetri_space.specs.Sound.{IsSound, IsSoundBid}
 use Rattle.tetri_space.specs.Space.{Bid, Space, set_at}
-use Rattle.tetri_strl.specs.Tree.{Tree, one, join, scale, barrier, leaves}
+use Rattle.tetri_strl.specs.Tree.{Tree, one, join, scale, barrier}
 use Rattle.tetri_strl.specs.WellMade.{IsSound as IsSoundTree, PEAK, peak}
 
 -- no worth of a sound expression is above the limit

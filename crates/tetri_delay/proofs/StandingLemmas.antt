@@ -1,11 +1,11 @@
 -- A good plan with other grants beside its certificate.
-use Rattle.std.proofs.Common.{◌≡◌, ◌∙◌, ℕ, ◌<◌, ◌≤◌, ◌==◌, refl, sym, ap, subst, arith, List, Bool, true, false, cond, AllPairs, inl, inr, eq-eqb, ◌⊎◌, ◌||◌}
+use Rattle.std.proofs.Common.{◌≡◌, ℕ, ◌==◌, refl, sym, ap, arith, List, Bool, true, false, cond, inl, inr, eq-eqb, ◌⊎◌, ◌||◌}
 use Rattle.tetri_strl.specs.declared.grants.Grant.{Grant}
 use Rattle.tetri_strl.proofs.ExprLaws.{eq_from_test}
 use Rattle.tetri_cert.specs.declared.certificate.Certificate.{Certificate}
 use Rattle.tetri_cert.specs.declared.certificate.Certificate.TheVariants.{Tops, Tree}
 use Rattle.tetri_cert.specs.declared.plan_mark.PlanMark.{PlanMark}
-use Rattle.tetri_cert.specs.declared.plan_mark.PlanMark.TheVariants.{Optimal, Spent, Wide}
+use Rattle.tetri_cert.specs.declared.plan_mark.PlanMark.TheVariants.{Optimal}
 use Rattle.tetri_claims.specs.Certified.{IsCertified, IsCutShort}
 use Rattle.tetri_claims.specs.Good.{IsGood}
 use Rattle.tetri_claims.specs.Planned.{Planned}

@@ -1,9 +1,8 @@
 -- Expressions whose worths are lessened by what their delay costs.
-use Rattle.std.specs.Prelude.{◌≡◌, ◌==◌, ◌*◌, ◌-◌, ◌/◌, ◌≤◌, ℕ, if◌then◌else◌, min}
+use Rattle.std.specs.Prelude.{◌==◌, ◌*◌, ◌-◌, ◌/◌, ◌≤◌, ℕ, if◌then◌else◌, min}
 use Rattle.tetri_delay.specs.declared.charge.Charge.{Charge}
-use Rattle.tetri_delay.specs.declared.charge.Density.{Density}
 use Rattle.tetri_strl.specs.declared.expr.Leaf.{Leaf}
-use Rattle.tetri_strl.specs.Tree.{Operator, Tree, one, join, scale, barrier, Trees, none, more}
+use Rattle.tetri_strl.specs.Tree.{Tree, one, join, scale, barrier, Trees, none, more}
 use Rattle.tetri_strl.specs.WellMade.{PEAK}
 
 -- the numbers of a charge are so small that a cost can be computed

@@ -3,7 +3,6 @@ use Rattle.std.specs.Prelude.{ℕ, Bool, false, List, get_or, if◌then◌else�
 use Rattle.tetri_delay.specs.Charge.{charged}
 use Rattle.tetri_delay.specs.Factors.{grain, times, waited}
 use Rattle.tetri_delay.specs.declared.charge.Charge.{Charge}
-use Rattle.tetri_delay.specs.declared.charge.Density.{Density}
 use Rattle.tetri_delay.specs.declared.charging.Rates.{Rates}
 use Rattle.tetri_space.specs.Space.{Bid, Space}
 use Rattle.tetri_strl.specs.WellMade.{peak}

@@ -1,5 +1,5 @@
 // A plan of given grants, with the bound of a search.
-ghost use Rattle.std.specs.Prelude.{◌≡◌, ◌↔◌, ℕ, AllPairs, IfOk, IsTrue};
+ghost use Rattle.std.specs.Prelude.{◌≡◌, AllPairs, IfOk};
 ghost use Rattle.tetri_cert.specs.declared.plan_mark.PlanMark.TheVariants as marks;
 ghost use Rattle.tetri_claims.specs.Certified.{IsCertified};
 ghost use Rattle.tetri_claims.specs.Good.{IsGood};

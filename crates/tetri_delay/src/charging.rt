@@ -1,8 +1,8 @@
 // The instance of a cycle with a cost of delay.
-ghost use Rattle.std.specs.Prelude.{◌≡◌, ◌*◌, ◌≤◌, IfOk, All, List, ℕ, map};
+ghost use Rattle.std.specs.Prelude.{◌≡◌, ◌*◌, ◌≤◌, IfOk, map};
 ghost use Rattle.tetri_delay.specs.Charged.{charged_bid, charged_space, is_held, most_in, times_of};
-ghost use Rattle.tetri_space.specs.Sound.{IsSound, IsSoundBid};
-ghost use Rattle.tetri_space.specs.Space.{Space, bid, space};
+ghost use Rattle.tetri_space.specs.Sound.{IsSound};
+ghost use Rattle.tetri_space.specs.Space.{bid, space};
 ghost use Rattle.tetri_strl.specs.Tree.{tree};
 ghost use Rattle.tetri_strl.specs.WellMade.{IsSound as IsSoundTree, PEAK, peak};
 

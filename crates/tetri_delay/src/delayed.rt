@@ -1,8 +1,5 @@
 // What chooses plans with a cost of delay.
-ghost use Rattle.std.specs.Prelude.{◌*◌, ◌≤◌, AllPairs, IfOk, IfSome, OnOk};
-ghost use Rattle.tetri_claims.specs.Certified.{IsCertified};
-ghost use Rattle.tetri_claims.specs.Good.{IsGood};
-ghost use Rattle.tetri_plan.specs.Plans.{IsPrintableTree, planned_of};
+ghost use Rattle.std.specs.Prelude.{◌*◌, ◌≤◌, AllPairs, IfOk, IfSome};
 ghost use Rattle.tetri_space.specs.GrantOrder.{ComesBefore};
 ghost use Rattle.tetri_space.specs.Lawful.{IsLawful};
 ghost use Rattle.tetri_space.specs.Sound.{IsSound};

@@ -1,7 +1,5 @@
-use Rattle.std.proofs.Common.{◌≡◌, ◌∙◌, ap, arith, rules, subst, sym}
-use Rattle.tetri_strl.specs.declared.expr.Expr.TheFolds.{the_lemmas}
+use Rattle.std.proofs.Common.{◌∙◌, ap, sym}
 use Rattle.tetri_strl.specs.Tree.{added, greatest, join, least, row, tree, trees}
-use Rattle.tetri_strl.specs.WellMade.{IsSound}
 use Rattle.tetri_strl.proofs.ExprLaws.{tree-Max, tree-Min, tree-Sum}
 use Rattle.tetri_delay.specs.Charge.{charged}
 use Rattle.tetri_delay.proofs.ChargeLemmas.{charged_row}

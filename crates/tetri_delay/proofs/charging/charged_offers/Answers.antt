@@ -1,7 +1,7 @@
 use Rattle.std.proofs.Common.{ap, arith, get_or, length, map, subst, sym, ◌<◌, ◌≡◌, ◌∙◌, List}
 use Rattle.std.proofs.lemmas.List.{get_or-map, length-map}
 use Rattle.tetri_space.specs.Sound.{IsSoundBid}
-use Rattle.tetri_space.specs.Space.{Bid, bid, space}
+use Rattle.tetri_space.specs.Space.{bid, space}
 use Rattle.tetri_space.specs.declared.instance.Offer.{Offer}
 use Rattle.tetri_delay.proofs.charging.charged_offers.Goals as goal
 

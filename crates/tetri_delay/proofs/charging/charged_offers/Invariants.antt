@@ -1,6 +1,5 @@
-use Rattle.std.proofs.Common.{◌≡◌, ◌++◌, All, map, drop}
+use Rattle.std.proofs.Common.{◌≡◌, ◌++◌, map, drop}
 use Rattle.tetri_delay.specs.Charged.{charged_bid}
-use Rattle.tetri_space.specs.Sound.{IsSoundBid}
 use Rattle.tetri_space.specs.Space.{bid, space}
 use Rattle.tetri_delay.proofs.charging.charged_offers.Given as goal
 

@@ -1,4 +1,4 @@
-use Rattle.std.proofs.Common.{◌≤◌, ◌∙◌, ap, arith, subst, sym, AllPairs}
+use Rattle.std.proofs.Common.{◌∙◌, ap, arith, subst, sym, AllPairs}
 use Rattle.tetri_base.specs.Order.{in_order}
 use Rattle.tetri_space.specs.GrantOrder.{ComesBefore, comes_first}
 use Rattle.tetri_space.specs.Lawful.{IsLawful}
