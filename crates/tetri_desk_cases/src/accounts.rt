@@ -8,7 +8,8 @@ use std::alloc::{AllocError, Global};
 use std::fmt::Write;
 use tetri_accounts::{Account, account_policy, account_report};
 use tetri_figures::{
-    Bounds, By, Compared, Format, PricedSums, compare_text, jobs_text, slot_seconds_of, tags_of,
+    Bounds, By, Compared, Format, PricedSums, compare_text, jobs_text, slot_seconds_of, stats_text,
+    tags_of,
 };
 use tetri_io::{MemShelf, MemSink};
 use tetri_policy::Policy;

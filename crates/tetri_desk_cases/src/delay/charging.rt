@@ -68,11 +68,7 @@ fn rates_of(inst: &Instance, settings: &Settings) -> Rates
 }
 
 // A line for each job: its number and its charged expression.
-fn charged_told(
-    alloc: Global,
-    inst: &Instance,
-    settings: &Settings,
-) -> Result<String, AllocError>
+fn charged_told(alloc: Global, inst: &Instance, settings: &Settings) -> Result<String, AllocError>
     requires { IsSoundSpace (space inst.now) }
 {
     let jobs = Jobs {
