@@ -52,7 +52,7 @@ class Slurm:
         self.owner, self.down = {}, set()
         self.next_pass, self.next_backfill, self.turn = None, clock.now() + BACKFILL, 0
         self.active, self.problems, self.alive = {}, [], True
-        self.sets = {}
+        self.sets, self.changed = {}, True
 
     # ------------------------------------------------------------ jobs come
 
@@ -77,6 +77,7 @@ class Slurm:
 
     def _soon(self):
         """The main scheduler looks at the queue in a moment."""
+        self.changed = True
         if self.next_pass is None:
             self.next_pass = self.clock.now() + PASS
 
@@ -102,7 +103,9 @@ class Slurm:
                     self._schedule(False)
             else:
                 self.next_backfill = due + BACKFILL
-                if self.alive:
+                # Where nothing changed since the last time, no other job could start now.
+                if self.alive and self.changed:
+                    self.changed = False
                     self._schedule(True)
 
     def serving(self, job):

@@ -32,8 +32,10 @@ def _parts(text):
 
 
 def _names(part):
-    names = [""]
-    for piece in re.findall(r"\[[^\[\]]*\]|[^\[\]]+", part):
+    names, pieces = [""], re.findall(r"\[[^\[\]]*\]|[^\[\]]+", part)
+    if "".join(pieces) != part:
+        raise NoHosts(part)
+    for piece in pieces:
         texts = _numbers(piece[1:-1]) if piece.startswith("[") else [piece]
         if len(names) * len(texts) > MOST:
             raise NoHosts(f"more than {MOST} hosts")
