@@ -329,7 +329,7 @@ class Slurm:
             if "ReqNodeList" in values:
                 if job.state != "PENDING":
                     return 1, b"", b"Job is no longer pending execution"
-                job.required = compact(values["ReqNodeList"])
+                job.required = values["ReqNodeList"]
             if "Priority" in values:
                 if not job.priority:
                     return 1, b"", b"Job is in held state, pending scheduler release"
@@ -355,7 +355,7 @@ class Slurm:
             else:
                 records.append(self._record(job, job.task, ""))
         for tasks in together.values():
-            text = ",".join(str(it.task) for it in tasks) + (f"%{tasks[0].throttle}" if tasks[0].throttle else "")
+            text = ",".join(spans_of([it.task for it in tasks])) + (f"%{tasks[0].throttle}" if tasks[0].throttle else "")
             records.append(self._record(tasks[0], *((None, text) if len(tasks) > 1 else (tasks[0].task, ""))))
         return records
 
@@ -408,11 +408,15 @@ def compact(text):
     names = expand(text)
     if len(names) < 2:
         return text
-    numbers = sorted(int(it.lstrip("n")) for it in names)
+    return f"n[{','.join(spans_of([int(it.lstrip('n')) for it in names]))}]"
+
+
+def spans_of(numbers):
+    """Numbers as 1-3 and 7."""
     spans = []
-    for it in numbers:
+    for it in sorted(numbers):
         if spans and spans[-1][1] == it - 1:
             spans[-1][1] = it
         else:
             spans.append([it, it])
-    return "n[" + ",".join(f"{first}-{last}" if last > first else str(first) for first, last in spans) + "]"
+    return [f"{first}-{last}" if last > first else str(first) for first, last in spans]

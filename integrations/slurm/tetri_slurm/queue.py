@@ -198,8 +198,8 @@ class Sorter:
         usable, _ = self.usable(job)
         if len(usable) < job.width:
             return f"asks for {job.width} nodes, and {len(usable)} are as it asks"
-        if job.most == 0 and job.cpus > job.width * min(it.cpus for it in usable):
-            return f"leaves open how many nodes give its {job.cpus} processors"
+        if job.cpus > job.width * min(it.cpus for it in usable):
+            return f"asks for {job.cpus} processors, and {job.width} nodes may not have them"
         return ""
 
     def usable(self, job):
