@@ -112,12 +112,12 @@ gaps cycles = sum_of (λ (c : CycleNote). c.bound - c.value) cycles
 
 -- These are the counts of the rows that are picked, of those that are picked as wide, of these jobs and, where nodes are marked, on these nodes alone,
 -- with slowdowns bounded at so many slots. Each is the number itself, but for the node slots, which are told up to the most.
-module _ (t : Scenario) (marks wide jobs : List Bool) (counted : Option (List Bool)) (rows : List Row) (tops : List ℕ) (bound : ℕ) where
+module _ (t : Scenario) (marks wide_marks jobs : List Bool) (counted : Option (List Bool)) (rows : List Row) (tops : List ℕ) (bound : ℕ) where
   abbrev pub over : Part → ℕ
   over part = sum_of (part_of t part) (picked marks rows)
 
   abbrev pub over_wide : Part → ℕ
-  over_wide part = sum_of (part_of t part) (picked wide rows)
+  over_wide part = sum_of (part_of t part) (picked wide_marks rows)
 
   pub record AreCounts (c : Counts) : Type 0 where
     pub outcomes : c.outcomes ≡ over (With Ran) ∷ over (With Overran) ∷ over (With Failed) ∷ over (With Cancelled) ∷ over (With Expired) ∷ over (With Waiting)
