@@ -1,7 +1,6 @@
 """The loop: cycle after cycle, what is told of them, and the way out when none ends well."""
 import json
 import os
-import re
 import socket
 import sys
 import time
@@ -174,7 +173,7 @@ class Loop:
         since = snapshot.now - max(2 * self.settings.every, 60)
         for job in snapshot.jobs:
             its = job.mark
-            if its and its.state == mark.ORDERED and its.time > since and its.host != re.sub(r"[^A-Za-z0-9_.:,/-]", "_", self.settings.name):
+            if its and its.state == mark.ORDERED and its.time > since and its.host != mark.safe(self.settings.name):
                 raise Failed(f"another loop, on {its.host}, ordered job {job.name} at {queue.clock_time(its.time)}: this one waits; end one of them")
 
     def _take_back(self, snapshot, summary):
