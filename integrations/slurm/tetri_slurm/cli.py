@@ -53,9 +53,10 @@ def parser():
 
 def settings_of(given, behind):
     every = given.every or 30
-    chosen = watch.Settings(every=every, slot=given.slot or max(1, round(every)), seconds=given.seconds or every * 2 / 3, call_seconds=given.call_seconds, grace=given.grace,
-                            give_up_after=given.give_up_after, dry_run=given.dry_run, need_log=given.need_log, program=tuple(shlex.split(given.program)),
-                            plan_options=tuple(shlex.split(given.plan_options)), queue_options=tuple(behind), metrics=given.metrics,
+    chosen = watch.Settings(every=every, slot=given.slot or max(1, round(every)), seconds=given.seconds or every * 2 / 3, call_seconds=given.call_seconds,
+                            grace=given.grace, give_up_after=given.give_up_after, dry_run=given.dry_run, need_log=given.need_log,
+                            program=tuple(shlex.split(given.program)), plan_options=tuple(shlex.split(given.plan_options)), queue_options=tuple(behind),
+                            metrics=given.metrics,
                             rules=queue.Rules(given.leave_held, given.all, given.tries, given.most_of_array, given.most_of_user, given.most))
     if given.name:
         chosen.name = given.name
@@ -70,7 +71,8 @@ def status(folder):
         return FAILED
     age = time.time() - last["last_well"]
     late = not last["well"] and age > 3 * last["every"] or time.time() - last["time"] > 3 * last["every"] + last["seconds"]
-    print(f"cycle of {time.strftime('%Y-%m-%d %H:%M:%S', time.localtime(last['time']))}, {last['seconds']:.1f} s: " + ("ended well" if last["well"] else f"failed: {last['failed']}"))
+    how = "ended well" if last["well"] else f"failed: {last['failed']}"
+    print(f"cycle of {time.strftime('%Y-%m-%d %H:%M:%S', time.localtime(last['time']))}, {last['seconds']:.1f} s: {how}")
     print(", ".join(f"{count} {state}" for state, count in last["counts"].items()))
     ordered = "would be ordered" if last["dry"] else "ordered"
     print(f"{len(last['ordered'])} {ordered}, {len(last['handed_over'])} handed over, {len(last['taken_back'])} taken back, {len(last['refused'])} refused")

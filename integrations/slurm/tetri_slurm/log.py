@@ -102,11 +102,19 @@ class Folder:
         for name in os.listdir(cycles) if os.path.isdir(cycles) and not os.path.islink(cycles) else []:
             folder = os.path.join(cycles, name)
             if os.path.isdir(folder) and not os.path.islink(folder):
-                found[name] = (os.lstat(folder).st_mtime, sum(os.lstat(os.path.join(folder, it)).st_size for it in os.listdir(folder)))
+                found[name] = (_time_of(name, folder), sum(os.lstat(os.path.join(folder, it)).st_size for it in os.listdir(folder)))
         return found
 
     def bytes(self):
         return sum(size for _, size in (self.sizes or {}).values())
+
+
+def _time_of(name, folder):
+    """When a cycle was, by its name, or else by its folder."""
+    try:
+        return time.mktime(time.strptime(name.split(".")[0], "%Y%m%d-%H%M%S"))
+    except (ValueError, OverflowError):
+        return os.lstat(folder).st_mtime
 
 
 def _folder(at, name):

@@ -25,7 +25,7 @@ class Mark:
         return replace(self, **more)
 
 
-def _safe(text):
+def safe(text):
     """A text without what would break the word."""
     return re.sub(r"[^A-Za-z0-9_.:,/\[\]()|&*+-]+", "_", text)[:200]
 
@@ -53,6 +53,6 @@ def written(comment, mark):
     if mark is None:
         return site
     values = [("state", mark.state), ("time", mark.time), ("tries", mark.tries), ("until", mark.until), ("restarts", mark.restarts),
-              ("wanted", mark.wanted), ("host", _safe(mark.host)), ("why", _safe(mark.why))]
+              ("wanted", mark.wanted), ("host", safe(mark.host)), ("why", safe(mark.why))]
     word = "tetri-slurm:1;" + ";".join(f"{key}={value}" for key, value in values if value not in ("", 0))
     return f"{site} {word}".strip()

@@ -80,7 +80,8 @@ class Sorter:
         first, count = hosts.tasks(job.tasks, self.rules.most_of_array)
         found = []
         for task in first:
-            found.append(Verdict(job.changed(name=f"{job.array}_{task}", tasks=""), PLANNED, "", "", whole.is_shadow, whole.usable, whole.barred, whole.width, whole.limit, True))
+            its = job.changed(name=f"{job.array}_{task}", tasks="")
+            found.append(Verdict(its, PLANNED, "", usable=whole.usable, barred=whole.barred, width=whole.width, limit=whole.limit, in_table=True))
         if count > len(first):
             found.append(Verdict(job, PLANNED, f"{count - len(first)} tasks behind {len(first)} others of this array"))
         return found

@@ -1,7 +1,6 @@
 """The loop: cycle after cycle, what is told of them, and the way out when none ends well."""
 import json
 import os
-import re
 import socket
 import sys
 import time
@@ -174,7 +173,7 @@ class Loop:
         since = snapshot.now - max(2 * self.settings.every, 60)
         for job in snapshot.jobs:
             its = job.mark
-            if its and its.state == mark.ORDERED and its.time > since and its.host != re.sub(r"[^A-Za-z0-9_.:,/-]", "_", self.settings.name):
+            if its and its.state == mark.ORDERED and its.time > since and its.host != mark.safe(self.settings.name):
                 raise Failed(f"another loop, on {its.host}, ordered job {job.name} at {queue.clock_time(its.time)}: this one waits; end one of them")
 
     def _take_back(self, snapshot, summary):
@@ -212,8 +211,10 @@ class Loop:
         last = Counter(it.job.array for it in verdicts if it.job.array is not None)
         for it in verdicts:
             job = it.job
-            if it.state == queue.HELD and job.reason == "JobHeldAdmin" and job.name in self.user_held and last[job.array] == 1 and job.array in self.ordered_arrays:
-                self.say.act(f"job {job.name} is the last task of its array and now held by an operator, or Slurm says so by mistake; if nobody held it: scontrol uhold {job.name}")
+            is_last = last[job.array] == 1 and job.array in self.ordered_arrays and job.name in self.user_held
+            if is_last and it.state == queue.HELD and job.reason == "JobHeldAdmin":
+                self.say.act(f"job {job.name} is the last task of its array and now held by an operator, or Slurm says so by mistake; "
+                             f"if nobody held it: scontrol uhold {job.name}")
         self.user_held = {it.job.name for it in verdicts if it.job.held_by_user}
 
     def _keep_no_longer(self, verdicts, now):
