@@ -18,16 +18,6 @@ const ROOM: usize = 4_000_000;
 // Bytes for copies of the dictionaries of a search.
 const COPIES: usize = 268_435_456;
 
-// The two shipped advisors.
-fn panel_of(alloc: Global) -> Result<Panel, AllocError> {
-    let mut panel = Panel::new(alloc);
-    let by_deadline: Box<dyn Advisor> = Box::new(alloc, ByDeadline::new())?;
-    seat(&mut panel, by_deadline)?;
-    let by_worth: Box<dyn Advisor> = Box::new(alloc, ByWorth::new())?;
-    seat(&mut panel, by_worth)?;
-    Ok(panel)
-}
-
 fn delay_settings(settings: &Settings) -> DelaySettings {
     DelaySettings {
         delay: match settings.density {
@@ -40,9 +30,14 @@ fn delay_settings(settings: &Settings) -> DelaySettings {
     }
 }
 
-// The report of the run.
+// The report of the run, with the two shipped advisors.
 fn report_of(alloc: Global, trace: &str, settings: &Settings) -> Result<String, AllocError> {
-    let chooser = BySwift::new(panel_of(alloc)?, COPIES);
+    let mut panel = Panel::new(alloc);
+    let by_deadline: Box<dyn Advisor> = Box::new(alloc, ByDeadline::new())?;
+    seat(&mut panel, by_deadline)?;
+    let by_worth: Box<dyn Advisor> = Box::new(alloc, ByWorth::new())?;
+    seat(&mut panel, by_worth)?;
+    let chooser = BySwift::new(panel, COPIES);
     let mut shelf = MemShelf::new(alloc, PIECE, &[])?;
     shelf.put("trace", trace.as_bytes())?;
     let mut sink = MemSink::new(alloc, PIECE, ROOM, &[])?;
