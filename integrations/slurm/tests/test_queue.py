@@ -36,6 +36,12 @@ class Recorded(unittest.TestCase):
         self.assertLess(names.index("15"), names.index("29"))
 
 
+    def test_a_parted_task_keeps_its_turn(self):
+        found = snapshot()
+        found.jobs = [job("7", array=7, tasks="1-2", number=7), job("8", number=8), job("7_0", array=7, number=99)]
+        self.assertEqual([it.job.name for it in Sorter(found, Rules()).sorted()], ["7_0", "7_1", "7_2", "8"])
+
+
 class States(unittest.TestCase):
     def test_backing_off_ends(self):
         waits = Mark(mark.BACKED, NOW - 30, 2, NOW + 90, why="Resources")
@@ -112,6 +118,11 @@ class Table(unittest.TestCase):
     def test_nobody_can_break_a_line(self):
         rows, files = self.rows([job("3_1", array=3, throttle=2, user="a\tb\nc", features="gpu")])
         self.assertEqual((len(rows), len(rows[0]), files["arrays"]), (1, 16, b"3_[0%2]\n"))
+
+    def test_rare_nodes_come_last(self):
+        _, files = self.rows([job("1", number=1, features="gpu"), job("2", number=2), job("3", number=3, required="n6")])
+        names = [line.split("\t")[0] for line in files["nodes"].decode().splitlines()]
+        self.assertEqual(list(dict.fromkeys(names)), ["n5", "n7", "n8", "n1", "n2", "n3", "n4", "n6"])
 
     def test_nodes_are_told_for_each_partition(self):
         _, files = self.rows([])

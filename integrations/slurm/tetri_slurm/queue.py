@@ -62,13 +62,14 @@ class Sorter:
 
     def sorted(self):
         """A verdict for each pending job, the one that waits longest first. What is left of a long array behind its first tasks is one verdict."""
-        pending = sorted((it for it in self.snapshot.jobs if it.pending), key=lambda it: (it.submitted, it.number))
+        pending = [it for it in self.snapshot.jobs if it.pending]
         verdicts = []
         for job in pending:
             if job.tasks and job.held_by_user and not (job.mark and job.mark.state == mark.OVER):
                 verdicts += self._array(job)
             else:
                 verdicts.append(self.verdict(job))
+        verdicts.sort(key=_age)
         self._limit(verdicts)
         return verdicts
 
@@ -255,6 +256,13 @@ class Sorter:
             verdict.reason = why
 
 
+def _age(verdict):
+    """The oldest first. A task that was parted from its array has a number of its own, and keeps its turn; what is left of a long array comes behind its first tasks."""
+    job = verdict.job
+    task = job.name.partition("_")[2]
+    return job.submitted, job.array or job.number, int(task) if task.isdigit() else 1 << 32
+
+
 def _duration(seconds):
     if seconds is None:
         return "UNLIMITED"
@@ -284,9 +292,23 @@ def table(snapshot, verdicts):
             rows.append(_row(job.name, "PENDING", job.partition, it.width, _duration(it.limit), since=job.submitted, features=features, reason="JobHeldUser",
                              wanted=job.required, barred=barred))
     limits = {job.array: job.throttle for job in snapshot.jobs if job.array is not None and job.throttle}
-    nodes = [f"{node.name}\t{node.word}\t{partition}\t{','.join(node.features)}" for node in snapshot.nodes.values() for partition in node.partitions if NAME.match(node.name)]
+    nodes = [f"{node.name}\t{node.word}\t{partition}\t{','.join(node.features)}" for node in least_wanted_first(snapshot, verdicts) for partition in node.partitions]
     return {"jobs": _lines(rows), "arrays": _lines(f"{array}_[0%{most}]" for array, most in sorted(limits.items())), "nodes": _lines(nodes),
             "reservations": snapshot.reservations}
+
+
+def least_wanted_first(snapshot, verdicts):
+    """The nodes, those that serve fewest of the planned jobs first: the planner takes the first of nodes that serve equally, and should keep the rare ones for who needs them."""
+    wanted, of_kind = Counter(), {}
+    for it in verdicts:
+        if it.in_table:
+            # Jobs of one kind share one tuple of nodes.
+            of_kind.setdefault(id(it.usable), [it.usable, 0])[1] += 1
+    for nodes, jobs in of_kind.values():
+        for node in nodes:
+            # Who can use few nodes wants each of them more than who can use any.
+            wanted[node.name] += jobs / len(nodes)
+    return sorted((it for it in snapshot.nodes.values() if NAME.match(it.name)), key=lambda it: wanted[it.name])
 
 
 def _running(snapshot, job):
